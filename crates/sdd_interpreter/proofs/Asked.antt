@@ -1,13 +1,17 @@
 -- What a push and a pop answer that ask whether an entry is a number, as a step says it
-use Rattle.std.proofs.Common.{◌≡◌, ℕ, List, ◌∷◌, Bool, true, false, Option, Some, None, refl, sym, subst}
+use Rattle.std.proofs.Common.{◌≡◌, ◌⊎◌, inl, inr, ℕ, List, ◌∷◌, Bool, true, false, Option, Some, None, is_some, refl, sym, subst}
 use Rattle.std.proofs.lemmas.Bool.{false≢true}
-use Rattle.std.specs.Prelude.{◌↔◌, IsTrue, MatchResult, Result, Ok, Err}
+use Rattle.std.specs.Prelude.{◌↔◌, IfSome, IsTrue, MatchResult, Result, Ok, Err}
 use Rattle.std.specs.Borrow.{Bor}
+use Rattle.sdd_core.specs.declared.refused.Refused.{Refused}
+use Rattle.sdd_core.specs.declared.refused.Refused.TheVariants.{NoSlot, NoCell}
+use Rattle.sdd_participants.specs.Slab.{IsFull}
 use Rattle.sdd_rights.specs.Units as token
 use Rattle.sdd_space.specs.Shared.{IsOfSlots, slots_home}
 use Rattle.sdd_space.specs.World.{World}
 use Rattle.sdd_space.specs.declared.shared.Shared.{Shared}
 use Rattle.sdd_lists.specs.Asking.{kept_by}
+use Rattle.sdd_lists.specs.Ends.{last_value}
 use Rattle.sdd_lists.specs.Lists.{Entry, IsKept, first_value, left}
 use Rattle.sdd_lists.specs.Queue.{DequeuesIf, cells_in}
 use Rattle.sdd_lists.specs.Stack as stacks
@@ -16,9 +20,10 @@ use Rattle.sdd_lists.specs.declared.stack.Stack.{Stack}
 use Rattle.sdd_lists.specs.declared.unpopped.Unpopped.{Unpopped}
 use Rattle.sdd_lists.specs.declared.unpopped.Unpopped.TheVariants.{Kept, Refused as RefusedBy}
 use Rattle.sdd_script_model.specs.Containers.{HasNumber}
+use Rattle.sdd_script_model.specs.Stacks.{RefusesEntry}
 use Rattle.sdd_script_model.specs.Val.{Val}
 use Rattle.sdd_script_model.specs.declared.val.Body.{Body}
-use Rattle.sdd_interpreter.specs.Containers.{PopsIf}
+use Rattle.sdd_interpreter.specs.Containers.{PopsIf, PushesIf}
 use Rattle.sdd_interpreter.specs.declared.holding.AnyList.{AnyList}
 use Rattle.sdd_interpreter.specs.declared.holding.AnyList.TheVariants as any
 use Rattle.sdd_interpreter.proofs.Popped.{pops-newest, pops-oldest}
@@ -26,6 +31,22 @@ use Rattle.sdd_interpreter.proofs.Popped.{pops-newest, pops-oldest}
 -- where a push was asked for, the entry that it asks of is the number
 pub push-held : (m : ℕ) (v value : Option Val) → value ≡ v → IsTrue true ↔ HasNumber value m → HasNumber v m
 push-held m v value same says = subst (λ (x : Option Val). HasNumber x m) same (says.0 refl)
+
+-- a push that is refused finds no slot, or else no cell
+pub wants-entry : (w : World Val) (why : Refused) →
+    IsFull w.standings × (why ≡ NoSlot) ⊎ ¬ (IsFull w.standings) × IsFull w.cells × (why ≡ NoCell) → RefusesEntry w why
+wants-entry w why (inl slot) = subst (λ (r : Refused). RefusesEntry w r) (sym slot.1) slot.0
+wants-entry w why (inr cell) = subst (λ (r : Refused). RefusesEntry w r) (sym cell.2) (cell.0, cell.1)
+
+-- one that asks first is refused so where the newest is the number, and else its own comes back
+pub pushes-not : (home : token.GhostName) (w new : World Val) (p : ℕ) (queue : Bor (Queue Body)) (es : List (Entry Val)) (second : Option ℕ)
+    (number m : ℕ) (why : Option Refused) → new ≡ w →
+    IfSome why (λ r. IsFull w.standings × (r ≡ NoSlot) ⊎ ¬ (IsFull w.standings) × IsFull w.cells × (r ≡ NoCell)) → (value : Option Val) →
+    value ≡ last_value es → IsTrue (is_some why) ↔ HasNumber value m → PushesIf home w p (any.Queue queue) es second number (Some m) (Err why) new
+pushes-not home w new p queue es second number m None same full value is says =
+    ((λ has. false≢true (says.1 (subst (λ (x : Option Val). HasNumber x m) (sym is) has))), same)
+pushes-not home w new p queue es second number m (Some r) same full value is says =
+    (subst (λ (x : Option Val). HasNumber x m) is (says.0 refl), (wants-entry w r full, same))
 
 -- a pop, of which a condition says this, which has captured something
 module _ (home : token.GhostName) (w : World Val) (p : ℕ) (es : List (Entry Val)) (second : Option ℕ) (m : ℕ) {X : Type 0} (captured : X → Type 0) where

@@ -1,5 +1,5 @@
 -- What a push onto another queue leaves alone
-use Rattle.std.proofs.Common.{◌≡◌, ◌≢◌, ℕ, List, [], ◌∷◌, Bool, true, false, Option, Some, None, sym, ap, ◌∙◌, arith, subst, slice_index_or, slice_set}
+use Rattle.std.proofs.Common.{◌≡◌, ◌≢◌, inl, inr, ℕ, List, [], ◌∷◌, Bool, true, false, Option, Some, None, sym, ap, ◌∙◌, arith, subst, slice_index_or, slice_set}
 use Rattle.std.specs.Prelude.{drop, if◌then◌else◌}
 use Rattle.std.proofs.lemmas.List.{get_or-set_other, length-set}
 use Rattle.sdd_core.specs.declared.tag.Tag.TheVariants as tag
@@ -11,18 +11,26 @@ use Rattle.sdd_space.specs.Shared.{slot_of}
 use Rattle.sdd_space.specs.WorldChanges.{made_as, nulled, with_cell}
 use Rattle.sdd_lists.specs.declared.linked_entry.LinkedEntry.{LinkedEntry}
 use Rattle.sdd_lists.specs.declared.walk.Walk.{Walk}
-use Rattle.sdd_lists.specs.Cloning.{AreBeside, IsBeside, IsQueueBeside}
+use Rattle.sdd_lists.specs.Cloning.{AreBeside, IsBeside, IsQueueBeside, IsSecondBeside}
 use Rattle.sdd_lists.specs.Ends.{end_of, through_last}
 use Rattle.sdd_lists.specs.Entries.{link_of}
 use Rattle.sdd_lists.specs.Lists.{Apart, AreLinked, Entry, first_slot, is_deleted, left}
-use Rattle.sdd_lists.specs.Queue.{IsQueue, QueueCells, made_newest}
+use Rattle.sdd_lists.specs.Queue.{IsQueue, IsSecond, QueueCells, made_newest}
 use Rattle.sdd_lists.specs.QueueFilling.{AddsBehind}
 use Rattle.sdd_lists.specs.Walk.{StandsBefore}
 use Rattle.sdd_lists.proofs.Beside.{beside-still, cell-still, links-still, list-still, standing-still}
 use Rattle.sdd_lists.proofs.Ending.{appended-other, apart-last, apart-through, put-values}
 use Rattle.sdd_lists.proofs.Fresh.{fresh-queue}
 use Rattle.sdd_lists.proofs.Leaving.{spilled-cells, spilled-values}
+use Rattle.sdd_lists.proofs.LetGo.{KeepsGone, gone, gone-then, gone-written, other-free}
 use Rattle.sdd_lists.proofs.Lists.{bare}
+
+-- what a second cell holds is one of these, or was let go of
+second-is : {T : Type 0} (w : World (LinkedEntry T)) (o : Option ℕ) (es : List (Entry (LinkedEntry T))) (q : QueueCells)
+    (fs : List (Entry (LinkedEntry T))) → IsSecondBeside w o es q fs → IsSecond link_of w o es
+second-is w None es q fs was = tt
+second-is w (Some k) es q fs (inl among) = inl among
+second-is w (Some k) es q fs (inr was) = inr was.0
 
 module _ {T : Type 0} (w new : World (LinkedEntry T)) (p : ℕ) (q : QueueCells) (fs gs : List (Entry (LinkedEntry T))) (second held : Option ℕ) (x : T)
     (adds : AddsBehind w p q fs second x new gs held) (unused : (k : ℕ) → standing_at w k ≡ None → value_at w k ≡ None) where
@@ -76,23 +84,36 @@ module _ {T : Type 0} (w new : World (LinkedEntry T)) (p : ℕ) (q : QueueCells)
             (apart-last link_of d (through_last fs) last (apart-through link_of d fs beside.apart) (λ same. far (sym same)));
       }
 
+  second-still : (o : Option ℕ) (es : List (Entry (LinkedEntry T))) → IsSecondBeside w o es q fs → IsSecondBeside new o es q gs
+  second-still None es was = tt
+  second-still (Some k) es (inl among) = inl among
+  second-still (Some k) es (inr (was, beside)) =
+      let l : ℕ = link_of entry in
+      let none = adds.pushes.link.1 in
+      let at : ℕ = link_of was.value in inr (
+        record { value = was.value; there = kept k was.value was.there; bare = cell-still w new l q fs gs other kept none grown at gone was.bare beside },
+        beside-still w new l q fs gs other kept none grown at gone was.bare beside,
+      )
+
   pub queue-still : (from : QueueCells) (es : List (Entry (LinkedEntry T))) (o : Option ℕ) → IsQueueBeside w from es o q fs → IsQueueBeside new from es o q gs
   queue-still from es o was =
       let l : ℕ = link_of entry in
       let none = adds.pushes.link.1 in
       let first : CellContents = record { held = first_slot es; tag = tag.None } in
       let last : CellContents = record { held = o; tag = tag.None } in
+      let stays = second-still o es was.second_one in
       record {
         queue = record {
           list = list-still w new l q fs gs other kept none grown from.oldest tag.None es was.queue.list was.oldest was.links;
           newest = cell-still w new l q fs gs other kept none grown from.newest last was.queue.newest was.newest;
-          among = was.queue.among;
+          among = second-is new o es q gs stays;
           two = was.queue.two;
           apart = was.queue.apart;
         };
         oldest = beside-still w new l q fs gs other kept none grown from.oldest first was.queue.list.begins was.oldest;
         newest = beside-still w new l q fs gs other kept none grown from.newest last was.queue.newest was.newest;
         links = links-still w new l q fs gs other kept none grown es was.queue.list.linked was.links;
+        second_one = stays;
       }
 
   pub stands-still : (walk : Walk T) (es : List (Entry (LinkedEntry T))) → StandsBefore w walk es → AreBeside es q fs →
@@ -148,4 +169,22 @@ module _ {T : Type 0} (w : World (LinkedEntry T)) (q : QueueCells) (oldest : IsE
         oldest = beside-new from.oldest first queue.list.begins;
         newest = beside-new from.newest last queue.newest;
         links = links-new es queue.list.linked;
-      }
+        second_one = second-new es o queue.among;
+      } where
+        second-new : (es : List (Entry (LinkedEntry T))) (o : Option ℕ) → IsSecond link_of w o es →
+            IsSecondBeside (nulled (nulled w q.oldest) q.newest) o es q []
+        second-new es None among = tt
+        second-new es (Some k) (inl among) = inl among
+        second-new es (Some k) (inr was) =
+            let nothing : CellContents = record { held = None; tag = tag.None } in
+            let first : KeepsGone w (nulled w q.oldest) =
+            gone-written w q.oldest nothing (other-free (entry_at w.cells q.oldest) oldest.1) in
+            let free : entry_at (nulled w q.oldest).cells q.newest ≡ None =
+            get_or-set_other w.cells q.oldest q.newest (Some nothing) None (λ same. two (sym same)) ∙ newest.1 in
+            let both : KeepsGone w (nulled (nulled w q.oldest) q.newest) =
+            gone-then w (nulled w q.oldest) (nulled (nulled w q.oldest) q.newest) first
+            (gone-written (nulled w q.oldest) q.newest nothing (other-free (entry_at (nulled w q.oldest).cells q.newest) free)) in
+            inr (
+              record { value = was.value; there = both.values k was.value was.there; bare = both.cells (link_of was.value) was.bare },
+              beside-new (link_of was.value) gone was.bare,
+            )

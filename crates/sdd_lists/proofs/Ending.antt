@@ -10,7 +10,7 @@ use Rattle.sdd_participants.specs.Slab.{entry_at}
 use Rattle.sdd_space.specs.WorldChanges.{with_cell}
 use Rattle.sdd_lists.specs.Ends.{End, EndsWith, IsAmong, IsLastOf, appended, end_of, is_spent, last_value, put_at, through_last}
 use Rattle.sdd_lists.specs.Lists.{Apart, AreLinked, Entry, IsList, first_slot, is_deleted, left, let_go_first, trimmed}
-use Rattle.sdd_lists.specs.Queue.{IsNoneOrAmong}
+use Rattle.sdd_lists.specs.Queue.{IsSecond}
 use Rattle.sdd_lists.proofs.Lists.{apart, behind}
 use Rattle.sdd_lists.proofs.Pushing.{pushed, trim-other, trim-values}
 
@@ -121,19 +121,24 @@ module _ {T : Type 0} where
   among-last k [] e here = inl here
   among-last k (x ∷ xs) e here = inr (among-last k xs e here)
 
-  -- what a cell holds is nothing, or some entry here
-  pub none-or-ends : (held : Option ℕ) (es : List (Entry T)) → IsNoneOrAmong held es →
-      (held ≡ None) ⊎ ((e : Entry T) × (rest : List (Entry T)) × EndsWith es e rest × (held ≡ Some e.slot))
-  none-or-ends None es among = inl refl
-  none-or-ends (Some k) es among =
-      let at = among-ends k es among in inr (at.0, at.1, at.2, ap (λ (j : ℕ). Some j) (sym at.3))
-
 module _ {T : Type 0} (link : T → ℕ) where
   pub linked-ends : (w : World T) (es : List (Entry T)) (e : Entry T) (rest : List (Entry T)) → EndsWith es e rest → AreLinked link w es →
       AreLinked link w (e ∷ rest)
   linked-ends w [] e rest at a = absurd at
   linked-ends w (x ∷ xs) e rest (inl same) a = subst (λ (zs : List (Entry T)). AreLinked link w zs) same a
   linked-ends w (x ∷ xs) e rest (inr at) a = linked-ends w xs e rest at a.1
+
+  -- what a second cell holds is nothing, or an entry of the list, or one that is deleted and has nothing behind it
+  pub none-or-entry : (w : World T) (held : Option ℕ) (es : List (Entry T)) → AreLinked link w es → IsSecond link w held es →
+      (held ≡ None) ⊎ ((e : Entry T) × (rest : List (Entry T)) × AreLinked link w (e ∷ rest) × (held ≡ Some e.slot)
+      × (EndsWith es e rest ⊎ (is_deleted e ≡ true)))
+  none-or-entry w None es linked second = inl refl
+  none-or-entry w (Some k) es linked (inl among) =
+      let at = among-ends k es among in
+      inr (at.0, at.1, linked-ends w es at.0 at.1 at.2 linked, ap (λ (j : ℕ). Some j) (sym at.3), inl at.2)
+  none-or-entry w (Some k) es linked (inr gone) =
+      let e : Entry T = record { slot = k; value = gone.value; tag = tag.Second } in
+      inr (e, [], (record { there = gone.there; linked = gone.bare; plain = λ same. absurd (cc) }, tt), refl, inr refl)
 
   -- what is behind an entry is a list that begins in its link
   pub list-ends : (w : World T) (es : List (Entry T)) (e : Entry T) (rest : List (Entry T)) → EndsWith es e rest → AreLinked link w es →

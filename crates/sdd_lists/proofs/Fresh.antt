@@ -11,6 +11,7 @@ use Rattle.sdd_participants.proofs.Adopting.{same-or-not}
 use Rattle.sdd_space.specs.WorldChanges.{nulled, without_cell}
 use Rattle.sdd_lists.specs.Lists.{Entry, first_slot, Apart, AreLinked, IsList}
 use Rattle.sdd_lists.specs.Queue.{IsQueue, QueueCells}
+use Rattle.sdd_lists.proofs.LetGo.{gone-written, other-free, second-kept}
 use Rattle.sdd_lists.proofs.Lists.{linked-set}
 
 module _ {T : Type 0} (link : T → ℕ) (w : World T) (l : ℕ) (free : IsEmptyAt w.cells l) where
@@ -41,7 +42,10 @@ module _ {T : Type 0} (link : T → ℕ) (w : World T) (l : ℕ) (free : IsEmpty
         get_or-set_other w.cells l q.newest (Some (record { held = None; tag = tag.None })) None
         (taken-not q.newest (record { held = second; tag = tag.None }) queue.newest)
         ∙ queue.newest;
-    among = queue.among;
+    among =
+        second-kept link w (nulled w l) second es es
+        (gone-written w l (record { held = None; tag = tag.None }) (other-free (entry_at w.cells l) free.1))
+        (λ k among. inl among) queue.among;
     two = queue.two;
     apart = queue.apart;
   }

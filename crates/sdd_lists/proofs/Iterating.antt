@@ -4,7 +4,7 @@ use Rattle.std.specs.Prelude.{IfSome, drop, map, option_copied, slice_get}
 use Rattle.std.specs.Borrow.{Bor}
 use Rattle.std.proofs.iter.runs.Sources.{lists}
 use Rattle.std.specs.Iterator.{AlwaysYields, Yields}
-use Rattle.std.specs.Iterator.Runs.{EachRunFrom, ItemsMapTo, Run, YieldsRun}
+use Rattle.std.specs.Iterator.Runs.{EachRunFrom, ItemsMapTo, YieldsRun}
 use Rattle.sdd_core.specs.declared.tag.Tag.{Tag}
 use Rattle.sdd_participants.specs.Slab.{entry_at}
 use Rattle.sdd_participants.specs.declared.standing.CellContents.{CellContents}

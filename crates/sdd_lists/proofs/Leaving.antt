@@ -14,10 +14,13 @@ use Rattle.sdd_standings.specs.Slots.{IsSharedBy}
 use Rattle.sdd_participants.specs.declared.standing.Standing.{Standing}
 use Rattle.sdd_participants.specs.declared.standing.Standing.TheVariants.{Shared as shared_by}
 use Rattle.sdd_lists.specs.Ends.{IsAmong}
-use Rattle.sdd_lists.specs.Lists.{Apart, Entry, IsList, first_slot, is_deleted, left, removed, trimmed}
-use Rattle.sdd_lists.specs.Queue.{IsNoneOrAmong, IsQueue, QueueCells, cell_emptied, cell_left, held_left, is_at, lets_go_of}
-use Rattle.sdd_lists.proofs.Ending.{apart-ends, left-ends}
+use Rattle.sdd_lists.specs.Lists.{Apart, Entry, IsList, first_slot, is_deleted, is_deleting, left, removed, trimmed}
+use Rattle.sdd_lists.specs.Queue.{IsQueue, IsSecond, QueueCells, cell_emptied, cell_left, held_left, is_at, lets_go_of}
+use Rattle.sdd_lists.proofs.Ending.{apart-ends, left-ends, trimmed-list}
+use Rattle.sdd_lists.proofs.Fronts.{tag_in}
+use Rattle.sdd_lists.proofs.LetGo.{KeepsGone, gone, gone-by, gone-go, gone-same, gone-then, gone-trimmed, gone-written, let-go-kept, other-tag, second-kept}
 use Rattle.sdd_lists.proofs.Lists.{bare, inside, linked-set, list-same}
+use Rattle.sdd_lists.proofs.Popping.{apart-first, begins-still, is-deleted, stays-of}
 use Rattle.sdd_lists.proofs.Pushing.{go-other, trim-other}
 
 goes-by : (a rest : Bool) → rest ≡ true → (if a then true else rest) ≡ true
@@ -35,15 +38,6 @@ module _ {T : Type 0} where
   pub goes-not : (held : Option ℕ) (e : Entry T) (es : List (Entry T)) → is_at held e ≡ false → is_deleted e ≡ false → lets_go_of held (e ∷ es) ≡ false
   goes-not held e es not stays = rw not (rw stays refl)
 
-  none-left : (b : Bool) (es : List (Entry T)) → IsNoneOrAmong (if b then None else None) es
-  none-left true es = tt
-  none-left false es = tt
-
-  some-left : (b : Bool) (k : ℕ) (es : List (Entry T)) → (b ≡ true) ⊎ IsAmong k es → IsNoneOrAmong (if b then None else Some k) es
-  some-left true k es either = tt
-  some-left false k es (inl never) = absurd (cc)
-  some-left false k es (inr among) = among
-
   goes-more : (k : ℕ) (x : Entry T) (xs : List (Entry T)) (e : Entry T) (rest : List (Entry T)) → IsAmong k xs → (b : Bool) → is_deleted x ≡ b →
       (if b then left xs else x ∷ xs) ≡ e ∷ rest → (left xs ≡ e ∷ rest → (lets_go_of (Some k) xs ≡ true) ⊎ IsAmong k rest) →
       (lets_go_of (Some k) (x ∷ xs) ≡ true) ⊎ IsAmong k rest
@@ -59,11 +53,6 @@ module _ {T : Type 0} where
   goes-or k [] e rest same among = absurd among
   goes-or k (x ∷ xs) e rest same (inl here) = inl (goes-here (Some k) x xs (eq-eqb x.slot k here))
   goes-or k (x ∷ xs) e rest same (inr there) = goes-more k x xs e rest there (is_deleted x) refl same (λ more. goes-or k xs e rest more there)
-
-  pub among-left : (held : Option ℕ) (es : List (Entry T)) (e : Entry T) (rest : List (Entry T)) → left es ≡ e ∷ rest → IsNoneOrAmong held es →
-      IsNoneOrAmong (held_left held es) rest
-  among-left None es e rest same among = none-left (lets_go_of None es) rest
-  among-left (Some k) es e rest same among = some-left (lets_go_of (Some k) es) k rest (goes-or k es e rest same among)
 
   -- who is given what a cell held changes no cell and no value
   pub spilled-cells : (u : World T) (p : ℕ) (held : Option ℕ) → (spilled u p held).cells ≡ u.cells
@@ -82,12 +71,31 @@ given-spilled u v p None same = same
 given-spilled u v p (Some owner) same = same.2 ∙ ap (λ (s : Option Standing). owner_given u p (slot_of owner) s) (sym same.1.shared)
 
 module _ {T : Type 0} (link : T → ℕ) where
+  none-left : (u : World T) (b : Bool) (es : List (Entry T)) → IsSecond link u (if b then None else None) es
+  none-left u true es = tt
+  none-left u false es = tt
+
+  some-left : (u : World T) (b : Bool) (k : ℕ) (es : List (Entry T)) → (b ≡ true) ⊎ IsSecond link u (Some k) es →
+      IsSecond link u (if b then None else Some k) es
+  some-left u true k es either = tt
+  some-left u false k es (inl never) = absurd (cc)
+  some-left u false k es (inr is) = is
+
+  -- what the second cell holds where a pop let go of the first entry that isn't deleted
+  among-left : (w u : World T) (held : Option ℕ) (es : List (Entry T)) (e : Entry T) (rest : List (Entry T)) → left es ≡ e ∷ rest → KeepsGone w u →
+      IsSecond link w held es → IsSecond link u (held_left held es) rest
+  among-left w u None es e rest same keeps among = none-left u (lets_go_of None es) rest
+  among-left w u (Some k) es e rest same keeps (inl among) =
+      some-left u (lets_go_of (Some k) es) k rest (elim (goes-or k es e rest same among) [ inl goes ↦ inl goes | inr stays ↦ inr (inl stays) ])
+  among-left w u (Some k) es e rest same keeps (inr was) =
+      some-left u (lets_go_of (Some k) es) k rest (inr (inr (let-go-kept link w u k keeps was)))
+
   pub queue-same : (w u : World T) (q : QueueCells) (es : List (Entry T)) (second : Option ℕ) → u.cells ≡ w.cells → u.values ≡ w.values →
       IsQueue link w q es second → IsQueue link u q es second
   queue-same w u q es second cells values queue = record {
     list = list-same link w u q.oldest tag.None es cells values queue.list;
     newest = ap (λ (cs : Entries CellContents). entry_at cs q.newest) cells ∙ queue.newest;
-    among = queue.among;
+    among = second-kept link w u second es es (gone-same w u cells values) (λ k among. inl among) queue.among;
     two = queue.two;
     apart = queue.apart;
   }
@@ -137,6 +145,37 @@ module _ {T : Type 0} (link : T → ℕ) where
     left-newest : entry_at (cell_left w p q.newest second es).cells q.newest ≡ Some (record { held = held_left second es; tag = tag.None })
     left-newest = left-newest-by (lets_go_of second es)
 
+    emptied-gone : KeepsGone w (cell_emptied w p q.newest second)
+    emptied-gone =
+        gone-then w (nulled w q.newest) (cell_emptied w p q.newest second)
+        (gone-written w q.newest nothing
+        (other-tag (entry_at w.cells q.newest) (record { held = second; tag = tag.None }) queue.newest (λ same. absurd (cc))))
+        (gone-same (nulled w q.newest) (cell_emptied w p q.newest second) (spilled-cells (nulled w q.newest) p second)
+        (spilled-values (nulled w q.newest) p second))
+
+    left-gone : KeepsGone w (cell_left w p q.newest second es)
+    left-gone = gone-by w (cell_emptied w p q.newest second) emptied-gone (lets_go_of second es)
+
+    -- what was let go of is so where the first entry that isn't deleted is removed
+    removed-gone : (e : Entry T) (rest : List (Entry T)) → left es ≡ e ∷ rest →
+        KeepsGone w (removed link (cell_left w p q.newest second es) p q.oldest tag.None es e rest)
+    removed-gone e rest same =
+        let u : World T = cell_left w p q.newest second es in
+        let v : World T = trimmed link u p q.oldest tag.None es in
+        let dead : CellContents = record { held = first_slot rest; tag = tag.Second } in
+        let list : IsList link v q.oldest tag.None (e ∷ rest) =
+        subst (λ (xs : List (Entry T)). IsList link v q.oldest tag.None xs) same (trimmed-list link u p q.oldest tag.None es left-list) in
+        let kept : (entry_at v.cells (link e.value) ≡ Some gone) → ⊥ = λ is.
+        (let tags : e.tag ≡ tag.Second = ap tag_in (sym list.linked.0.linked ∙ is) in
+        let never : true ≡ false = ap is_deleting (sym tags) ∙ stays-of es e rest same in
+        absurd (cc)) in
+        gone-then w u (removed link u p q.oldest tag.None es e rest) left-gone
+        (gone-then u v (removed link u p q.oldest tag.None es e rest) (gone-trimmed link u p q.oldest tag.None es left-list)
+        (gone-then v (with_cell v (link e.value) dead) (removed link u p q.oldest tag.None es e rest) (gone-written v (link e.value) dead kept)
+        (gone-go (with_cell v (link e.value) dead) p q.oldest e.slot (link e.value) tag.None (first_slot rest) dead
+        (apart-first link v p q.oldest tag.None e rest list) (is-deleted link v p q.oldest tag.None e rest list)
+        (begins-still link v p q.oldest tag.None e rest list))))
+
     -- the queue without its first entry that isn't deleted
     pub rest-queue : (e : Entry T) (rest : List (Entry T)) → left es ≡ e ∷ rest → (new : World T) →
         new ≡ removed link (cell_left w p q.newest second es) p q.oldest tag.None es e rest → IsList link new q.oldest tag.None rest →
@@ -154,7 +193,8 @@ module _ {T : Type 0} (link : T → ℕ) where
               (λ meet. queue.two (sym meet)) (λ meet. all.0 (sym meet))
               ∙ get_or-set_other v.cells (link e.value) q.newest (Some gone) None (λ meet. all.0 (sym meet))
               ∙ trim-other link u p q.oldest tag.None es q.newest (λ meet. queue.two (sym meet)) queue.apart ∙ left-newest;
-          among = among-left second es e rest same queue.among;
+          among =
+              among-left w new second es e rest same (subst (λ (x : World T). KeepsGone w x) (sym made) (removed-gone e rest same)) queue.among;
           two = queue.two;
           apart = all.1;
         }

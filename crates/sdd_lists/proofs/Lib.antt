@@ -4,6 +4,7 @@ pub mod Fronts
 pub mod Few
 pub mod Fresh
 pub mod Popping
+pub mod LetGo
 pub mod Pushing
 pub mod Grows
 pub mod Refusals

@@ -12,8 +12,9 @@ use Rattle.sdd_space.specs.WorldChanges.{with_cell}
 use Rattle.sdd_lists.specs.Ends.{EndsWith, IsAmong}
 use Rattle.sdd_lists.specs.Lists.{Apart, AreLinked, Entry, IsList, first_slot}
 use Rattle.sdd_lists.specs.Marks.{retagged}
-use Rattle.sdd_lists.specs.Queue.{IsNoneOrAmong, IsQueue, QueueCells}
+use Rattle.sdd_lists.specs.Queue.{IsQueue, QueueCells}
 use Rattle.sdd_lists.proofs.Ending.{apart-ends, linked-ends, shorter}
+use Rattle.sdd_lists.proofs.LetGo.{gone-written, other-tag, second-kept}
 use Rattle.sdd_lists.proofs.Lists.{apart, as-long, inside, linked-set}
 
 module _ {T : Type 0} where
@@ -26,10 +27,6 @@ module _ {T : Type 0} where
   among-retagged : (j k : ℕ) (t : Tag) (es : List (Entry T)) → IsAmong k es → IsAmong k (retagged j t es)
   among-retagged j k t [] among = among
   among-retagged j k t (x ∷ xs) among = among-by k x xs (retagged j t xs) t among (among-retagged j k t xs) (x.slot == j)
-
-  none-or-retagged : (j : ℕ) (t : Tag) (held : Option ℕ) (es : List (Entry T)) → IsNoneOrAmong held es → IsNoneOrAmong held (retagged j t es)
-  none-or-retagged j t None es among = tt
-  none-or-retagged j t (Some k) es among = among-retagged j k t es among
 
 module _ {T : Type 0} (link : T → ℕ) where
   apart-by : (l : ℕ) (x : Entry T) (xs ys : List (Entry T)) (t : Tag) → Apart link l (x ∷ xs) → Apart link l ys → (b : Bool) →
@@ -97,15 +94,20 @@ module _ {T : Type 0} (link : T → ℕ) where
         rw slots (list-by c t x xs (retagged e.slot to xs) list (λ same. far (sym same)) (retagged-list (link x.value) x.tag xs inner at))
 
     -- and so of a queue
-    pub retagged-queue : (q : QueueCells) (es : List (Entry T)) (second : Option ℕ) → IsQueue link w q es second → EndsWith es e rest →
-        IsQueue link new q (retagged e.slot to es) second
-    retagged-queue q es second queue at = record {
+    pub retagged-queue : e.tag ≢ tag.Second → (q : QueueCells) (es : List (Entry T)) (second : Option ℕ) → IsQueue link w q es second →
+        EndsWith es e rest → IsQueue link new q (retagged e.slot to es) second
+    retagged-queue kept q es second queue at = record {
       list = retagged-list q.oldest tag.None es queue.list at;
       newest =
           get_or-set_other w.cells (link e.value) q.newest (Some changed) None
           (λ same. (apart-ends link q.newest es e rest at queue.apart).0 (sym same))
           ∙ queue.newest;
-      among = none-or-retagged e.slot to second es queue.among;
+      among =
+          second-kept link w new second es (retagged e.slot to es)
+          (gone-written w (link e.value) changed
+          (other-tag (entry_at w.cells (link e.value)) (record { held = first_slot rest; tag = e.tag })
+          (linked-ends link w es e rest at queue.list.linked).0.linked kept))
+          (λ k among. inl (among-retagged e.slot k to es among)) queue.among;
       two = queue.two;
       apart = apart-retagged q.newest e.slot to es queue.apart;
     }
@@ -142,16 +144,17 @@ module _ {T : Type 0} (link : T → ℕ) where
         (list-of-by c t es list at b)
 
     queue-of-by : (q : QueueCells) (es : List (Entry T)) (second : Option ℕ) → IsQueue link w q es second → EndsWith es e rest → (y : Bool) →
-        IsQueue link (if y then with_cell w (link e.value) (record { held = first_slot rest; tag = to }) else w) q
+        (y ≡ true → e.tag ≢ tag.Second) → IsQueue link (if y then with_cell w (link e.value) (record { held = first_slot rest; tag = to }) else w) q
         (if y then retagged e.slot to es else es) second
-    queue-of-by q es second queue at true = retagged-queue w e rest to plain q es second queue at
-    queue-of-by q es second queue at false = queue
+    queue-of-by q es second queue at true kept = retagged-queue w e rest to plain (kept refl) q es second queue at
+    queue-of-by q es second queue at false kept = queue
 
-    pub queue-of : (q : QueueCells) (es : List (Entry T)) (second : Option ℕ) → IsQueue link w q es second → EndsWith es e rest →
+    pub queue-of : ((x : Tag) → says x ≡ true → x ≢ tag.Second) → (q : QueueCells) (es : List (Entry T)) (second : Option ℕ) → IsQueue link w q es second → EndsWith es e rest →
         IsQueue link new q (if b then retagged e.slot to es else es) second
-    queue-of q es second queue at =
+    queue-of keeps q es second queue at =
         subst (λ (x : World T). IsQueue link x q (if b then retagged e.slot to es else es) second)
-        (sym (made-so (linked-ends link w es e rest at queue.list.linked))) (queue-of-by q es second queue at b)
+        (sym (made-so (linked-ends link w es e rest at queue.list.linked)))
+        (queue-of-by q es second queue at b (λ is. keeps e.tag (sym (told-of es queue.list.linked at) ∙ is)))
 
   -- the same of what the call answered
   module _ (w new : World T) (k : ℕ) (v : T) (k_is : k ≡ link v) (to : Tag) (plain : to ≢ tag.Both) (says : Tag → Bool) where
@@ -180,9 +183,9 @@ module _ {T : Type 0} (link : T → ℕ) where
     )
     list-by-answer c t es list e rest at same (Err why) is = is
 
-    pub queue-by-answer : (q : QueueCells) (es : List (Entry T)) (second : Option ℕ) → IsQueue link w q es second → (e : Entry T)
+    pub queue-by-answer : ((x : Tag) → says x ≡ true → x ≢ tag.Second) → (q : QueueCells) (es : List (Entry T)) (second : Option ℕ) → IsQueue link w q es second → (e : Entry T)
         (rest : List (Entry T)) → EndsWith es e rest → e.value ≡ v → (r : Result Bool Refused) → Retags r →
         IfOk r (λ b. IsQueue link new q (if b then retagged e.slot to es else es) second)
-    queue-by-answer q es second queue e rest at same (Ok b) is =
-        queue-of w new v e rest to plain says b is.0 (there-of is.0 is.1) is.2 (made-of b is.0 is.3) same q es second queue at
-    queue-by-answer q es second queue e rest at same (Err why) is = is
+    queue-by-answer keeps q es second queue e rest at same (Ok b) is =
+        queue-of w new v e rest to plain says b is.0 (there-of is.0 is.1) is.2 (made-of b is.0 is.3) same keeps q es second queue at
+    queue-by-answer keeps q es second queue e rest at same (Err why) is = is

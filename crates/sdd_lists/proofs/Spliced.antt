@@ -1,5 +1,5 @@
 -- What it makes of a list that from one of its entries on it is another one
-use Rattle.std.proofs.Common.{◌≡◌, ◌≢◌, inl, inr, eq-eqb, ne_eqb, ℕ, List, [], ◌∷◌, length, true, false, Option, Some, None, refl, sym, ap, ◌∙◌, arith, subst, slice_index_or}
+use Rattle.std.proofs.Common.{◌≡◌, ◌≢◌, ◌⊎◌, inl, inr, eq-eqb, ne_eqb, ℕ, List, [], ◌∷◌, length, true, false, Option, Some, None, refl, sym, ap, ◌∙◌, arith, subst, slice_index_or}
 use Rattle.std.specs.Prelude.{◌==◌}
 use Rattle.sdd_core.specs.declared.tag.Tag.{Tag}
 use Rattle.sdd_core.specs.declared.tag.Tag.TheVariants as tag
@@ -9,8 +9,9 @@ use Rattle.sdd_participants.specs.Slab.{entry_at}
 use Rattle.sdd_lists.specs.Behind.{spliced}
 use Rattle.sdd_lists.specs.Ends.{EndsWith, IsAmong}
 use Rattle.sdd_lists.specs.Lists.{Apart, AreLinked, Entry, IsList, first_slot}
-use Rattle.sdd_lists.specs.Queue.{IsNoneOrAmong, IsQueue, QueueCells}
+use Rattle.sdd_lists.specs.Queue.{IsLetGo, IsQueue, QueueCells}
 use Rattle.sdd_lists.proofs.Ending.{apart-ends, linked-ends, shorter}
+use Rattle.sdd_lists.proofs.LetGo.{KeepsGone, second-kept}
 use Rattle.sdd_lists.proofs.Lists.{apart, as-long}
 
 module _ {T : Type 0} (link : T → ℕ) (w new : World T) (e : Entry T) (rest : List (Entry T)) (f : Entry T) (others : List (Entry T))
@@ -61,21 +62,19 @@ module _ {T : Type 0} (link : T → ℕ) (w new : World T) (e : Entry T) (rest :
       } in
       rw (other-slot x xs list.linked at) changed
 
-  among-spliced : (k : ℕ) (es : List (Entry T)) → AreLinked link w es → EndsWith es e rest → (IsAmong k (e ∷ rest) → IsAmong k (f ∷ others)) →
-      IsAmong k es → IsAmong k (spliced e.slot (f ∷ others) es)
+  -- an entry is there still, or what became of those that others came for
+  pub among-spliced : (k : ℕ) (es : List (Entry T)) → AreLinked link w es → EndsWith es e rest →
+      (IsAmong k (e ∷ rest) → IsAmong k (f ∷ others) ⊎ IsLetGo link new k) → IsAmong k es →
+      IsAmong k (spliced e.slot (f ∷ others) es) ⊎ IsLetGo link new k
   among-spliced k [] linked at keeps among = absurd at
   among-spliced k (x ∷ xs) linked (inl is) keeps among =
       let kept = keeps (subst (λ (ys : List (Entry T)). IsAmong k ys) is among) in rw (same-slot x xs is) kept
   among-spliced k (x ∷ xs) linked (inr at) keeps (inl here) =
-      let kept : IsAmong k (x ∷ spliced e.slot (f ∷ others) xs) = inl here in rw (other-slot x xs linked at) kept
+      let kept : IsAmong k (x ∷ spliced e.slot (f ∷ others) xs) ⊎ IsLetGo link new k = inl (inl here) in rw (other-slot x xs linked at) kept
   among-spliced k (x ∷ xs) linked (inr at) keeps (inr there) =
-      let kept : IsAmong k (x ∷ spliced e.slot (f ∷ others) xs) = inr (among-spliced k xs linked.1 at keeps there) in
+      let kept : IsAmong k (x ∷ spliced e.slot (f ∷ others) xs) ⊎ IsLetGo link new k =
+      elim (among-spliced k xs linked.1 at keeps there) [ inl more ↦ inl (inr more) | inr gone ↦ inr gone ] in
       rw (other-slot x xs linked at) kept
-
-  none-or-spliced : (held : Option ℕ) (es : List (Entry T)) → AreLinked link w es → EndsWith es e rest →
-      ((k : ℕ) → IsAmong k (e ∷ rest) → IsAmong k (f ∷ others)) → IsNoneOrAmong held es → IsNoneOrAmong held (spliced e.slot (f ∷ others) es)
-  none-or-spliced None es linked at keeps among = tt
-  none-or-spliced (Some k) es linked at keeps among = among-spliced k es linked at (keeps k) among
 
   pub apart-spliced : (l : ℕ) (es : List (Entry T)) → AreLinked link w es → EndsWith es e rest → Apart link l (f ∷ others) → Apart link l es →
       Apart link l (spliced e.slot (f ∷ others) es)
@@ -86,12 +85,14 @@ module _ {T : Type 0} (link : T → ℕ) (w new : World T) (e : Entry T) (rest :
       rw (other-slot x xs linked at) kept
 
   pub spliced-queue : (q : QueueCells) (es : List (Entry T)) (second : Option ℕ) → IsQueue link w q es second → EndsWith es e rest →
-      ((k : ℕ) → IsAmong k (e ∷ rest) → IsAmong k (f ∷ others)) → Apart link q.newest (f ∷ others) →
+      ((k : ℕ) → IsAmong k (e ∷ rest) → IsAmong k (f ∷ others) ⊎ IsLetGo link new k) → KeepsGone w new → Apart link q.newest (f ∷ others) →
       entry_at new.cells q.newest ≡ entry_at w.cells q.newest → IsQueue link new q (spliced e.slot (f ∷ others) es) second
-  spliced-queue q es second queue at keeps new_ones stays = record {
+  spliced-queue q es second queue at keeps gone new_ones stays = record {
     list = spliced-list q.oldest tag.None es queue.list at;
     newest = stays ∙ queue.newest;
-    among = none-or-spliced second es queue.list.linked at keeps queue.among;
+    among =
+        second-kept link w new second es (spliced e.slot (f ∷ others) es) gone
+        (λ k among. among-spliced k es queue.list.linked at (keeps k) among) queue.among;
     two = queue.two;
     apart = apart-spliced q.newest es queue.list.linked at new_ones queue.apart;
   }

@@ -1,5 +1,5 @@
 -- Clones of queues
-use Rattle.std.specs.Prelude.{ℕ, ◌≡◌, ◌≢◌, ◌⊎◌, List, [], ◌∷◌, ◌++◌, Option, None, Result, Ok, Err}
+use Rattle.std.specs.Prelude.{ℕ, ◌≡◌, ◌≢◌, ◌⊎◌, List, [], ◌∷◌, ◌++◌, Option, None, Some, Result, Ok, Err}
 use Rattle.std.specs.List.{AllZip}
 use Rattle.sdd_core.specs.declared.refused.Refused.{Refused}
 use Rattle.sdd_core.specs.declared.refused.Refused.TheVariants.{NoCell, NoMemory}
@@ -10,10 +10,11 @@ use Rattle.sdd_lists.specs.declared.linked_entry.LinkedEntry.{LinkedEntry}
 use Rattle.sdd_lists.specs.declared.queue.Queue.{Queue}
 use Rattle.sdd_lists.specs.declared.unfinished.Unfinished.{Unfinished}
 use Rattle.sdd_lists.specs.declared.unfinished.Unfinished.TheVariants.{NotBegun, Part}
+use Rattle.sdd_lists.specs.Ends.{IsAmong}
 use Rattle.sdd_lists.specs.Entries.{link_of}
 use Rattle.sdd_lists.specs.Filling.{RefusesPush}
 use Rattle.sdd_lists.specs.Lists.{Apart, Entry}
-use Rattle.sdd_lists.specs.Queue.{HasOneAtMost, IsQueue, QueueCells, cells_in}
+use Rattle.sdd_lists.specs.Queue.{HasOneAtMost, IsLetGo, IsQueue, QueueCells, cells_in}
 use Rattle.sdd_lists.specs.QueueFilling.{FillsQueue}
 use Rattle.sdd_lists.specs.Walk.{shown_of}
 
@@ -54,6 +55,11 @@ module _ {T : Type 0} where
     pub newest : l ≢ q.newest
     pub apart : Apart link_of l fs
 
+  -- nor is the link of the entry in slot k, which is one of these, or was let go of
+  abbrev pub IsSecondBeside : World (LinkedEntry T) → Option ℕ → List (Entry (LinkedEntry T)) → QueueCells → List (Entry (LinkedEntry T)) → Type 0
+  IsSecondBeside w None es q fs = Unit {0}
+  IsSecondBeside w (Some k) es q fs = IsAmong k es ⊎ ((gone : IsLetGo link_of w k) × IsBeside (link_of gone.value) q fs)
+
   -- no link of these entries is
   abbrev pub AreBeside : List (Entry (LinkedEntry T)) → QueueCells → List (Entry (LinkedEntry T)) → Type 0
   AreBeside [] q fs = Unit {0}
@@ -66,3 +72,4 @@ module _ {T : Type 0} where
     pub oldest : IsBeside from.oldest q fs
     pub newest : IsBeside from.newest q fs
     pub links : AreBeside es q fs
+    pub second_one : IsSecondBeside w second es q fs

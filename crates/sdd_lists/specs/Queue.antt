@@ -1,8 +1,8 @@
 -- Where a queue is, and what the calls make of it
-use Rattle.std.specs.Prelude.{ℕ, ◌+◌, ◌^◌, ◌≡◌, ◌≢◌, ◌<◌, ◌==◌, Bool, true, false, List, [], ◌∷◌, ◌++◌, Option, None, Some, Result, Ok, Err, if◌then◌else◌}
+use Rattle.std.specs.Prelude.{ℕ, ◌+◌, ◌^◌, ◌≡◌, ◌≢◌, ◌⊎◌, ◌<◌, ◌==◌, Bool, true, false, List, [], ◌∷◌, ◌++◌, Option, None, Some, Result, Ok, Err, if◌then◌else◌}
 use Rattle.sdd_core.specs.declared.tag.Tag.TheVariants as tag
 use Rattle.sdd_core.specs.declared.refused.Refused.{Refused}
-use Rattle.sdd_space.specs.World.{World, standing_at}
+use Rattle.sdd_space.specs.World.{World, standing_at, value_at}
 use Rattle.sdd_space.specs.Shared.{cell_of, cells_home, slot_of}
 use Rattle.sdd_space.specs.WorldChanges.{made_as, nulled, spilled, with_cell, with_standing, without_cell}
 use Rattle.sdd_space.specs.declared.shared.Shared.{Shared}
@@ -37,11 +37,6 @@ module _ {T : Type 0} where
     pub newest : cells_home queue.newest ≡ home
 
 module _ {T : Type 0} where
-  -- nothing, or the slot of one of these
-  abbrev pub IsNoneOrAmong : Option ℕ → List (Entry T) → Type 0
-  IsNoneOrAmong None es = Unit {0}
-  IsNoneOrAmong (Some k) es = IsAmong k es
-
   -- what a cell holds is this entry
   abbrev pub is_at : Option ℕ → Entry T → Bool
   is_at None e = false
@@ -69,11 +64,22 @@ module _ {T : Type 0} where
   made_newest w p c k value held = spilled (with_cell (made_as w k value (shared_by 3)) c (record { held = Some k; tag = tag.None })) p held
 
 module _ {T : Type 0} (link : T → ℕ) where
+  -- a list has let go of the entry in slot k, which is deleted, and whose link holds nothing
+  pub record IsLetGo (w : World T) (k : ℕ) : Type 0 where
+    pub value : T
+    pub there : value_at w k ≡ Some value
+    pub bare : entry_at w.cells (link value) ≡ Some (record { held = None; tag = tag.Second })
+
+  -- nothing, or the slot of one of these, or of one that the list has let go of
+  abbrev pub IsSecond : World T → Option ℕ → List (Entry T) → Type 0
+  IsSecond w None es = Unit {0}
+  IsSecond w (Some k) es = IsAmong k es ⊎ IsLetGo w k
+
   -- the queue has these entries, the oldest first, and its second cell holds this
   pub record IsQueue (w : World T) (q : QueueCells) (es : List (Entry T)) (second : Option ℕ) : Type 0 where
     pub list : IsList link w q.oldest tag.None es
     pub newest : entry_at w.cells q.newest ≡ Some (record { held = second; tag = tag.None })
-    pub among : IsNoneOrAmong second es
+    pub among : IsSecond w second es
     -- the second cell is neither the first nor the link of an entry
     pub two : q.oldest ≢ q.newest
     pub apart : Apart link q.newest es

@@ -1,7 +1,7 @@
 //! What comes behind an entry, and what is reached from it.
 ghost use Rattle.std.specs.Prelude.{◌≡◌, ◌≢◌, ◌⊎◌, ℕ, ◌∷◌, false, true, IfErr, IfOk, IfSome, IsOk, List, MatchResult, None, Option, Some};
 ghost use Rattle.sdd_core.specs.declared.tag.Tag.{Tag};
-ghost use Rattle.sdd_core.specs.declared.tag.Tag.TheVariants.{None as no_tag};
+ghost use Rattle.sdd_core.specs.declared.tag.Tag.TheVariants.{None as no_tag, Second as deleting};
 ghost use Rattle.sdd_participants.specs.Slab.{entry_at};
 ghost use Rattle.sdd_participants.specs.declared.standing.CellContents.{CellContents};
 ghost use Rattle.sdd_space.specs.CallerId.{IsSeated, IsExact};
@@ -48,7 +48,7 @@ fn put_behind_link<'g, T: LinkedList, S: Items<T> + Cells<T> + LookThrough<T>>(
     ensures shown { PtrIsShown (S.shows s.new) result }
     ensures slot { (slot_named result ≡ Some (slot_of entry)) × (tag_of result ≡ tag) }
     ensures list { IsExact (S.seat s.old) → (t : Tag) (es : List (Entry T)) (v : T) → IsList T.link (S.world s.old) (cell_of link.now) t es →
-        IsFresh T.link (S.world s.old) (slot_of entry) v (cell_of link.now) es →
+        IsFresh T.link (S.world s.old) (slot_of entry) v (cell_of link.now) es → t ≢ deleting →
         IsLinkedBehind T.link (S.world s.old) (cell_of link.now) tag es (slot_of entry) v (S.world s.new) }
 {
     let ptr = entry.get_guarded_ptr(guard, s);

@@ -15,7 +15,7 @@ ghost use Rattle.sdd_space.specs.WorldChanges.{with_cell};
 ghost use Rattle.sdd_lists.specs.Behind.{IsFresh, IsLinkedBehind, Reaches, mark_tag, spliced};
 ghost use Rattle.sdd_lists.specs.Ends.{EndsWith};
 ghost use Rattle.sdd_lists.specs.Lists.{Entry, IsList, first_slot, left, may_delete, trimmed};
-ghost use Rattle.sdd_lists.specs.Queue.{IsNoneOrAmong, IsQueue, QueueCells};
+ghost use Rattle.sdd_lists.specs.Queue.{IsQueue, QueueCells};
 
 use crate::linked_list::LinkedList;
 use sdd_core::Refused;
@@ -212,7 +212,6 @@ impl<'g, T: LinkedList> Link<'g, T> {
             IsList T.link (S.world s.new) c t (spliced e.slot (e ∷ left rest) es) }
         ensures queue { IsExact (S.seat s.old) → (q : QueueCells) (es : List (Entry T)) (second : Option ℕ) →
             IsQueue T.link (S.world s.old) q es second → (e : Entry T) (rest : List (Entry T)) → EndsWith es e rest → e.value ≡ entry_of self.now →
-            IsNoneOrAmong second (spliced e.slot (e ∷ left rest) es) →
             IsQueue T.link (S.world s.new) q (spliced e.slot (e ∷ left rest) es) second }
     {
         self.entry.next_ptr(guard, s)
@@ -240,8 +239,9 @@ impl<'g, T: LinkedList> Link<'g, T> {
             (λ _. IsList T.link (S.world s.new) c t (spliced e.slot (e ∷ left rest) es)) (λ _. IsList T.link (S.world s.new) c t es) }
         ensures queue { IsExact (S.seat s.old) → (q : QueueCells) (es : List (Entry T)) (second : Option ℕ) →
             IsQueue T.link (S.world s.old) q es second → (e : Entry T) (rest : List (Entry T)) → EndsWith es e rest → e.value ≡ entry_of self.now →
-            MatchResult result (λ _. IsNoneOrAmong second (spliced e.slot (e ∷ left rest) es) →
-            IsQueue T.link (S.world s.new) q (spliced e.slot (e ∷ left rest) es) second) (λ _. IsQueue T.link (S.world s.new) q es second) }
+            MatchResult result
+            (λ _. IsQueue T.link (S.world s.new) q (spliced e.slot (e ∷ left rest) es) second)
+            (λ _. IsQueue T.link (S.world s.new) q es second) }
     {
         self.entry.next_shared(guard, s)
     }

@@ -19,7 +19,7 @@ ghost use Rattle.sdd_lists.specs.Behind.{IsFresh, IsLinkedBehind, Reaches, entry
 ghost use Rattle.sdd_lists.specs.Ends.{EndsWith};
 ghost use Rattle.sdd_lists.specs.Lists.{Entry, IsList, first_slot, left, may_delete, trimmed};
 ghost use Rattle.sdd_lists.specs.Marks.{retagged, says_clear, says_deleted, says_marked};
-ghost use Rattle.sdd_lists.specs.Queue.{IsNoneOrAmong, IsQueue, QueueCells};
+ghost use Rattle.sdd_lists.specs.Queue.{IsQueue, QueueCells};
 
 use crate::behind::{link_behind, next_in};
 use crate::marks::{delete_link, mark_link, unmark_link};
@@ -196,7 +196,6 @@ pub trait LinkedList: Item<Self> {
             IsList link (S.world s.new) c t (spliced e.slot (e ∷ left rest) es) }
         ensures queue { IsExact (S.seat s.old) → (q : QueueCells) (es : List (Entry Self)) (second : Option ℕ) →
             IsQueue link (S.world s.old) q es second → (e : Entry Self) (rest : List (Entry Self)) → EndsWith es e rest → e.value ≡ self.now →
-            IsNoneOrAmong second (spliced e.slot (e ∷ left rest) es) →
             IsQueue link (S.world s.new) q (spliced e.slot (e ∷ left rest) es) second }
     {
         trim(self.link_ref(), guard, s)
@@ -224,8 +223,9 @@ pub trait LinkedList: Item<Self> {
             (λ _. IsList link (S.world s.new) c t (spliced e.slot (e ∷ left rest) es)) (λ _. IsList link (S.world s.new) c t es) }
         ensures queue { IsExact (S.seat s.old) → (q : QueueCells) (es : List (Entry Self)) (second : Option ℕ) →
             IsQueue link (S.world s.old) q es second → (e : Entry Self) (rest : List (Entry Self)) → EndsWith es e rest → e.value ≡ self.now →
-            MatchResult result (λ _. IsNoneOrAmong second (spliced e.slot (e ∷ left rest) es) →
-            IsQueue link (S.world s.new) q (spliced e.slot (e ∷ left rest) es) second) (λ _. IsQueue link (S.world s.new) q es second) }
+            MatchResult result
+            (λ _. IsQueue link (S.world s.new) q (spliced e.slot (e ∷ left rest) es) second)
+            (λ _. IsQueue link (S.world s.new) q es second) }
     {
         next_in(self.link_ref(), guard, s)
     }

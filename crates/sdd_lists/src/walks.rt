@@ -13,7 +13,7 @@ ghost use Rattle.sdd_participants.specs.declared.standing.CellContents.{CellCont
 ghost use Rattle.sdd_core.specs.declared.tag.Tag.{Tag};
 ghost use Rattle.sdd_lists.specs.Ends.{EndsWith, IsLastOf, is_spent};
 ghost use Rattle.sdd_lists.specs.Lists.{AreLinked, Entry, IsList, content, first_slot, first_value, is_deleted, is_deleting, left};
-ghost use Rattle.sdd_lists.specs.Queue.{IsNoneOrAmong, IsQueue, is_at, lets_go_of};
+ghost use Rattle.sdd_lists.specs.Queue.{IsQueue, IsSecond, is_at, lets_go_of};
 
 use crate::linked_list::LinkedList;
 use sdd_core::{Refused, SlotName, Tag};
@@ -367,7 +367,7 @@ pub(crate) fn kept_in<'g, T: LinkedList, S: Cells<T> + LookThrough<T>>(
     ensures value { IfSome result (λ f. shown_by f.ptr ≡ Some f.entry.now) }
     ensures world { IsExact (S.seat s.old) → S.world s.new ≡ S.world s.old }
     ensures exact { IsExact (S.seat s.old) → (es : List (Entry T)) → AreLinked T.link (S.world s.old) es →
-        (held : CellContents) → entry_at (S.world s.old).cells (cell_of cell.now) ≡ Some held → IsNoneOrAmong held.held es →
+        (held : CellContents) → entry_at (S.world s.old).cells (cell_of cell.now) ≡ Some held → IsSecond T.link (S.world s.old) held.held es →
         IfSome result (λ f. (e : Entry T) × (rest : List (Entry T)) × EndsWith es e rest × (is_deleted e ≡ false) × (slot_named f.ptr ≡ Some e.slot) ×
         (f.entry.now ≡ e.value) × ((n : ℕ) × IsSharedBy n (standing_at (S.world s.old) e.slot))) }
 {
@@ -417,8 +417,8 @@ fn last_from<'g, T: LinkedList, S: Items<T> + Cells<T> + LookThrough<T>>(
     Err(Refused::Contended)
 }
 
-/// The last entry that isn't deleted, of the list in the first cell. The second holds one of its entries, or nothing: where that isn't deleted, what comes
-/// before it isn't looked at.
+/// The last entry that isn't deleted, of the list in the first cell. The second holds one of its entries, or one that it has let go
+/// of, or nothing: where that isn't deleted, what comes before it isn't looked at.
 ///
 /// `Contended` where `find_first` or the walk from there is refused so.
 #[inline(always)]

@@ -75,7 +75,7 @@ fn act(stage: &mut Interpreter, name: PlaceName, action: Action) -> Result<Reply
     if let Some(reply) = sdd_script_commands::act_on_cell(stage, name, action)? {
         return Ok(reply);
     }
-    if let Some(reply) = sdd_script_commands::act_on_link(stage, name, action) {
+    if let Some(reply) = sdd_script_commands::act_on_link(stage, name, action)? {
         return Ok(reply);
     }
     if let Some(reply) = sdd_script_commands::act_on_queue(stage, name, action)? {

@@ -12,10 +12,11 @@ use Rattle.sdd_space.specs.World.{World, IsPlaceOf, standing_at}
 use Rattle.sdd_space.specs.WorldChanges.{nulled}
 use Rattle.sdd_space.specs.WorldInvariant.{IsWhole}
 use Rattle.sdd_lists.specs.Lists.{Entry}
-use Rattle.sdd_lists.specs.Stack.{cell_in, home_in}
+use Rattle.sdd_lists.specs.Stack.{cell_in, home_in, poured}
 use Rattle.sdd_lists.specs.declared.stack.Stack.{Stack}
 use Rattle.sdd_world.specs.Place.{index_of}
 use Rattle.sdd_script_text.specs.declared.name.PlaceName.{PlaceName}
+use Rattle.sdd_script_text.specs.declared.name.GuardName.{GuardName}
 use Rattle.sdd_script_text.specs.declared.name.StackName.{StackName}
 use Rattle.sdd_script_text.specs.declared.call.Call.TheVariants.{At}
 use Rattle.sdd_script_text.specs.declared.call.Action.TheVariants as call
@@ -23,10 +24,11 @@ use Rattle.sdd_script_text.specs.declared.answer.Reply.TheVariants as reply
 use Rattle.sdd_script_model.specs.declared.val.Body.{Body}
 use Rattle.sdd_script_model.specs.Listed.{Begins}
 use Rattle.sdd_script_model.specs.ScriptState.{ScriptState, in_world, opening_at, place_of, without_stack}
-use Rattle.sdd_script_model.specs.Script.{Acts, IsParticipant, IsStackName, IsUnderGuard}
+use Rattle.sdd_script_model.specs.Script.{Acts, HasOpen, IsParticipant, IsStackName, IsUnderGuard}
 use Rattle.sdd_script_model.specs.Stacks.{IsStack, stack_closed}
 use Rattle.sdd_script_model.specs.Val.{Val}
 use Rattle.sdd_script_model.proofs.StackGoing.{begun-leaves, stack_closed-leaves}
+use Rattle.sdd_script_model.proofs.StackPouring.{poured-leaves}
 use Rattle.sdd_interpreter.specs.Owners.{stack_holding}
 use Rattle.sdd_interpreter.specs.declared.participants.NamedParticipant.{NamedParticipant}
 use Rattle.sdd_interpreter.specs.Environment.{attending, date_now}
@@ -94,6 +96,12 @@ module _ (h : Environment) (t : IsTied h) (whole : IsWhole h.world) (name : Plac
   place-is : place_of (desk_of h) n ≡ p
   place-is = acts.is h t whole name a there
 
+  -- one more stack has a name
+  one-stack_more : (stacks : Vec (Option (Stack Body))) (x : Stack Body) → home_in x ≡ h.world.home.cells → stacks.items ≡ h.stacks.entries.items ++ Some x ∷ [] →
+      map (option_map stack_holding) stacks.items ≡ (desk_of h).stacks ++ Some (holding.atomic_shared (cell_in x) h.world.home.cells) ∷ []
+  one-stack_more stacks x home pushed =
+      stacks-more h stacks x pushed ∙ ap (λ z. (desk_of h).stacks ++ Some (holding.atomic_shared (cell_in x) z) ∷ []) home
+
   -- ---- a stack is made
 
   pub acts-no_cell : IsFull h.world.cells → Acts (desk_of h) (At name call.Stack) (reply.Refused NoCell) (desk_of h)
@@ -105,8 +113,7 @@ module _ (h : Environment) (t : IsTied h) (whole : IsWhole h.world) (name : Plac
       Does (desk_of h) (At name call.Stack) (reply.Stack r) (record h { world = w; stacks = record { entries = stacks } })
   acts-begun w stacks x r free world home pushed named =
       let c = cell_in x in
-      let more : map (option_map stack_holding) stacks.items ≡ (desk_of h).stacks ++ Some (holding.atomic_shared c h.world.home.cells) ∷ [] =
-      stacks-more h stacks x pushed ∙ ap (λ z. (desk_of h).stacks ++ Some (holding.atomic_shared c z) ∷ []) home in
+      let more = one-stack_more stacks x home pushed in
       leads h t (At name call.Stack) (reply.Stack r) refl (cc (world, more)) (begun-leaves (desk_of h) t.sound whole p c live free)
       (here, (named ∙ sym (length-map h.stacks.entries.items (option_map stack_holding)), (c, free, refl)))
 
@@ -118,6 +125,24 @@ module _ (h : Environment) (t : IsTied h) (whole : IsWhole h.world) (name : Plac
 
     abbrev is : IsStack (desk_of h) s.0 (cell_in x) es
     is = (stack-entries h t s.0 x mine).1
+
+    -- all entries go to a new one
+    module _ (g : GuardName) (valid : HasOpen (desk_of h) n g.0) where
+      pub acts-pour_refused : IsFull h.world.cells → Acts (desk_of h) (At name (call.All s g)) (reply.Refused NoCell) (desk_of h)
+      acts-pour_refused full = still (desk_of h) (At name (call.All s g)) (reply.Refused NoCell) ((valid, is-stack h s.0 x mine), (full, refl))
+
+      pub acts-poured : (w : World Val) (stacks : Vec (Option (Stack Body))) (y : Stack Body) (r : StackName) → IsEmptyAt h.world.cells (cell_in y) →
+          w ≡ poured h.world (cell_in x) (cell_in y) es → home_in y ≡ h.world.home.cells → stacks.items ≡ h.stacks.entries.items ++ Some y ∷ [] →
+          r.0 ≡ length h.stacks.entries.items →
+          Does (desk_of h) (At name (call.All s g)) (reply.Stack r) (record h { world = w; stacks = record { entries = stacks } })
+      acts-poured w stacks y r free world home pushed named =
+          let more = one-stack_more stacks y home pushed in
+          leads h t (At name (call.All s g)) (reply.Stack r) refl (cc (world, more))
+          (poured-leaves (desk_of h) t.sound whole p (cell_in x) (cell_in y) live s.0 es is free)
+          (
+            (valid, is-stack h s.0 x mine),
+            (named ∙ sym (length-map h.stacks.entries.items (option_map stack_holding)), (cell_in x, es, cell_in y, is, free, refl)),
+          )
 
     module _ (waited : List Bool) (told : AreTold h waited) where
       -- it is closed

@@ -65,6 +65,7 @@ IsLinkAct (call.Mark item) = Unit {0}
 IsLinkAct (call.Unmark item) = Unit {0}
 IsLinkAct (call.Delete item) = Unit {0}
 IsLinkAct (call.LinkTag item) = Unit {0}
+IsLinkAct (call.Next item guard) = Unit {0}
 IsLinkAct other = ⊥
 
 -- an action on a queue as a whole
@@ -76,6 +77,7 @@ IsQueueAct other = ⊥
 -- an action on a stack as a whole
 abbrev pub IsStackAct : Action → Type 0
 IsStackAct call.Stack = Unit {0}
+IsStackAct (call.All stack guard) = Unit {0}
 IsStackAct (call.CloseStack stack) = Unit {0}
 IsStackAct other = ⊥
 

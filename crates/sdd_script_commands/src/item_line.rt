@@ -106,17 +106,24 @@ pub fn act_on_held(
 }
 
 /// An action on the link of an entry. None where the action is another.
-pub fn act_on_link(stage: &mut Interpreter, name: PlaceName, action: Action) -> Option<Reply>
-    ensures acts { MatchOption result (¬ (IsLinkAct action) × (stage.new ≡ stage.old))
-        (λ reply. IsLinkAct action × Acts stage.old (Call.At name action) reply stage.new) }
+pub fn act_on_link(
+    stage: &mut Interpreter,
+    name: PlaceName,
+    action: Action,
+) -> Result<Option<Reply>, Refused>
+    ensures acts { MatchResult result
+        (λ o. MatchOption o (¬ (IsLinkAct action) × (stage.new ≡ stage.old))
+        (λ reply. IsLinkAct action × Acts stage.old (Call.At name action) reply stage.new))
+        (λ refused. (refused ≡ Refused.NoMemory) × (stage.new ≡ stage.old)) }
 {
-    Some(match action {
+    Ok(Some(match action {
         Action::Mark(item) => links::change_link(stage, name, item, LinkChange::Mark),
         Action::Unmark(item) => links::change_link(stage, name, item, LinkChange::Unmark),
         Action::Delete(item) => links::change_link(stage, name, item, LinkChange::Delete),
         Action::LinkTag(item) => links::link_tag(stage, name, item),
-        _ => return None,
-    })
+        Action::Next(item, guard) => links::next(stage, name, item, guard)?,
+        _ => return Ok(None),
+    }))
 }
 
 /// An action on a queue as a whole. None where the action is another.
@@ -150,6 +157,7 @@ pub fn act_on_stack(
 {
     Ok(Some(match action {
         Action::Stack => stacks::make_stack(stage, name)?,
+        Action::All(stack, guard) => stacks::pour(stage, name, stack, guard)?,
         Action::CloseStack(stack) => stacks::close_stack(stage, name, stack)?,
         _ => return Ok(None),
     }))

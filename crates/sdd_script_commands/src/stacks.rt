@@ -6,9 +6,9 @@ ghost use Rattle.sdd_script_model.specs.Script.{Acts};
 
 use sdd_interpreter::Interpreter;
 use sdd_interpreter::items::{date_new, waiting_by_slot};
-use sdd_interpreter::participants::under_any;
-use sdd_interpreter::turns::stacks::{close_at, stack_at};
-use sdd_script_text::{Action, Call, PlaceName, Reply, StackName};
+use sdd_interpreter::participants::{under, under_any};
+use sdd_interpreter::turns::stacks::{close_at, pour_at, stack_at};
+use sdd_script_text::{Action, Call, GuardName, PlaceName, Reply, StackName};
 use std::alloc::AllocError;
 
 /// `P stack`: an empty stack, named. `NoCell` is a reply. Refused where memory for the name is, and then nothing has changed.
@@ -23,6 +23,32 @@ pub fn make_stack(stage: &mut Interpreter, name: PlaceName) -> Result<Reply, All
     match stack_at(&mut stage.hand.world, &attending.place) {
         Ok(stack) => {
             let name = stage.hand.stacks.give(stack);
+            Ok(Reply::Stack(StackName(name)))
+        }
+        Err(refused) => Ok(Reply::Refused(refused)),
+    }
+}
+
+/// `P all S G`: all entries of a stack on a new one, named. `NoCell` is a reply. Refused where memory for the name is, and then nothing has changed.
+pub fn pour(
+    stage: &mut Interpreter,
+    name: PlaceName,
+    stack: StackName,
+    guard: GuardName,
+) -> Result<Reply, AllocError>
+    ensures acts { MatchResult result (λ reply. Acts stage.old (Call.At name (Action.All stack guard)) reply stage.new) (λ _. stage.new ≡ stage.old) }
+{
+    let Some((attending, held)) = under(&stage.hand.places, &stage.hand.guards, name, guard) else {
+        return Ok(Reply::Invalid);
+    };
+    stage.hand.stacks.make_room()?;
+    let Some(stack) = stage.hand.stacks.get(stack.0) else {
+        return Ok(Reply::Invalid);
+    };
+    stage.hand.world.is_whole();
+    match pour_at(&mut stage.hand.world, &attending.place, stack, &held.guard) {
+        Ok(all) => {
+            let name = stage.hand.stacks.give(all);
             Ok(Reply::Stack(StackName(name)))
         }
         Err(refused) => Ok(Reply::Refused(refused)),

@@ -1,7 +1,7 @@
 -- What is always true of a desk is true after each call of a cell
 use Rattle.std.proofs.Common.{◌≡◌, ◌≢◌, subst, ℕ, ◌+◌, ◌<◌, ◌≤◌, true, if◌then◌else◌, List, [], ◌∷◌, ◌++◌, Option, Some, None, IsSome, length, slice_set, refl, sym, ap, ◌∙◌, arith}
 use Rattle.sdd_core.specs.declared.tag.Tag.{Tag}
-use Rattle.sdd_core.specs.declared.tag.Tag.TheVariants.{None as no_tag, Both}
+use Rattle.sdd_core.specs.declared.tag.Tag.TheVariants.{None as no_tag, Both, Second}
 use Rattle.sdd_participants.specs.Slab.{IsEmptyAt, entry_at}
 use Rattle.sdd_participants.specs.declared.standing.CellContents.{CellContents}
 use Rattle.sdd_participants.specs.declared.standing.Standing.TheVariants.{Shared}
@@ -177,11 +177,12 @@ module _ (d : ScriptState) (s : IsSound d) where
           (omega (arith, cell-spent d.owners d.cells d.collectors n c h.0 h.1 h.2 (right_to c), same-once c)))
 
       -- or of the link of an item
-      pub link-leaves : (k : ℕ) (x : Val) → value_at d.world k ≡ Some x → link_of x ≡ c → tag ≢ Both → LeavesSound d after_tagged
-      link-leaves k x there is plain =
+      pub link-leaves : (k : ℕ) (x : Val) → value_at d.world k ≡ Some x → link_of x ≡ c → tag ≢ Both → cell.tag ≢ Second →
+          LeavesSound d after_tagged
+      link-leaves k x there is plain kept =
           let linked = ap (λ (i : ℕ). entry_at d.world.cells i) is ∙ holds in
           retagged-leaves (subst (λ (i : ℕ). IsMidway d (with_cell d.world i (record cell { tag = tag })) (named d)) is
-          (retags-link (starts d s whole) k x cell (record cell { tag = tag }) there linked refl plain))
+          (retags-link (starts d s whole) k x cell (record cell { tag = tag }) there linked refl plain kept))
 
     -- ---- a cell with a name
     module _ (p n c : ℕ) (cell : CellContents) (live : IsPlaceOf d.world p) (is : IsCell d n c cell) where

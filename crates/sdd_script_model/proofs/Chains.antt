@@ -1,7 +1,7 @@
 -- A line as a chain of calls of its world, each with what it takes from outside and what it gives
 use Rattle.std.specs.Prelude.{◌*◌, ◌^◌, max}
 use Rattle.std.proofs.Common.{◌≡◌, ◌≢◌, ℕ, ◌+◌, ◌≤◌, List, [], ◌∷◌, ◌++◌, Option, Some, None, is_some, length, slice_set, inl, inr, refl, sym, ap, ◌∙◌, subst, arith}
-use Rattle.sdd_core.specs.declared.tag.Tag.TheVariants.{Both}
+use Rattle.sdd_core.specs.declared.tag.Tag.TheVariants.{Both, Second}
 use Rattle.sdd_participants.specs.Slab.{entry_at}
 use Rattle.sdd_participants.specs.declared.standing.Standing.TheVariants.{Owned, Shared}
 use Rattle.sdd_participants.specs.declared.standing.CellContents.{CellContents}
@@ -227,10 +227,11 @@ module _ {d : ScriptState} {w : World Val} {outside : Claim → ℕ} (m : IsMidw
 
 -- or it is the link of an item
 pub retags-link : {d : ScriptState} {w : World Val} {outside : Claim → ℕ} → IsMidway d w outside → (k : ℕ) (x : Val) (cell now : CellContents) →
-    value_at w k ≡ Some x → entry_at w.cells (link_of x) ≡ Some cell → now.held ≡ cell.held → now.tag ≢ Both → IsMidway d (with_cell w (link_of x) now) outside
-retags-link {d} {w} {outside} m k x cell now there is same plain =
+    value_at w k ≡ Some x → entry_at w.cells (link_of x) ≡ Some cell → now.held ≡ cell.held → now.tag ≢ Both → cell.tag ≢ Second →
+    IsMidway d (with_cell w (link_of x) now) outside
+retags-link {d} {w} {outside} m k x cell now there is same plain kept =
     tagged m (link_of x) cell now is same
-    (has-retagged (IsListCell d) (IsSecondCell d) w (λ u. outside u + contained d u) m.ledger (own-midway m) m.lists k x there cell now is same plain)
+    (has-retagged (IsListCell d) (IsSecondCell d) w (λ u. outside u + contained d u) m.ledger (own-midway m) m.lists k x there cell now is same plain kept)
 
 -- a value is another in its place, with the same link and the same owner, and somebody outside has its one owner
 pub edited : {d : ScriptState} {w : World Val} {outside : Claim → ℕ} → IsMidway d w outside → (k : ℕ) (was now : Val) → (may : MayInPlace w k) →

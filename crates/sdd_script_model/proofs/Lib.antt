@@ -20,6 +20,8 @@ pub mod StackChains
 pub mod Going
 pub mod StackGoing
 pub mod StackPushing
+pub mod StackPouring
+pub mod BehindGoing
 pub mod QueueGoing
 pub mod QueueEnds
 pub mod QueuePushing

@@ -18,13 +18,14 @@ use Rattle.sdd_lists.proofs.Leaving.{list-apart, list-without}
 use Rattle.sdd_lists.proofs.Lists.{bare, behind, list-same}
 use Rattle.sdd_lists.proofs.Marking.{retagged-list}
 use Rattle.sdd_lists.proofs.Pushing.{pushed}
-use Rattle.sdd_lists.specs.Queue.{IsNoneOrAmong}
+use Rattle.sdd_lists.proofs.LetGo.{KeepsGone, gone-first, gone-same, gone-then, gone-written, let-go-kept, other-free, other-tag, second-kept}
+use Rattle.sdd_lists.specs.Queue.{IsSecond}
 use Rattle.sdd_script_model.specs.Listed.{AreNumbers, Begins, HasLists, HoldsEntry, IsListed, IsNumber}
 use Rattle.sdd_script_model.specs.Val.{Val, body_of, holdings_of, link_of}
 use Rattle.sdd_script_model.proofs.Entry.{at-other, at-same, inside, set-either}
 use Rattle.sdd_script_model.proofs.Links.{null}
 use Rattle.sdd_space.proofs.Entries.{once-waits}
-use Rattle.sdd_script_model.proofs.Listed.{AreOwn, link-inside, IsAsBefore, among-link, apart-item, apart-own, as-before, has-changed, has-kept, link-apart, links-apart, same-list}
+use Rattle.sdd_script_model.proofs.Listed.{AreOwn, StaysGone, still-among, link-inside, IsAsBefore, among-link, apart-item, apart-own, as-before, has-changed, has-kept, link-apart, links-apart, same-list}
 
 -- two cells are written, and nothing else changes in cells and values: what list stays, and what a third cell holds
 module _ (v w : World Val) (l c : ℕ) (x y : CellContents) (cells : w.cells ≡ slice_set (slice_set v.cells l (Some x)) c (Some y))
@@ -113,8 +114,12 @@ module _ (begins : ℕ → Type 0) (seconds : (c b : ℕ) → Type 0) (v : World
     stays a b y =
         let far = second-apart a b e.slot e.value y there in third v w (link_of e.value) c gone next cells values b far.0 far.1
 
+    stays-gone : StaysGone seconds v w
+    stays-gone a b s y holds was = let-go-kept link_of v w s (gone-first link_of v p c no_tag e es old) was
+
     pub has-let_go : HasLists begins seconds w
-    has-let_go = has-changed begins seconds v w had c its single stays (e ∷ es) es old new numbers.1 forward (λ s among. inl (inr among)) links
+    has-let_go = has-changed begins seconds v w had c its stays stays-gone (e ∷ es) es old new numbers.1
+        (λ b y. absurd (single b y)) forward (λ s among. inl (inr among)) links
 
   -- ---- an item is put in front, whose link holds nothing
 
@@ -171,9 +176,20 @@ module _ (begins : ℕ → Type 0) (seconds : (c b : ℕ) → Type 0) (v : World
     seconds-stay a b y =
         let far = second-apart a b k x y there in third v wider (link_of x) c behind_it in_front refl refl b far.0 far.1
 
+    gone-stays : StaysGone seconds v wider
+    gone-stays a b s y holds was =
+        let half : World Val = with_cell v (link_of x) behind_it in
+        let first : KeepsGone v half =
+        gone-written v (link_of x) behind_it (other-tag (entry_at v.cells (link_of x)) null clear (λ same. absurd (cc))) in
+        let begun : entry_at half.cells c ≡ Some behind_it = at-other v.cells (link_of x) c (Some behind_it) None far-link ∙ old.begins in
+        let second : KeepsGone half wider =
+        gone-written half c in_front (other-tag (entry_at half.cells c) behind_it begun (λ same. absurd (cc))) in
+        let-go-kept link_of v wider s (gone-then v half wider first second) was
+
     pub has-put_in : HasLists begins seconds wider
     has-put_in =
-        has-changed begins seconds v wider had c its single seconds-stay es (entry ∷ es) old longer (number, numbers) kept-others fresh-or linked-or
+        has-changed begins seconds v wider had c its seconds-stay gone-stays es (entry ∷ es) old longer (number, numbers)
+        (λ b y. absurd (single b y)) kept-others fresh-or linked-or
 
     pub put_in-list : Begins wider c (entry ∷ es)
     put_in-list = longer
@@ -222,7 +238,7 @@ among-or s (e ∷ es) = elim (cases_eq e.slot s) [
 
 module _ (begins : ℕ → Type 0) (seconds : (c b : ℕ) → Type 0) (v : World Val) (outside : Claim → ℕ) (ledger : IsLedger holdings_of outside v)
     (own : AreOwn begins seconds outside) (had : HasLists begins seconds v) (k : ℕ) (x : Val) (there : value_at v k ≡ Some x)
-    (cell now : CellContents) (holds : entry_at v.cells (link_of x) ≡ Some cell) (same : now.held ≡ cell.held) (plain : now.tag ≢ Both) where
+    (cell now : CellContents) (holds : entry_at v.cells (link_of x) ≡ Some cell) (same : now.held ≡ cell.held) (plain : now.tag ≢ Both) (kept : cell.tag ≢ Second) where
   abbrev tagged : World Val
   tagged = with_cell v (link_of x) now
 
@@ -265,6 +281,8 @@ module _ (begins : ℕ → Type 0) (seconds : (c b : ℕ) → Type 0) (v : World
         | inr at ↦ inr at
       ])
       (λ c b y. at-other v.cells (link_of x) b (Some now) None (link-apart v outside ledger b k x (own.second c b y) there))
+      (λ c b s y held was.
+      let-go-kept link_of v tagged s (gone-written v (link_of x) now (other-tag (entry_at v.cells (link_of x)) cell holds kept)) was)
 
 -- ---- a list begins in a cell that was free
 
@@ -325,8 +343,11 @@ module _ (begins more : ℕ → Type 0) (seconds : (c b : ℕ) → Type 0) (v : 
               record {
                 second = held.second;
                 holds = at-other v.cells c b (Some null) None (off b _ held.holds) ∙ held.holds;
-                among = subst (λ (fs : List (Entry Val)). IsNoneOrAmong held.second fs) (same-list begun a was.0 es (stays-begun a was.0 was.1) list)
-                    held.among;
+                among = subst (λ (fs : List (Entry Val)). IsSecond link_of begun held.second fs)
+                    (same-list begun a was.0 es (stays-begun a was.0 was.1) list)
+                    (second-kept link_of v begun held.second was.0 was.0
+                    (gone-written v c null (other-free (entry_at v.cells c) free.1)) (λ s among. inl among)
+                    held.among);
               }),
         ));
   }
@@ -380,8 +401,16 @@ module _ (begins fewer : ℕ → Type 0) (seconds : (c b : ℕ) → Type 0) (v :
               record {
                 second = held.second;
                 holds = at-other v.cells c b None None (λ same. own.two c a b its y (sym same)) ∙ held.holds;
-                among = subst (λ (fs : List (Entry Val)). IsNoneOrAmong held.second fs) (same-list ended a was.0 es (stays-ended a far was.0 was.1) list)
-                    held.among;
+                among = subst (λ (fs : List (Entry Val)). IsSecond link_of ended held.second fs)
+                    (same-list ended a was.0 es (stays-ended a far was.0 was.1) list)
+                    (still-among v ended held.second was.0 was.0 (λ s among. among)
+                    (λ s same gone. record {
+                      value = gone.value;
+                      there = gone.there;
+                      bare =
+                          at-other v.cells c (link_of gone.value) None None
+                          (λ is. link-apart v outside ledger c s gone.value (own.first c its) gone.there (sym is)) ∙ gone.bare;
+                    }) held.among);
               }),
         ));
   }
@@ -401,6 +430,13 @@ module _ (begins : ℕ → Type 0) (seconds : (c b : ℕ) → Type 0) (v : World
         | inr at ↦ inr at
       ])
       (λ a b y. at-other v.cells c b (Some now) None (beside a b y))
+      (λ a b s y holds gone. record {
+        value = gone.value;
+        there = gone.there;
+        bare =
+            at-other v.cells c (link_of gone.value) (Some now) None (λ is. link-apart v outside ledger c s gone.value mine gone.there (sym is))
+            ∙ gone.bare;
+      })
 
 -- ---- a value changes in its place, of an item that is in no list
 
@@ -438,6 +474,17 @@ module _ (begins : ℕ → Type 0) (seconds : (c b : ℕ) → Type 0) (v : World
         | inr far ↦ had.linked s z (sym (at-other v.values k s (Some now) None far) ∙ e)
       ])
       (λ a b y. refl)
+      (λ a b s y holds gone. elim (cases_eq s k) [
+        | inl is ↦
+            (let both : Some gone.value ≡ Some was = sym gone.there ∙ ap (λ (i : ℕ). value_at v i) is ∙ there in
+            let value : gone.value ≡ was = cc in
+            record {
+              value = now;
+              there = ap (λ (i : ℕ). value_at (with_value v k now) i) is ∙ at-same v.values k (Some now) None (inside v.values k (ap is_some there));
+              bare = ap (λ (i : ℕ). entry_at v.cells i) (same ∙ ap link_of (sym value)) ∙ gone.bare;
+            })
+        | inr far ↦ record { value = gone.value; there = at-other v.values k s (Some now) None far ∙ gone.there; bare = gone.bare }
+      ])
 
 -- ---- cells and values are as they were
 
@@ -450,6 +497,7 @@ has-same begins seconds v w cells values had =
       | inr at ↦ inr at
     ])
     (λ a b y. ap (λ (cs : Entries CellContents). entry_at cs b) cells)
+    (λ a b s y holds was. let-go-kept link_of v w s (gone-same v w cells values) was)
 
 -- ---- an item is made: its value is in no list yet, and its link holds nothing
 
@@ -491,6 +539,13 @@ module _ (begins : ℕ → Type 0) (seconds : (c b : ℕ) → Type 0) (v w : Wor
             ])
       ])
       (λ a b y. ap (λ (cs : Entries CellContents). entry_at cs b) cells)
+      (λ a b s y holds gone.
+      (let far : s ≢ k = λ is. absurd (let never : None ≡ Some gone.value = sym free ∙ ap (λ (i : ℕ). value_at v i) (sym is) ∙ gone.there in cc) in
+      record {
+        value = gone.value;
+        there = ap (λ (vs : List (Option Val)). slice_index_or vs s None) values ∙ at-other v.values k s (Some x) None far ∙ gone.there;
+        bare = ap (λ (cs : Entries CellContents). entry_at cs (link_of gone.value)) cells ∙ gone.bare;
+      }))
 
 -- ---- cells are freed, but none of a list: each is somebody's, or a value's
 
@@ -523,6 +578,13 @@ module _ (begins : ℕ → Type 0) (seconds : (c b : ℕ) → Type 0) (v w : Wor
         | inr at ↦ inr at
       ])
       (λ a b y. still-taken b (omega (arith, own.second a b y)))
+      (λ a b s y holds gone.
+      (let there : value_at w s ≡ Some gone.value = ap (λ (vs : List (Option Val)). slice_index_or vs s None) values ∙ gone.there in
+      record {
+        value = gone.value;
+        there = there;
+        bare = still-taken (link_of gone.value) (omega (arith, link-inside w outside ledger s gone.value there)) ∙ gone.bare;
+      }))
 
 -- ---- second cells are others, and nothing changes
 

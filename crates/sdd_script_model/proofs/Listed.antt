@@ -13,10 +13,10 @@ use Rattle.sdd_space.proofs.Entries.{once-bound}
 use Rattle.sdd_space.proofs.Ledger.{ledger-laws}
 use Rattle.sdd_lists.specs.Ends.{EndsWith, IsAmong}
 use Rattle.sdd_lists.specs.Lists.{Apart, AreLinked, Entry, first_slot}
-use Rattle.sdd_lists.specs.Queue.{IsNoneOrAmong}
+use Rattle.sdd_lists.specs.Queue.{IsLetGo, IsSecond}
 use Rattle.sdd_lists.proofs.Ending.{among-ends, linked-ends}
 use Rattle.sdd_lists.proofs.Fronts.{tag_in}
-use Rattle.sdd_script_model.specs.Listed.{AreNumbers, Begins, HasLists, IsListed}
+use Rattle.sdd_script_model.specs.Listed.{AreNumbers, Begins, HasLists, HoldsEntry, IsListed}
 use Rattle.sdd_script_model.specs.Val.{Val, holdings_of, link_of}
 use Rattle.sdd_script_model.proofs.Entry.{at-other}
 use Rattle.sdd_script_model.proofs.Entry.{inside as inside-list}
@@ -120,16 +120,22 @@ among-link w s x es linked among at =
 
 -- ---- each list has the entries that it had, or the same with other tags
 
--- what a second cell holds is among these too
-pub still-among : (second : Option ℕ) (es fs : List (Entry Val)) → ((s : ℕ) → IsAmong s es → IsAmong s fs) → IsNoneOrAmong second es → IsNoneOrAmong second fs
-still-among None es fs still among = tt
-still-among (Some k) es fs still among = still k among
+-- what a second cell holds is among these too, or let go of still
+pub still-among : (v w : World Val) (second : Option ℕ) (es fs : List (Entry Val)) → ((s : ℕ) → IsAmong s es → IsAmong s fs) →
+    ((s : ℕ) → second ≡ Some s → IsLetGo link_of v s → IsLetGo link_of w s) → IsSecond link_of v second es → IsSecond link_of w second fs
+still-among v w None es fs still gone among = tt
+still-among v w (Some k) es fs still gone (inl among) = inl (still k among)
+still-among v w (Some k) es fs still gone (inr was) = inr (gone k refl was)
 
 -- somebody has the right to each of these cells, and no cell is both a list's first and a second one
 pub record AreOwn (begins : ℕ → Type 0) (seconds : (c b : ℕ) → Type 0) (outside : Claim → ℕ) : Type 0 where
   pub first : (c : ℕ) → begins c → 1 ≤ outside (right_to c)
   pub second : (c b : ℕ) → seconds c b → 1 ≤ outside (right_to b)
   pub two : (a c b : ℕ) → begins a → seconds c b → a ≢ b
+
+-- what second cells hold that was let go of is so still
+abbrev pub StaysGone : (seconds : (c b : ℕ) → Type 0) (v w : World Val) → Type 0
+StaysGone seconds v w = (c b s : ℕ) → seconds c b → held_in (entry_at v.cells b) ≡ Some s → IsLetGo link_of v s → IsLetGo link_of w s
 
 module _ (begins : ℕ → Type 0) (seconds : (c b : ℕ) → Type 0) (v w : World Val) (had : HasLists begins seconds v) where
   -- a list has the same items as before
@@ -142,8 +148,8 @@ module _ (begins : ℕ → Type 0) (seconds : (c b : ℕ) → Type 0) (v w : Wor
 
   pub has-kept : ((c : ℕ) → begins c → (es : List (Entry Val)) → Begins v c es → IsAsBefore c es) →
       ((s : ℕ) (x : Val) → value_at w s ≡ Some x → (held_in (entry_at w.cells (link_of x)) ≡ None) ⊎ IsListed begins v s) →
-      ((c b : ℕ) → seconds c b → entry_at w.cells b ≡ entry_at v.cells b) → HasLists begins seconds w
-  has-kept forward links stays = record {
+      ((c b : ℕ) → seconds c b → entry_at w.cells b ≡ entry_at v.cells b) → StaysGone seconds v w → HasLists begins seconds w
+  has-kept forward links stays gone = record {
     lists = λ c x. (let old = had.lists c x in let new = forward c x old.0 old.1 in (new.now, new.list, new.numbers old.2));
     apart = λ b c s es fs x y one two at also.
         (let first = had.lists b x in
@@ -165,8 +171,8 @@ module _ (begins : ℕ → Type 0) (seconds : (c b : ℕ) → Type 0) (v w : Wor
               record {
                 second = held.second;
                 holds = stays c b y ∙ held.holds;
-                among = subst (λ fs. IsNoneOrAmong held.second fs) (same-list w c new.now es new.list list)
-                    (still-among held.second old.0 new.now new.still held.among);
+                among = subst (λ fs. IsSecond link_of w held.second fs) (same-list w c new.now es new.list list)
+                    (still-among v w held.second old.0 new.now new.still (λ s same. gone c b s y (ap held_in held.holds ∙ same)) held.among);
               }),
         ));
   } where
@@ -224,6 +230,13 @@ module _ {v w : World Val} {ins outs : Claim → ℕ} (move : Moves holdings_of 
         let first = kept.cells rest before c (omega (arith, held.first c x)) (spares c x) in
         record { begins = first ∙ list.begins; linked = linked-still c es (ap held_in list.begins) first list.linked }
 
+    gone-still : StaysGone seconds v w
+    gone-still c b s y holds was =
+        let there = kept.cells rest before b (omega (arith, held.second c b y)) (leaves c b y) in
+        let inner : 1 ≤ inside holdings_of w (owner_of s) = (tells w (λ u. rest u + outs u) after).in_cell b s (ap held_in there ∙ holds) in
+        let value : value_at w s ≡ Some was.value = kept.values rest before s (omega (arith, inner)) ∙ was.there in
+        record { value = was.value; there = value; bare = link-still s s was.value was.value was.there value refl ∙ was.bare }
+
     pub has-still : HasLists begins seconds v → HoldsLess v w → HasLists begins seconds w
     has-still had less =
         has-kept begins seconds v w had (λ c x es list. as-before (list-still c x es list))
@@ -232,13 +245,13 @@ module _ {v w : World Val} {ins outs : Claim → ℕ} (move : Moves holdings_of 
           | inl none ↦ inl (ap held_in (link-still s s x was.0 was.1 e was.2) ∙ ap (λ k. held_in (entry_at v.cells k)) was.2 ∙ none)
           | inr at ↦ inr at
         ])
-        (λ c b y. kept.cells rest before b (omega (arith, held.second c b y)) (leaves c b y))
+        (λ c b y. kept.cells rest before b (omega (arith, held.second c b y)) (leaves c b y)) gone-still
 
 -- ---- one list changes
 
 module _ (begins : ℕ → Type 0) (seconds : (c b : ℕ) → Type 0) (v w : World Val) (had : HasLists begins seconds v) (c : ℕ) (its : begins c)
-    (single : (b : ℕ) → seconds c b → ⊥) (stays : (a b : ℕ) → seconds a b → entry_at w.cells b ≡ entry_at v.cells b)
-    (es now : List (Entry Val)) (old : Begins v c es) (new : Begins w c now) (numbers : AreNumbers now)
+    (stays : (a b : ℕ) → seconds a b → entry_at w.cells b ≡ entry_at v.cells b) (gone : StaysGone seconds v w) (es now : List (Entry Val)) (old : Begins v c es) (new : Begins w c now) (numbers : AreNumbers now)
+    (of_it : (b : ℕ) → seconds c b → HoldsEntry w b now)
     (forward : (b : ℕ) → begins b → b ≢ c → (gs : List (Entry Val)) → Begins v b gs → Begins w b gs)
     (from : (s : ℕ) → IsAmong s now → IsAmong s es ⊎ (IsListed begins v s → ⊥)) where
   back : (b : ℕ) → begins b → b ≢ c → (gs : List (Entry Val)) → Begins w b gs → Begins v b gs
@@ -289,8 +302,16 @@ module _ (begins : ℕ → Type 0) (seconds : (c b : ℕ) → Type 0) (v w : Wor
     second = λ a b y.
         (let own = had.second a b y in (
           own.0,
-          (λ gs list.
-              let held = own.1 gs (back a own.0 (λ same. single b (subst (λ i. seconds i b) same y)) gs list) in
-              record { second = held.second; holds = stays a b y ∙ held.holds; among = held.among }),
+          (λ gs list. elim (cases_eq a c) [
+            | inl same ↦
+                subst (λ (fs : List (Entry Val)). HoldsEntry w b fs) (same-list w c now gs new (subst (λ (i : ℕ). Begins w i gs) same list))
+                (of_it b (subst (λ (i : ℕ). seconds i b) same y))
+            | inr far ↦
+                (let held = own.1 gs (back a own.0 far gs list) in record {
+                  second = held.second;
+                  holds = stays a b y ∙ held.holds;
+                  among = still-among v w held.second gs gs (λ s among. among) (λ s same. gone a b s y (ap held_in held.holds ∙ same)) held.among;
+                })
+          ]),
         ));
   }

@@ -15,7 +15,7 @@ use Rattle.sdd_space.specs.WorldChanges.{nulled, spilled, with_cell, with_standi
 use Rattle.sdd_space.specs.WorldInvariant.{IsWhole}
 use Rattle.sdd_space.proofs.Ledger.{ledger-laws}
 use Rattle.sdd_lists.specs.Lists.{Entry, emptied}
-use Rattle.sdd_lists.specs.Queue.{IsNoneOrAmong, IsQueue, QueueCells, cell_emptied, cell_left, lets_go_of, queue_closed}
+use Rattle.sdd_lists.specs.Queue.{IsQueue, IsSecond, QueueCells, cell_emptied, cell_left, lets_go_of, queue_closed}
 use Rattle.sdd_lists.proofs.Leaving.{list-apart, list-without, spilled-cells, spilled-values}
 use Rattle.sdd_lists.proofs.Lists.{list-same}
 use Rattle.sdd_script_model.specs.Listed.{AreNumbers, Begins, HasLists, HoldsEntry, IsNumber}
@@ -400,7 +400,7 @@ module _ (d : ScriptState) (s : IsSound d) (whole : IsWhole d.world) (p : ℕ) (
         (λ fs list. (let same = same-list w q.oldest takes.rest fs takes.queue.list list in record {
           second = _;
           holds = takes.queue.newest;
-          among = subst (λ (gs : List (Entry Val)). IsNoneOrAmong _ gs) same takes.queue.among;
+          among = subst (λ (gs : List (Entry Val)). IsSecond link_of w _ gs) same takes.queue.among;
         }))
 
     pub taken-home : w.home ≡ d.world.home

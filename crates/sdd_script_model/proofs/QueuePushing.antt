@@ -17,9 +17,10 @@ use Rattle.sdd_space.specs.WorldInvariant.{IsWhole}
 use Rattle.sdd_space.proofs.Ledger.{ledger-laws}
 use Rattle.sdd_lists.specs.Ends.{IsAmong, appended, end_of, through_last}
 use Rattle.sdd_lists.specs.Lists.{Apart, AreLinked, Entry}
-use Rattle.sdd_lists.specs.Queue.{QueueCells}
+use Rattle.sdd_lists.specs.Queue.{IsSecond, QueueCells}
 use Rattle.sdd_lists.proofs.Ending.{among-last, appended-other, put-values}
 use Rattle.sdd_lists.proofs.Leaving.{list-apart, spilled-cells, spilled-values}
+use Rattle.sdd_lists.proofs.LetGo.{KeepsGone, gone-appended, gone-same, gone-then, gone-written, let-go-kept, other-tag}
 use Rattle.sdd_lists.proofs.Lists.{list-same}
 use Rattle.sdd_script_model.specs.Listed.{AreNumbers, Begins, HasLists, IsListed}
 use Rattle.sdd_script_model.specs.Queues.{Enqueues, IsNamedQueue}
@@ -31,7 +32,7 @@ use Rattle.sdd_script_model.proofs.Counting.{owner-given}
 use Rattle.sdd_script_model.proofs.Entry.{at-other, at-same}
 use Rattle.sdd_script_model.proofs.Entry.{inside as inside-list}
 use Rattle.sdd_script_model.proofs.Links.{null, same-once}
-use Rattle.sdd_script_model.proofs.Listed.{AreOwn, apart-item, apart-own, has-changed, link-apart, links-apart, listed-inside, same-list}
+use Rattle.sdd_script_model.proofs.Listed.{StaysGone, AreOwn, apart-item, apart-own, has-changed, link-apart, links-apart, listed-inside, same-list}
 use Rattle.sdd_script_model.proofs.ListChanges.{among-or}
 use Rattle.sdd_script_model.proofs.QueueEnds.{among-before, among-either, among-through, dropped, numbers-last, numbers-through, put-last}
 use Rattle.sdd_script_model.proofs.QueueGoing.{bare, bare-lists, bare-was, first-single, in-hand, its-numbers, second-back}
@@ -150,6 +151,9 @@ module _ (d : ScriptState) (s : IsSound d) (whole : IsWhole d.world) (p : ℕ) (
   abbrev newest : CellContents
   newest = record { held = Some k; tag = no_tag }
 
+  abbrev held_second : CellContents
+  held_second = record { held = second; tag = no_tag }
+
   abbrev fronted : World Val
   fronted = with_cell thrice q.newest newest
 
@@ -250,6 +254,20 @@ module _ (d : ScriptState) (s : IsSound d) (whole : IsWhole d.world) (p : ℕ) (
       let alone = ((ledger-laws holdings_of v).tells all sound-in.ledger).alone b (own.second a b still) in
       omega (arith, both, alone.1)))
 
+  -- what was let go of by a queue stays so
+  keeps-gone : KeepsGone v w
+  keeps-gone =
+      let first : KeepsGone thrice fronted =
+      gone-written thrice q.newest newest (other-tag (entry_at v.cells q.newest) held_second second-in (λ same. absurd (cc))) in
+      let second_gone : KeepsGone v spent =
+      gone-then v thrice spent (gone-same v thrice refl refl)
+      (gone-then thrice fronted spent first (gone-same fronted spent (spilled-cells fronted p second) (spilled-values fronted p second))) in
+      subst (λ (u : World Val). KeepsGone v u) last-is (gone-then v spent last second_gone
+      (gone-appended link_of spent p q.oldest no_tag es l k (inl (λ same. absurd (cc))) list-spent clear-spent off-first off-links))
+
+  stays-gone : StaysGone (IsSecondCell without_second) v w
+  stays-gone a b s y holds was = let-go-kept link_of v w s keeps-gone was
+
   from : (j : ℕ) → IsAmong j now → IsAmong j es ⊎ (IsListed (IsListCell without_second) v j → ⊥)
   from j among = elim (among-either j (through_last es) _ among) [
     | inl through ↦ inl (among-through j es through)
@@ -292,8 +310,8 @@ module _ (d : ScriptState) (s : IsSound d) (whole : IsWhole d.world) (p : ℕ) (
 
   lists-now : HasLists (IsListCell without_second) (IsSecondCell without_second) w
   lists-now =
-      has-changed (IsListCell without_second) (IsSecondCell without_second) v w had q.oldest its.begins its.single stays es now list-in puts.pushed.queue.list
-      numbers-now forward from links
+      has-changed (IsListCell without_second) (IsSecondCell without_second) v w had q.oldest its.begins stays stays-gone es now list-in
+      puts.pushed.queue.list numbers-now (λ b y. absurd (its.single b y)) forward from links
 
   -- ---- the second cell is put back
 
@@ -304,7 +322,7 @@ module _ (d : ScriptState) (s : IsSound d) (whole : IsWhole d.world) (p : ℕ) (
       (λ fs list. record {
         second = Some k;
         holds = puts.pushed.queue.newest;
-        among = subst (λ (gs : List (Entry Val)). IsAmong k gs) (same-list w q.oldest now fs puts.pushed.queue.list list) puts.pushed.queue.among;
+        among = subst (λ (gs : List (Entry Val)). IsSecond link_of w (Some k) gs) (same-list w q.oldest now fs puts.pushed.queue.list list) puts.pushed.queue.among;
       })
 
   pub enqueued-leaves : IsDatedWithin d after_enqueued → LeavesSound d after_enqueued

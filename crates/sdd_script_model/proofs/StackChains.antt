@@ -13,11 +13,11 @@ use Rattle.sdd_space.specs.World.{World, IsPlaceOf, standing_at, value_at}
 use Rattle.sdd_space.specs.WorldChanges.{owner_given, spilled, with_cell}
 use Rattle.sdd_space.specs.WorldInvariant.{IsWhole}
 use Rattle.sdd_space.proofs.Ledger.{ledger-laws}
-use Rattle.sdd_lists.specs.Lists.{Entry, IsList, emptied, first_slot, is_deleted, left, let_go_first, linked_in, removed, trimmed}
+use Rattle.sdd_lists.specs.Lists.{Entry, IsList, emptied, first_slot, is_deleted, is_deleting, left, let_go_first, linked_in, removed, trimmed}
 use Rattle.sdd_lists.specs.Marks.{retagged}
 use Rattle.sdd_lists.proofs.Lists.{bare, behind}
 use Rattle.sdd_lists.proofs.Marking.{retagged-list}
-use Rattle.sdd_lists.proofs.Popping.{apart-first}
+use Rattle.sdd_lists.proofs.Popping.{apart-first, stays-of}
 use Rattle.sdd_script_model.specs.Listed.{AreNumbers, Begins, HasLists, IsListed, IsNumber}
 use Rattle.sdd_script_model.specs.ScriptState.{ScriptState, IsListCell, IsSecondCell}
 use Rattle.sdd_script_model.specs.Sound.{contained}
@@ -217,6 +217,7 @@ module _ (d : ScriptState) (outside : Claim → ℕ) (p c : ℕ) (its : IsSingle
     deleted-midway =
         retags-link in-front.midway e.slot e.value (record { held = first_slot rest; tag = e.tag }) marked
         in-front.list.linked.0.there in-front.list.linked.0.linked refl (λ same. absurd (cc))
+        (λ is. absurd (let never : true ≡ false = ap is_deleting (sym is) ∙ stays-of es e rest first_left in cc))
 
     deleted-list : Begins gone_first c (record e { tag = Second } ∷ rest)
     deleted-list =

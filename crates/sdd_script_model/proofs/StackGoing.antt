@@ -117,7 +117,7 @@ module _ (d : ScriptState) (s : IsSound d) (whole : IsWhole d.world) (p c : ℕ)
   abbrev pub after_begun : ScriptState
   after_begun = in_world (with_stack d c) (nulled d.world c)
 
-  begun-or : (b : ℕ) → IsListCell after_begun b → IsListCell d b ⊎ (b ≡ c)
+  pub begun-or : (b : ℕ) → IsListCell after_begun b → IsListCell d b ⊎ (b ≡ c)
   begun-or b (inl queue) = inl (inl queue)
   begun-or b (inr (n, is)) =
       let h = some-holding shared_cell refl (holding_at after_begun.stacks n) b is in
@@ -128,7 +128,7 @@ module _ (d : ScriptState) (s : IsSound d) (whole : IsWhole d.world) (p c : ℕ)
         | inr was ↦ inl (inr (n, ap shared_cell was ∙ h.2))
       ]
 
-  begun-old : (b : ℕ) → IsListCell d b → IsListCell after_begun b
+  pub begun-old : (b : ℕ) → IsListCell d b → IsListCell after_begun b
   begun-old b (inl queue) = inl queue
   begun-old b (inr (n, is)) =
       let h = some-holding shared_cell refl (holding_at d.stacks n) b is in

@@ -23,6 +23,7 @@ use Rattle.sdd_script_text.specs.declared.call.Action.TheVariants as call
 use Rattle.sdd_script_text.specs.declared.answer.Reply.{Reply}
 use Rattle.sdd_script_text.specs.declared.answer.Reply.TheVariants as reply
 use Rattle.sdd_core.specs.declared.tag.Tag.TheVariants.{None as no_tag}
+use Rattle.sdd_lists.specs.Lists.{trimmed}
 use Rattle.sdd_lists.specs.Queue.{queue_closed}
 use Rattle.sdd_script_model.specs.Stacks.{stack_closed}
 use Rattle.sdd_script_model.specs.Val.{link_of}
@@ -290,6 +291,9 @@ module _ (d new : ScriptState) (whole : IsWhole d.world) (after : IsWhole new.wo
   turn-does n (call.Unmark i) (reply.Truth b) valid does = still (λ k. (refl, refl, refl)) (still-retags d i.0 change.Unmark b new does)
   turn-does n (call.Delete i) (reply.Truth b) valid does = still (λ k. (refl, refl, refl)) (still-retags d i.0 change.Delete b new does)
   turn-does n (call.LinkTag i) (reply.Tag tag) valid (is, e) = still (λ k. (refl, refl, refl)) (same-desk d new e)
+  turn-does n (call.Next i g) (reply.Pointer j tag) valid (k, t, es, behind, told, plain, leaves) =
+      gives (trimmed link_of d.world (place_of d n.0) k t es) (λ k. (refl, refl, refl)) valid.0.0 (places-left leaves) (world-left leaves)
+      (gives-trimmed (place_of d n.0) d.world k t es (live n.0 valid.0.0).0)
   turn-does n call.Queue (reply.Queue q) valid (name, (cells, free, other, apart, leaves)) =
       still (λ k. (refl, refl, refl)) (time-left leaves, places-left leaves)
   turn-does n call.Queue (reply.Refused NoCell) valid (full, e) = still (λ k. (refl, refl, refl)) (same-desk d new e)
@@ -311,6 +315,9 @@ module _ (d new : ScriptState) (whole : IsWhole d.world) (after : IsWhole new.wo
   turn-does n (call.PopIf l m g) (reply.KeptEntry o number) valid (other, (c, es, e, rest, is, first, told, adds)) =
       still (λ k. (refl, refl, refl)) (still-adds d e.slot (reply.Owner o) new adds)
   turn-does n (call.PopIf l m g) (reply.Refused TooManyOwners) valid (is, e) = still (λ k. (refl, refl, refl)) (same-desk d new e)
+  turn-does n (call.All s g) (reply.Stack r) valid (name, (c, es, k, is, free, leaves)) =
+      still (λ k. (refl, refl, refl)) (time-left leaves, places-left leaves)
+  turn-does n (call.All s g) (reply.Refused NoCell) valid (full, e) = still (λ k. (refl, refl, refl)) (same-desk d new e)
   turn-does n (call.Peek l g) given valid (is, e) = still (λ k. (refl, refl, refl)) (same-desk d new e)
   turn-does n (call.Len l g) (reply.Value m) valid (is, e) = still (λ k. (refl, refl, refl)) (same-desk d new e)
   turn-does n (call.List l g) (reply.Numbers ns) valid (is, e) = still (λ k. (refl, refl, refl)) (same-desk d new e)

@@ -1,12 +1,12 @@
 -- The link of an item's entry, and how its tag changes
-use Rattle.std.specs.Prelude.{ℕ, ◌≡◌, Bool, Some, if◌then◌else◌}
+use Rattle.std.specs.Prelude.{ℕ, ◌≡◌, Bool, List, Some, if◌then◌else◌}
 use Rattle.sdd_core.specs.declared.tag.Tag.{Tag}
 use Rattle.sdd_core.specs.declared.tag.Tag.TheVariants.{None as no_tag, First, Second}
 use Rattle.sdd_participants.specs.declared.standing.CellContents.{CellContents}
 use Rattle.sdd_participants.specs.Slab.{entry_at}
 use Rattle.sdd_space.specs.World.{World, value_at}
 use Rattle.sdd_space.specs.WorldChanges.{with_cell}
-use Rattle.sdd_lists.specs.Lists.{may_delete}
+use Rattle.sdd_lists.specs.Lists.{Entry, IsList, may_delete}
 use Rattle.sdd_lists.specs.Marks.{says_clear, says_marked}
 use Rattle.sdd_script_model.specs.declared.link_change.LinkChange.{LinkChange}
 use Rattle.sdd_script_model.specs.declared.link_change.LinkChange.TheVariants.{Mark, Unmark, Delete}
@@ -19,6 +19,13 @@ pub record IsLink (d : ScriptState) (i k : ℕ) (cell : CellContents) : Type 0 w
   pub there : value_at d.world (slot_at d i) ≡ Some entry
   pub link : link_of entry ≡ k
   pub holds : entry_at d.world.cells k ≡ Some cell
+
+-- the link of item i is cell k, which has this tag, and behind the item come these entries
+pub record IsBehind (d : ScriptState) (i k : ℕ) (t : Tag) (es : List (Entry Val)) : Type 0 where
+  pub entry : Val
+  pub there : value_at d.world (slot_at d i) ≡ Some entry
+  pub link : link_of entry ≡ k
+  pub list : IsList link_of d.world k t es
 
 -- a link with this tag changes it: a clear one is marked, a marked one is clear again, either is deleted
 abbrev pub may_change : LinkChange → Tag → Bool

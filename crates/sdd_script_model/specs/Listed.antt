@@ -6,7 +6,7 @@ use Rattle.sdd_space.specs.World.{World, value_at}
 use Rattle.sdd_space.specs.WorldChanges.{held_in}
 use Rattle.sdd_lists.specs.Ends.{IsAmong}
 use Rattle.sdd_lists.specs.Lists.{Entry, IsList}
-use Rattle.sdd_lists.specs.Queue.{IsNoneOrAmong}
+use Rattle.sdd_lists.specs.Queue.{IsSecond}
 use Rattle.sdd_script_model.specs.declared.val.Body.{Body}
 use Rattle.sdd_script_model.specs.declared.val.Body.TheVariants.{Number, Owned, Shared}
 use Rattle.sdd_script_model.specs.Val.{Val, body_of, link_of}
@@ -26,11 +26,11 @@ AreNumbers (e ∷ es) = IsNumber (body_of e.value) × AreNumbers es
 abbrev pub Begins : World Val → (c : ℕ) → List (Entry Val) → Type 0
 Begins w c es = IsList link_of w c no_tag es
 
--- cell b holds nothing, or an entry of these
+-- cell b holds nothing, or an entry of these, or one that the list has let go of
 pub record HoldsEntry (w : World Val) (b : ℕ) (es : List (Entry Val)) : Type 0 where
   pub second : Option ℕ
   pub holds : entry_at w.cells b ≡ Some (record { held = second; tag = no_tag })
-  pub among : IsNoneOrAmong second es
+  pub among : IsSecond link_of w second es
 
 -- a list begins in each of these cells
 module _ (begins : ℕ → Type 0) where
@@ -49,5 +49,5 @@ module _ (begins : ℕ → Type 0) where
     pub apart : (b c s : ℕ) (es fs : List (Entry Val)) → begins b → begins c → Begins w b es → Begins w c fs → IsAmong s es → IsAmong s fs → b ≡ c
     -- a link holds nothing, or is that of an entry of one
     pub linked : (s : ℕ) (v : Val) → value_at w s ≡ Some v → (held_in (entry_at w.cells (link_of v)) ≡ None) ⊎ IsListed w s
-    -- a second cell is that of a list, and holds one of its entries or nothing
+    -- a second cell is that of a list, and holds one of its entries, or one that it has let go of, or nothing
     pub second : (c b : ℕ) → seconds c b → begins c × ((es : List (Entry Val)) → Begins w c es → HoldsEntry w b es)

@@ -1,5 +1,5 @@
 -- The meaning of a script: what its calls answer, and what they leave
-use Rattle.std.specs.Prelude.{ℕ, IsTrue, ◌≡◌, ◌≢◌, ◌+◌, ◌^◌, ◌<◌, ◌≤◌, List, [], ◌∷◌, ◌++◌, Option, None, Some, IsSome, Contains, length, map, slice_set, ◌↔◌, if◌then◌else◌}
+use Rattle.std.specs.Prelude.{ℕ, IsTrue, ◌≡◌, ◌≢◌, ◌+◌, ◌^◌, ◌<◌, ◌≤◌, List, [], ◌∷◌, ◌++◌, Option, None, Some, IsSome, Contains, length, map, option_map, slice_set, ◌↔◌, if◌then◌else◌}
 use Rattle.std.specs.List.Sorted.{IsStrictlyIncreasing}
 use Rattle.sdd_core.specs.Epoch.{epoch_of}
 use Rattle.sdd_core.specs.declared.tag.Tag.{Tag}
@@ -38,9 +38,10 @@ use Rattle.sdd_script_text.specs.declared.answer.Reply.TheVariants as reply
 use Rattle.sdd_script_model.specs.declared.val.Body.TheVariants as body
 use Rattle.sdd_script_model.specs.Val.{Val, body_of, holdings_of, link_of}
 use Rattle.sdd_script_model.specs.declared.link_change.LinkChange.TheVariants as change
-use Rattle.sdd_lists.specs.Lists.{Entry, content, first_value, left}
+use Rattle.sdd_lists.specs.Lists.{Entry, content, first_slot, first_value, left, trimmed}
+use Rattle.sdd_lists.specs.Stack.{poured}
 use Rattle.sdd_lists.specs.Walk.{shown_of}
-use Rattle.sdd_script_model.specs.Link.{IsLink, Retags}
+use Rattle.sdd_script_model.specs.Link.{IsBehind, IsLink, Retags}
 use Rattle.sdd_script_model.specs.Stacks.{Drains, IsOwnedEnough, IsStack, Pushes, RefusesEntry, Takes, stack_closed}
 use Rattle.sdd_script_model.specs.Containers.{HasNewest, IsContainer, TellsNumber}
 use Rattle.sdd_lists.specs.Queue.{HasOneAtMost, QueueCells, queue_closed}
@@ -175,12 +176,14 @@ IsValid d n (call.Mark i) = IsUnderGuard d n × CanPointTo d n i.0
 IsValid d n (call.Unmark i) = IsUnderGuard d n × CanPointTo d n i.0
 IsValid d n (call.Delete i) = IsUnderGuard d n × CanPointTo d n i.0
 IsValid d n (call.LinkTag i) = IsUnderGuard d n × CanPointTo d n i.0
+IsValid d n (call.Next i g) = HasOpen d n g.0 × CanPointTo d n i.0
 IsValid d n call.Queue = IsParticipant d n
 IsValid d n call.Stack = IsParticipant d n
 IsValid d n (call.Push l number g) = HasOpen d n g.0 × IsListName d l
 IsValid d n (call.PushIf l number m g) = HasOpen d n g.0 × IsListName d l
 IsValid d n (call.Pop l g) = HasOpen d n g.0 × IsListName d l
 IsValid d n (call.PopIf l m g) = HasOpen d n g.0 × IsListName d l
+IsValid d n (call.All s g) = HasOpen d n g.0 × IsStackName d s.0
 IsValid d n (call.Peek l g) = HasOpen d n g.0 × IsListName d l
 IsValid d n (call.Len l g) = HasOpen d n g.0 × IsListName d l
 IsValid d n (call.List l g) = HasOpen d n g.0 × IsListName d l
@@ -406,6 +409,10 @@ Does d n p (call.Mark i) (reply.Truth b) new = Retags d i.0 change.Mark b new
 Does d n p (call.Unmark i) (reply.Truth b) new = Retags d i.0 change.Unmark b new
 Does d n p (call.Delete i) (reply.Truth b) new = Retags d i.0 change.Delete b new
 Does d n p (call.LinkTag i) (reply.Tag tag) new = ((k : ℕ) × (cell : CellContents) × IsLink d i.0 k cell × (tag ≡ cell.tag)) × (new ≡ d)
+-- p lets go of the deleted ones between the item and the one that is told
+Does d n p (call.Next i g) (reply.Pointer j tag) new =
+    (k : ℕ) × (t : Tag) × (es : List (Entry Val)) × IsBehind d i.0 k t es × (j ≡ option_map (item_in d.names) (first_slot (left es))) × (tag ≡ no_tag)
+    × Leaves (in_world d (trimmed link_of d.world p k t es)) new
 -- two free cells are taken, whichever
 Does d n p call.Queue (reply.Queue q) new =
     (q.0 ≡ length d.queues) × ((cells : QueueCells) × IsEmptyAt d.world.cells cells.oldest × IsEmptyAt d.world.cells cells.newest
@@ -431,6 +438,11 @@ Does d n p (call.PopIf l m g) (reply.KeptEntry o number) new =
     (number ≢ m) × ((c : ℕ) × (es : List (Entry Val)) × (e : Entry Val) × (rest : List (Entry Val)) × IsContainer d l c es × (left es ≡ e ∷ rest)
     × (body_of e.value ≡ body.Number number) × AddsOwner d e.slot (reply.Owner o) new)
 Does d n p (call.PopIf l m g) (reply.Refused TooManyOwners) new = HasCrowdedFirst d l × (new ≡ d)
+-- a free cell is taken, whichever
+Does d n p (call.All s g) (reply.Stack r) new =
+    (r.0 ≡ length d.stacks) × ((c : ℕ) × (es : List (Entry Val)) × (k : ℕ) × IsStack d s.0 c es × IsEmptyAt d.world.cells k
+    × Leaves (in_world (with_stack d k) (poured d.world c k es)) new)
+Does d n p (call.All s g) (reply.Refused NoCell) new = IsFull d.world.cells × (new ≡ d)
 Does d n p (call.Peek l g) given new = ((c : ℕ) × (es : List (Entry Val)) × IsContainer d l c es × TellsNumber given (first_value (left es))) × (new ≡ d)
 Does d n p (call.Len l g) (reply.Value m) new = ((c : ℕ) × (es : List (Entry Val)) × IsContainer d l c es × (m ≡ length (content es))) × (new ≡ d)
 Does d n p (call.List l g) (reply.Numbers ns) new =

@@ -91,6 +91,8 @@ pub enum Action {
     Delete(ItemName),
     /// `linktag I`: the tag of an entry's link.
     LinkTag(ItemName),
+    /// `next I G`: the next item behind one in its list that isn't deleted; the deleted ones between are let go of.
+    Next(ItemName, GuardName),
     /// `queue`: an empty queue of numbers.
     Queue,
     /// `stack`: an empty stack of numbers.
@@ -103,6 +105,8 @@ pub enum Action {
     Pop(ListName, GuardName),
     /// `popif L m G`: takes a container's first number out that isn't deleted, if it is this one.
     PopIf(ListName, u64, GuardName),
+    /// `all S G`: puts all entries of a stack onto a new one.
+    All(StackName, GuardName),
     /// `peek L G`: a container's first number that isn't deleted.
     Peek(ListName, GuardName),
     /// `len L G`: how many of a container's numbers aren't deleted.

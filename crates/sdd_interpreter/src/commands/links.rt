@@ -1,15 +1,19 @@
 //! What participants do with the links of entries.
-ghost use Rattle.std.specs.Prelude.{◌≡◌, Some};
+ghost use Rattle.std.specs.Prelude.{◌≡◌, List, Some};
+ghost use Rattle.sdd_core.specs.declared.tag.Tag.{Tag as TagOf};
 ghost use Rattle.sdd_participants.specs.Slab.{entry_at};
 ghost use Rattle.sdd_participants.specs.declared.standing.CellContents.{CellContents};
+ghost use Rattle.sdd_space.specs.Guard.{reader_of};
+ghost use Rattle.sdd_lists.specs.Lists.{Entry, IsList, first_slot, left, trimmed};
 ghost use Rattle.sdd_script_model.specs.Link.{may_change, retagged};
 ghost use Rattle.sdd_script_model.specs.Val.{Val, link_home, link_of};
 
-use crate::commands::step::CellCommand;
-use sdd_core::Tag;
+use crate::commands::step::{CellCommand, ListCommand};
+use sdd_core::{SlotName, Tag};
 use sdd_lists::LinkedList;
 use sdd_script_model::{LinkChange, Val};
-use sdd_space::Cells;
+use sdd_space::inner::slot_of_ptr;
+use sdd_space::{Cells, Guard, Items, LookThrough, Several, SharedItems};
 
 /// Changes the tag of an entry's link, if it may, and tells whether it did.
 pub struct ChangeLink<'a> {
@@ -60,5 +64,33 @@ impl CellCommand for ReadLinkTag<'_> {
     fn done<S: Cells<Val>>(self, s: &mut S) -> Tag {
         let ReadLinkTag { entry } = self;
         entry.link_ref().tag(s)
+    }
+}
+
+/// The slot of the next entry behind one that isn't deleted, or none. The deleted ones between are let go of.
+pub struct NextEntry<'a> {
+    pub entry: &'a Val,
+    /// One of the participant's.
+    pub guard: &'a Guard,
+}
+
+impl ListCommand for NextEntry<'_> {
+    type Out = Option<SlotName>;
+
+    ghost asks = { λ step home reader world. (link_home step.entry.now ≡ home.cells) × (reader_of step.guard.now ≡ reader)
+        × ((t : TagOf) × (es : List (Entry Val)) × IsList link_of world (link_of step.entry.now) t es) };
+
+    ghost does = { λ step _ place before next after. (t : TagOf) (es : List (Entry Val)) → IsList link_of before (link_of step.entry.now) t es →
+        (next ≡ first_slot (left es)) × (after ≡ trimmed link_of before place (link_of step.entry.now) t es) };
+
+    fn done<S: Items<Val> + Several<Val> + SharedItems<Val> + Cells<Val> + LookThrough<Val>>(
+        self,
+        s: &mut S,
+    ) -> Option<SlotName> {
+        let NextEntry { entry, guard } = self;
+        match entry.next_ptr(guard, s) {
+            Ok(next) => slot_of_ptr(&next),
+            Err(_) => unreachable!(),
+        }
     }
 }

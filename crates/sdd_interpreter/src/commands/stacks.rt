@@ -5,7 +5,7 @@ ghost use Rattle.sdd_participants.specs.Slab.{IsEmptyAt, IsFull};
 ghost use Rattle.sdd_space.specs.Guard.{reader_of};
 ghost use Rattle.sdd_space.specs.WorldChanges.{nulled};
 ghost use Rattle.sdd_lists.specs.Lists.{Entry};
-ghost use Rattle.sdd_lists.specs.Stack.{cell_in, home_in};
+ghost use Rattle.sdd_lists.specs.Stack.{cell_in, home_in, poured};
 ghost use Rattle.sdd_script_model.specs.Listed.{Begins};
 ghost use Rattle.sdd_script_model.specs.Stacks.{stack_closed};
 ghost use Rattle.sdd_script_model.specs.Val.{Val};
@@ -32,6 +32,32 @@ impl CellCommand for MakeStack {
     fn done<S: Cells<Val>>(self, s: &mut S) -> Result<Stack<Body>, Refused> {
         let MakeStack = self;
         Stack::new(s)
+    }
+}
+
+/// All entries of a stack go to a new one.
+pub struct PourStack<'a> {
+    pub stack: &'a Stack<Body>,
+    /// One of the participant's.
+    pub guard: &'a Guard,
+}
+
+impl ListCommand for PourStack<'_> {
+    type Out = Result<Stack<Body>, Refused>;
+
+    ghost asks = { λ step home _ _. home_in step.stack.now ≡ home.cells };
+
+    ghost does = { λ step home _ before result after. (IfOk result (λ all. home_in all ≡ home.cells))
+        × ((es : List (Entry Val)) → Begins before (cell_in step.stack.now) es → MatchResult result
+        (λ all. IsEmptyAt before.cells (cell_in all) × (after ≡ poured before (cell_in step.stack.now) (cell_in all) es))
+        (λ e. IsFull before.cells × (e ≡ refused.NoCell) × (after ≡ before))) };
+
+    fn done<S: Items<Val> + Several<Val> + SharedItems<Val> + Cells<Val> + LookThrough<Val>>(
+        self,
+        s: &mut S,
+    ) -> Result<Stack<Body>, Refused> {
+        let PourStack { stack, guard } = self;
+        stack.pop_all(guard, s)
     }
 }
 

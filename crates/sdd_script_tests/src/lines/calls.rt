@@ -107,6 +107,11 @@ p0 mark null
 p0 unmark i0 g0
 p0 delete none
 p0 linktag c0
+p0 next i0
+p0 next null g0
+p0 next o0 g0
+p0 all s0
+p0 all q0 g0
 p0 pushif s0 1 g0
 p0 pushif s0 1 2
 p0 pushif o0 1 2 g0

@@ -250,10 +250,14 @@ fn with_guard_behind(verb: &str, first: Argument, guard: GuardName) -> Option<Ac
             "look" => Some(Action::Look(item, guard)),
             "upgrade" => Some(Action::Upgrade(item, guard)),
             "see" => Some(Action::See(item, guard)),
+            "next" => Some(Action::Next(item, guard)),
             _ => None,
         },
         Argument::Queue(queue) => with_list(verb, ListName::Queue(queue), guard),
-        Argument::Stack(stack) => with_list(verb, ListName::Stack(stack), guard),
+        Argument::Stack(stack) => match verb {
+            "all" => Some(Action::All(stack, guard)),
+            _ => with_list(verb, ListName::Stack(stack), guard),
+        },
         Argument::Cell(cell) => match verb {
             "load" => Some(Action::Load(cell, guard)),
             "copy" => Some(Action::Copy(cell, guard)),

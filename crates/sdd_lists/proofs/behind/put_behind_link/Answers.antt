@@ -17,7 +17,7 @@ put_with_tag-requires-clause-link g c =
     ∙ ap (λ (h : SpaceId). h.cells) (g.met.S.Caller.home_is_seat c.get_guarded_ref-value.new.s)
 
 pub returns-clause-list : goal.returns-clause-list
-returns-clause-list g c = λ e t es v list fresh.
+returns-clause-list g c = λ e t es v list fresh kept.
     let link = g.T.LinkedList.link in
     let w = g.S.Caller.world c.args.s.now in
     let cell : ℕ = cell_of c.args.link.now in
@@ -36,7 +36,7 @@ returns-clause-list g c = λ e t es v list fresh.
     let put = c.put_with_tag.ensures.exact ex2 t (first_slot es) (ap (λ (y : World _). entry_at y.cells cell) same ∙ list.begins)
     (ap (λ (y : World _). entry_at y.cells (cell_of c.link_ref.result.now)) same ∙ ap (λ (j : ℕ). entry_at w.cells j) cell_is ∙ fresh.clear)
     (λ meet. fresh.far (meet ∙ cell_is)) in
-    linked-behind link w cell t c.args.tag es k v list fresh (g.S.Caller.world c.put_with_tag.new.s)
+    linked-behind link w cell t c.args.tag es k v list fresh kept (g.S.Caller.world c.put_with_tag.new.s)
     (put ∙ ap (λ (y : World _). linked_in y cell c.args.tag (cell_of c.link_ref.result.now) k (first_slot es)) same
     ∙ ap (λ (j : ℕ). linked_in w cell c.args.tag j k (first_slot es)) cell_is)
 

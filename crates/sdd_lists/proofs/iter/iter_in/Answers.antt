@@ -1,4 +1,3 @@
-use Rattle.std.proofs.Common.{◌≡◌}
 use Rattle.sdd_lists.proofs.Iterating.{gives-all, links-home}
 use Rattle.sdd_lists.proofs.iter.iter_in.Goals as goal
 

@@ -1,4 +1,4 @@
-use Rattle.std.proofs.Common.{◌≡◌, ℕ, ◌<◌, ◌∙◌, ap, sym, refl, List, ◌∷◌, [], ◌++◌, length, Option, Some, None, subst, arith}
+use Rattle.std.proofs.Common.{◌≡◌, inl, ℕ, ◌<◌, ◌∙◌, ap, sym, refl, List, ◌∷◌, [], ◌++◌, length, Option, Some, None, subst, arith}
 use Rattle.std.specs.Prelude.{option_map, slice_index_or}
 use Rattle.std.proofs.lemmas.List.{get_or-set_same, get_or-set_other}
 use Rattle.sdd_space.specs.World.{World, value_at}
@@ -78,7 +78,7 @@ returns-clause-exact g c = λ e es second queue last clear far farn all.
             (appended-list link place k value z q.oldest no_tag es in_z (value_z, clear_z, far, all));
         newest = ap (λ (u : World _). entry_at u.cells q.newest) world_new
             ∙ appended-other link z place q.oldest no_tag es l k q.newest (λ meet. queue.two (sym meet)) queue.apart farn ∙ newest_z;
-        among = among-last k (through_last es) entry refl;
+        among = inl (among-last k (through_last es) entry refl);
         two = queue.two;
         apart = apart-last link q.newest (through_last es) entry (apart-through link q.newest es queue.apart) (λ meet. farn (sym meet));
       };

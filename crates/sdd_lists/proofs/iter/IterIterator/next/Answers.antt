@@ -1,9 +1,6 @@
-use Rattle.std.proofs.Common.{◌≡◌, ◌≤◌, ◌<◌, ◌-◌, ℕ, List, Option, Some, None, sym, ap, ◌∙◌, subst, refl, arith, true, false}
-use Rattle.std.specs.Prelude.{IfSome, drop, option_copied, slice_get}
-use Rattle.sdd_core.specs.declared.tag.Tag.TheVariants as tag
+use Rattle.std.proofs.Common.{Some, sym, ap, ◌∙◌, subst, arith}
+use Rattle.std.specs.Prelude.{option_copied}
 use Rattle.sdd_space.specs.CallerId.{IsExact}
-use Rattle.sdd_lists.specs.Entries.{value_of}
-use Rattle.sdd_lists.specs.Iter.{GivesInOrder}
 use Rattle.sdd_lists.specs.Lists.{is_deleting}
 use Rattle.sdd_lists.proofs.Fronts.{undeleting}
 use Rattle.sdd_lists.proofs.Iterating.{gives-none, links-home, never-short, passes, shows, tag-at, value-at}

@@ -1,6 +1,5 @@
-use Rattle.std.proofs.Common.{◌≡◌, ◌≤◌, ℕ, List, IfSome}
+use Rattle.std.proofs.Common.{◌≡◌, ◌≤◌, List}
 use Rattle.sdd_space.specs.CallerId.{IsExact}
-use Rattle.sdd_space.specs.World.{World}
 use Rattle.sdd_lists.specs.Iter.{GivesInOrder, IsIterOf}
 use Rattle.sdd_lists.proofs.iter.IterIterator.next.Given as goal
 

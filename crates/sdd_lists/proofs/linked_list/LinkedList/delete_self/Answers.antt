@@ -1,4 +1,5 @@
-use Rattle.std.proofs.Common.{◌≢◌}
+use Rattle.std.proofs.Common.{◌≡◌, ◌≢◌, true, false, sym, ap, ◌∙◌}
+use Rattle.sdd_core.specs.declared.tag.Tag.{Tag}
 use Rattle.sdd_core.specs.declared.tag.Tag.TheVariants as tag
 use Rattle.sdd_space.specs.Shared.{cell_of}
 use Rattle.sdd_lists.specs.Lists.{may_delete}
@@ -7,6 +8,9 @@ use Rattle.sdd_lists.proofs.linked_list.LinkedList.delete_self.Goals as goal
 
 plain : tag.Second ≢ tag.Both
 plain = λ same. absurd (cc)
+
+keeps : (x : Tag) → may_delete x ≡ true → x ≢ tag.Second
+keeps x is same = let never : false ≡ true = ap may_delete (sym same) ∙ is in absurd (cc)
 
 pub returns-clause-exact : goal.returns-clause-exact
 returns-clause-exact g c = λ e.
@@ -28,4 +32,4 @@ returns-clause-queue g c = λ e q es second queue x rest at is.
     let w = g.S.Caller.world c.args.s.now in
     let new = g.S.Caller.world c.delete_link.new.s in
     queue-by-answer g.Self.LinkedList.link w new (cell_of c.link_ref.result.now) c.args.self.now c.link_ref.ensures.link
-    tag.Second plain may_delete q es second queue x rest at is c.delete_link.result (c.delete_link.ensures.exact e).1
+    tag.Second plain may_delete keeps q es second queue x rest at is c.delete_link.result (c.delete_link.ensures.exact e).1

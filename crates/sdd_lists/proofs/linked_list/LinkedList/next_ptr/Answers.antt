@@ -34,7 +34,7 @@ returns-clause-around g c = λ e cell t es list x rest at is.
     (trimmed-around link w place x rest cell t es list at (subst (λ (y : World _). IsList link y (link x.value) x.tag (left rest)) made after))
 
 pub returns-clause-queue : goal.returns-clause-queue
-returns-clause-queue g c = λ e q es second queue x rest at is among.
+returns-clause-queue g c = λ e q es second queue x rest at is.
     let link = g.Self.LinkedList.link in
     let w = g.S.Caller.world c.args.s.now in
     let new = g.S.Caller.world c.trim.new.s in
@@ -46,4 +46,4 @@ returns-clause-queue g c = λ e q es second queue x rest at is among.
     let after = subst (λ (k : ℕ). IsList link new k x.tag (left rest)) cell_is cut.2 in
     subst (λ (y : World _). IsQueue link y q (spliced x.slot (x ∷ left rest) es) second) (sym made)
     (trimmed-queue link w place x rest q es second queue at
-    (subst (λ (y : World _). IsList link y (link x.value) x.tag (left rest)) made after) among)
+    (subst (λ (y : World _). IsList link y (link x.value) x.tag (left rest)) made after))

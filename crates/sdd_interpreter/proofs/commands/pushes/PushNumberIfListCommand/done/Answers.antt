@@ -1,4 +1,10 @@
-use Rattle.sdd_interpreter.proofs.Asked.{push-held}
+use Rattle.std.proofs.Common.{Option, Some, sym, subst}
+use Rattle.std.specs.Prelude.{Err}
+use Rattle.sdd_core.specs.declared.refused.Refused.{Refused}
+use Rattle.sdd_interpreter.specs.Containers.{PushesIf}
+use Rattle.sdd_interpreter.specs.declared.holding.AnyList.{AnyList}
+use Rattle.sdd_interpreter.specs.declared.holding.AnyList.TheVariants as any
+use Rattle.sdd_interpreter.proofs.Asked.{push-held, pushes-not}
 use Rattle.sdd_interpreter.proofs.commands.pushes.PushNumberIfListCommand.done.Goals as goal
 
 pub returns-in-Ok-clause-done : goal.returns-in-Ok-clause-done
@@ -20,3 +26,19 @@ returns-in-Ok-push_if-clause-done g c es second list =
       push-held c.args.self.newest _ _ asked.1 asked.2.1.1.0,
       (c.in-Ok-push_if.ensures.owner, record { entry = made.entry; body = made.value; free = made.link; pushed = made.list }),
     )
+
+pub returns-in-Err-clause-done : goal.returns-in-Err-clause-done
+returns-in-Err-clause-done g c es second list =
+    let has = rw c.in-Queue.is at list in
+    let asked = c.in-Err.ensures.asked c.requires.exact es second has in
+    let refused = c.in-Err.ensures.refused c.requires.exact es second has in
+    let number = c.args.self.number in
+    let newest = c.args.self.newest in
+    let w = g.S.Caller.world c.args.s.now in
+    let new = g.S.Caller.world c.push_if.new.s in
+    let seat = g.S.Caller.seat c.args.s.now in
+    let did = pushes-not seat.home.slots w new seat.place c.in-Queue.queue es second number newest c.in-Err.back.1 refused.0 refused.1 _ asked.1
+    asked.2.1.1.0 in
+    subst (λ (x : AnyList). PushesIf seat.home.slots w seat.place x es second number (Some newest) (Err c.refusal_of.result) new) (sym c.in-Queue.is)
+    (subst (λ (why : Option Refused). PushesIf seat.home.slots w seat.place (any.Queue c.in-Queue.queue) es second number (Some newest) (Err why) new)
+    (sym c.refusal_of.ensures) did)

@@ -1,0 +1,286 @@
+-- The deleted entries behind an item are let go of, and what the script's desk is then
+use Rattle.std.proofs.Common.{◌≡◌, ◌≢◌, ◌⊎◌, ◌+◌, ◌≤◌, inl, inr, ℕ, Bool, true, false, List, [], ◌∷◌, Option, Some, None, is_some, slice_index_or, refl, sym, ap, ◌∙◌, subst, arith}
+use Rattle.std.specs.Prelude.{◌==◌, if◌then◌else◌}
+use Rattle.std.proofs.lemmas.Bool.{cases_eq}
+use Rattle.sdd_core.specs.declared.tag.Tag.{Tag}
+use Rattle.sdd_core.specs.declared.tag.Tag.TheVariants.{None as no_tag}
+use Rattle.sdd_participants.specs.Slab.{entry_at}
+use Rattle.sdd_participants.specs.declared.standing.CellContents.{CellContents}
+use Rattle.sdd_space.specs.Ledger.{Claim, IsLedger, right_to}
+use Rattle.sdd_space.specs.World.{World, IsPlaceOf, value_at}
+use Rattle.sdd_space.specs.WorldChanges.{held_in}
+use Rattle.sdd_space.specs.WorldInvariant.{IsWhole}
+use Rattle.sdd_space.proofs.Entries.{once-waits}
+use Rattle.sdd_lists.specs.Behind.{spliced}
+use Rattle.sdd_lists.specs.Ends.{EndsWith, IsAmong}
+use Rattle.sdd_lists.specs.Lists.{Apart, AreLinked, Entry, IsList, first_slot, is_deleted, left, trimmed}
+use Rattle.sdd_lists.specs.Queue.{IsLetGo, QueueCells}
+use Rattle.sdd_lists.proofs.Ending.{linked-ends, list-ends, trimmed-list}
+use Rattle.sdd_lists.proofs.Fronts.{tag_in}
+use Rattle.sdd_lists.proofs.LetGo.{gone-trimmed, let-go-kept, trimmed-or}
+use Rattle.sdd_lists.proofs.Linking.{tail-cut, trimmed-around, trimmed-queue}
+use Rattle.sdd_lists.proofs.Pushing.{trim-other, trim-values}
+use Rattle.sdd_lists.proofs.Spliced.{among-spliced}
+use Rattle.sdd_script_model.specs.Link.{IsBehind}
+use Rattle.sdd_script_model.specs.Listed.{AreNumbers, Begins, HasLists, HoldsEntry, IsListed}
+use Rattle.sdd_script_model.specs.ScriptState.{ScriptState, IsListCell, IsSecondCell, in_world, slot_at}
+use Rattle.sdd_script_model.specs.Sound.{IsSound, contained, named}
+use Rattle.sdd_script_model.specs.Val.{Val, holdings_of, link_of}
+use Rattle.sdd_script_model.proofs.Chains.{IsMidway, LeavesSound, finishes, own-midway, starts}
+use Rattle.sdd_script_model.proofs.Listed.{AreOwn, StaysGone, among-link, apart-item, apart-own, has-changed, link-apart, link-inside, links-apart, same-list, unique}
+use Rattle.sdd_script_model.proofs.ListChanges.{among-or}
+use Rattle.sdd_script_model.proofs.QueuePushing.{linked-where}
+use Rattle.sdd_script_model.proofs.StackChains.{between, front-goes, midway}
+use Rattle.sdd_script_model.proofs.StackGoing.{IsDatedWithin, dated-all}
+
+-- ---- what is left of a list from an entry on
+
+left-by : (s : ℕ) (e : Entry Val) (es : List (Entry Val)) → (IsAmong s (left es) → IsAmong s es) → (b : Bool) →
+    IsAmong s (if b then left es else e ∷ es) → IsAmong s (e ∷ es)
+left-by s e es more true among = inr (more among)
+left-by s e es more false among = among
+
+left-was : (s : ℕ) (es : List (Entry Val)) → IsAmong s (left es) → IsAmong s es
+left-was s [] among = among
+left-was s (e ∷ es) among = left-by s e es (left-was s es) (is_deleted e) among
+
+numbers-by : (e : Entry Val) (es : List (Entry Val)) → AreNumbers (e ∷ es) → AreNumbers (left es) → (b : Bool) →
+    AreNumbers (if b then left es else e ∷ es)
+numbers-by e es all more true = more
+numbers-by e es all more false = all
+
+numbers-left : (es : List (Entry Val)) → AreNumbers es → AreNumbers (left es)
+numbers-left [] all = tt
+numbers-left (e ∷ es) all = numbers-by e es all (numbers-left es all.1) (is_deleted e)
+
+numbers-ends : (es : List (Entry Val)) (e : Entry Val) (rest : List (Entry Val)) → EndsWith es e rest → AreNumbers es → AreNumbers (e ∷ rest)
+numbers-ends [] e rest at all = absurd at
+numbers-ends (x ∷ xs) e rest (inl same) all = subst (λ (ys : List (Entry Val)). AreNumbers ys) same all
+numbers-ends (x ∷ xs) e rest (inr at) all = numbers-ends xs e rest at all.1
+
+among-behind : (s : ℕ) (es : List (Entry Val)) (e : Entry Val) (rest : List (Entry Val)) → EndsWith es e rest → IsAmong s (e ∷ rest) → IsAmong s es
+among-behind s [] e rest at among = absurd at
+among-behind s (x ∷ xs) e rest (inl same) among = subst (λ (ys : List (Entry Val)). IsAmong s ys) (sym same) among
+among-behind s (x ∷ xs) e rest (inr at) among = inr (among-behind s xs e rest at among)
+
+module _ (k : ℕ) (others : List (Entry Val)) where
+  was-by : (s : ℕ) (whole : List (Entry Val)) (x : Entry Val) (ys : List (Entry Val)) → (IsAmong s others → IsAmong s whole) →
+      (e_in : x.slot ≡ s → IsAmong s whole) → (IsAmong s ys → IsAmong s whole) → (b : Bool) → IsAmong s (if b then others else x ∷ ys) → IsAmong s whole
+  was-by s whole x ys other here more true among = other among
+  was-by s whole x ys other here more false (inl is) = here is
+  was-by s whole x ys other here more false (inr there) = more there
+
+  spliced-was : (s : ℕ) (whole es : List (Entry Val)) → (IsAmong s others → IsAmong s whole) → (IsAmong s es → IsAmong s whole) →
+      IsAmong s (spliced k others es) → IsAmong s whole
+  spliced-was s whole [] other still among = absurd among
+  spliced-was s whole (x ∷ xs) other still among =
+      was-by s whole x (spliced k others xs) other (λ is. still (inl is)) (spliced-was s whole xs other (λ more. still (inr more))) (x.slot == k) among
+
+  spliced-by : (x : Entry Val) (xs ys : List (Entry Val)) → AreNumbers others → AreNumbers (x ∷ xs) → AreNumbers ys → (b : Bool) →
+      AreNumbers (if b then others else x ∷ ys)
+  spliced-by x xs ys other all more true = other
+  spliced-by x xs ys other all more false = (all.0, more)
+
+  numbers-spliced : (es : List (Entry Val)) → AreNumbers others → AreNumbers es → AreNumbers (spliced k others es)
+  numbers-spliced [] other all = tt
+  numbers-spliced (x ∷ xs) other all = spliced-by x xs (spliced k others xs) other all (numbers-spliced xs other all.1) (x.slot == k)
+
+-- ---- of a list the deleted entries behind one of its entries are let go of
+
+module _ (begins : ℕ → Type 0) (seconds : (c b : ℕ) → Type 0) (v : World Val) (outside : Claim → ℕ) (ledger : IsLedger holdings_of outside v)
+    (own : AreOwn begins seconds outside) (had : HasLists begins seconds v) (p c : ℕ) (its : begins c) (full : List (Entry Val)) (list : Begins v c full)
+    (numbers : AreNumbers full) (e : Entry Val) (rest : List (Entry Val)) (at : EndsWith full e rest) where
+  abbrev k : ℕ
+  k = link_of e.value
+
+  abbrev w : World Val
+  w = trimmed link_of v p k e.tag rest
+
+  abbrev now : List (Entry Val)
+  now = spliced e.slot (e ∷ left rest) full
+
+  here : AreLinked link_of v (e ∷ rest)
+  here = linked-ends link_of v full e rest at list.linked
+
+  behind : IsList link_of v k e.tag rest
+  behind = list-ends link_of v full e rest at list.linked
+
+  after : IsList link_of w k e.tag (left rest)
+  after = trimmed-list link_of v p k e.tag rest behind
+
+  new : Begins w c now
+  new = trimmed-around link_of v p e rest c no_tag full list at after
+
+  in-full : (s : ℕ) → IsAmong s (e ∷ rest) → IsAmong s full
+  in-full s among = among-behind s full e rest at among
+
+  values : w.values ≡ v.values
+  values = trim-values link_of v p k e.tag rest
+
+  value-was : (s : ℕ) (z : Val) → value_at w s ≡ Some z → value_at v s ≡ Some z
+  value-was s z is = ap (λ (vs : List (Option Val)). slice_index_or vs s None) (sym values) ∙ is
+
+  -- a cell that somebody outside has the right to, and the link of an item of no entry here
+  own-still : (b : ℕ) → 1 ≤ outside (right_to b) → entry_at w.cells b ≡ entry_at v.cells b
+  own-still b mine =
+      trim-other link_of v p k e.tag rest b (link-apart v outside ledger b e.slot e.value mine here.0.there) (apart-own v outside ledger b mine rest here.1)
+
+  link-still : (s : ℕ) (z : Val) → value_at v s ≡ Some z → (IsAmong s full → ⊥) → entry_at w.cells (link_of z) ≡ entry_at v.cells (link_of z)
+  link-still s z there not =
+      trim-other link_of v p k e.tag rest (link_of z)
+      (λ same. not (in-full s (inl (sym (links-apart v outside ledger s e.slot z e.value there here.0.there same)))))
+      (apart-item v outside ledger s z there rest here.1 (λ among. not (in-full s (inr among))))
+
+  forward : (b : ℕ) → begins b → b ≢ c → (gs : List (Entry Val)) → Begins v b gs → Begins w b gs
+  forward b x far gs begun = record {
+    begins = own-still b (own.first b x) ∙ begun.begins;
+    linked = linked-where v w values gs begun.linked
+        (λ s z among there. link-still s z there (λ also. far (had.apart b c s gs full x its begun list among also)));
+  }
+
+  from : (s : ℕ) → IsAmong s now → IsAmong s full ⊎ (IsListed begins v s → ⊥)
+  from s among =
+      inl (spliced-was e.slot (e ∷ left rest) s full full
+      (λ other. in-full s (elim other [ inl is ↦ inl is | inr more ↦ inr (left-was s rest more) ])) (λ still. still) among)
+
+  -- an entry is there still, or let go of
+  keeps : (s : ℕ) → IsAmong s (e ∷ rest) → IsAmong s (e ∷ left rest) ⊎ IsLetGo link_of w s
+  keeps s (inl is) = inl (inl is)
+  keeps s (inr there) = elim (trimmed-or link_of v p k e.tag rest behind s there) [ inl more ↦ inl (inr more) | inr gone ↦ inr gone ]
+
+  there-or-gone : (s : ℕ) → IsAmong s full → IsAmong s now ⊎ IsLetGo link_of w s
+  there-or-gone s among =
+      among-spliced link_of v w e rest e (left rest) refl values (trim-other link_of v p k e.tag rest)
+      (tail-cut link_of v p e rest full list.linked at after) s full list.linked at (keeps s) among
+
+  links : (s : ℕ) (z : Val) → value_at w s ≡ Some z → (held_in (entry_at w.cells (link_of z)) ≡ None) ⊎ (IsAmong s now
+      ⊎ ((other : IsListed begins v s) × (other.cell ≢ c)))
+  links s z is = elim (among-or s full) [
+    | inl among ↦ elim (there-or-gone s among) [
+      | inl stays ↦ inr (inl stays)
+      | inr gone ↦
+          (let both : Some gone.value ≡ Some z = sym gone.there ∙ is in
+          let same : gone.value ≡ z = cc in
+          inl (ap (λ (x : Val). held_in (entry_at w.cells (link_of x))) (sym same) ∙ ap held_in gone.bare))
+    ]
+    | inr not ↦
+        (let was = value-was s z is in elim (had.linked s z was) [
+          | inl none ↦ inl (ap held_in (link-still s z was not) ∙ none)
+          | inr other ↦
+              inr (inr (other, λ same. not (subst (λ (fs : List (Entry Val)). IsAmong s fs)
+              (same-list v c other.entries full (subst (λ (i : ℕ). Begins v i other.entries) same other.list) list) other.among)))
+        ])
+  ]
+
+  gone : StaysGone seconds v w
+  gone a b s y holds was = let-go-kept link_of v w s (gone-trimmed link_of v p k e.tag rest behind) was
+
+  -- where the list is a queue's, its second cell may hold one that is let go of
+  of-it : (b : ℕ) → seconds c b → HoldsEntry w b now
+  of-it b y =
+      let held = (had.second c b y).1 full list in
+      let cells : QueueCells = record { oldest = c; newest = b } in
+      let queue = trimmed-queue link_of v p e rest cells full held.second (record {
+        list = list;
+        newest = held.holds;
+        among = held.among;
+        two = own.two c c b its y;
+        apart = apart-own v outside ledger b (own.second c b y) full list.linked;
+      }) at after in
+      record { second = held.second; holds = queue.newest; among = queue.among }
+
+  pub has-cut : HasLists begins seconds w
+  has-cut =
+      has-changed begins seconds v w had c its (λ a b y. own-still b (own.second a b y)) gone full now list new
+      (numbers-spliced e.slot (e ∷ left rest) full
+      (let tail = numbers-ends full e rest at numbers in (tail.0, numbers-left rest tail.1)) numbers) of-it forward from links
+
+-- ---- what is behind an item
+
+module _ (d : ScriptState) (s : IsSound d) (i : ℕ) (v : Val) (there : value_at d.world (slot_at d i) ≡ Some v) where
+  taken-is : (x : Option CellContents) → is_some x ≡ true → (cell : CellContents) × (x ≡ Some cell)
+  taken-is None never = absurd (let wrong : false ≡ true = never in cc)
+  taken-is (Some cell) taken = (cell, refl)
+
+  link-there : (cell : CellContents) × (entry_at d.world.cells (link_of v) ≡ Some cell)
+  link-there =
+      let inner = link-inside d.world (λ u. named d u + contained d u) s.ledger (slot_at d i) v there in
+      taken-is (entry_at d.world.cells (link_of v))
+      (once-waits (is_some (entry_at d.world.cells (link_of v))) (omega (arith, s.ledger (right_to (link_of v)), inner)))
+
+  -- there is such a list, which may be empty
+  pub behind-there : (t : Tag) × (es : List (Entry Val)) × IsBehind d i (link_of v) t es
+  behind-there = elim (s.lists.linked (slot_at d i) v there) [
+    | inl none ↦
+        (let cell = link-there in
+        let bare : cell.0.held ≡ None = sym (ap held_in cell.1) ∙ none in
+        let begins : entry_at d.world.cells (link_of v) ≡ Some (record { held = None; tag = cell.0.tag }) =
+        cell.1 ∙ ap (λ (x : Option ℕ). let c : CellContents = record { held = x; tag = cell.0.tag } in Some c) bare in
+        (cell.0.tag, [], record { entry = v; there = there; link = refl; list = record { begins = begins; linked = tt } }))
+    | inr at ↦
+        (let found = among-link d.world (slot_at d i) v at.entries at.list.linked at.among there in
+        let list = list-ends link_of d.world at.entries found.0 found.1 found.2 at.list.linked in
+        (
+          found.0.tag,
+          found.1,
+          record {
+            entry = v;
+            there = there;
+            link = refl;
+            list = subst (λ (x : Val). IsList link_of d.world (link_of x) found.0.tag found.1) found.4 list;
+          },
+        ))
+  ]
+
+-- the first of some entries is there
+pub first-there : (w : World Val) (es : List (Entry Val)) → AreLinked link_of w es → (s : ℕ) → first_slot es ≡ Some s → is_some (value_at w s) ≡ true
+first-there w [] linked s is = absurd (cc)
+first-there w (e ∷ es) linked s is = let same : e.slot ≡ s = cc in ap (λ (j : ℕ). is_some (value_at w j)) (sym same) ∙ ap is_some linked.0.there
+
+-- ---- the line
+
+module _ (d : ScriptState) (s : IsSound d) (whole : IsWhole d.world) (p : ℕ) (live : IsPlaceOf d.world p) (i k : ℕ) (t : Tag) (es : List (Entry Val))
+    (is : IsBehind d i k t es) where
+  abbrev w_after : World Val
+  w_after = trimmed link_of d.world p k t es
+
+  start : IsMidway d d.world (named d)
+  start = starts d s whole
+
+  no-entry : (xs : List (Entry Val)) → first_slot xs ≡ None → xs ≡ []
+  no-entry [] none = refl
+  no-entry (x ∷ xs) none = absurd (cc)
+
+  lists-after : HasLists (IsListCell d) (IsSecondCell d) w_after
+  lists-after = elim (s.lists.linked (slot_at d i) is.entry is.there) [
+    | inl none ↦
+        (let bare : first_slot es ≡ None = sym (ap held_in (ap (λ (j : ℕ). entry_at d.world.cells j) is.link ∙ is.list.begins)) ∙ none in
+        subst (λ (xs : List (Entry Val)). HasLists (IsListCell d) (IsSecondCell d) (trimmed link_of d.world p k t xs)) (sym (no-entry es bare)) s.lists)
+    | inr listed ↦
+        (let found = among-link d.world (slot_at d i) is.entry listed.entries listed.list.linked listed.among is.there in
+        let e : Entry Val = found.0 in
+        let rest : List (Entry Val) = found.1 in
+        let here = linked-ends link_of d.world listed.entries e rest found.2 listed.list.linked in
+        let link : link_of e.value ≡ k = ap link_of found.4 ∙ is.link in
+        let cells : Some (record { held = first_slot rest; tag = e.tag }) ≡ Some (record { held = first_slot es; tag = t }) =
+        sym here.0.linked ∙ ap (λ (j : ℕ). entry_at d.world.cells j) link ∙ is.list.begins in
+        let tails : rest ≡ es = unique d.world rest es here.1 is.list.linked (ap held_in cells) in
+        let first = s.lists.lists listed.cell listed.begun in
+        let numbers : AreNumbers listed.entries =
+        subst (λ (fs : List (Entry Val)). AreNumbers fs) (same-list d.world listed.cell first.0 listed.entries first.1 listed.list) first.2 in
+        let cut = has-cut (IsListCell d) (IsSecondCell d) d.world (λ u. named d u + contained d u) start.ledger (own-midway start) s.lists p listed.cell
+        listed.begun listed.entries listed.list numbers e rest found.2 in
+        let same : trimmed link_of d.world p (link_of e.value) e.tag rest ≡ w_after =
+        ap (λ (j : ℕ). trimmed link_of d.world p j e.tag rest) link ∙ ap (λ (u : Tag). trimmed link_of d.world p k u rest) (ap tag_in cells)
+        ∙ ap (λ (xs : List (Entry Val)). trimmed link_of d.world p k t xs) tails in
+        subst (λ (u : World Val). HasLists (IsListCell d) (IsSecondCell d) u) same cut)
+  ]
+
+  abbrev pub after_next : List ℕ → ScriptState
+  after_next dates = record (in_world d w_after) { dates = dates }
+
+  pub next-leaves : (dates : List ℕ) → IsDatedWithin d (after_next dates) → LeavesSound d (after_next dates)
+  next-leaves dates within =
+      let m = midway (front-goes d.world (between start) p k t live es is.list) lists-after in
+      finishes d w_after d.owners d.cells d.collectors dates s m
+      (λ u. refl) (s.home.owners, s.home.cells, s.home.collectors) (dated-all d (after_next dates) s.stocked m.frames.slots.slots within) p live
