@@ -149,7 +149,8 @@ module _ {T : Type 0} (link : T → ℕ) where
     queue-of-by q es second queue at true kept = retagged-queue w e rest to plain (kept refl) q es second queue at
     queue-of-by q es second queue at false kept = queue
 
-    pub queue-of : ((x : Tag) → says x ≡ true → x ≢ tag.Second) → (q : QueueCells) (es : List (Entry T)) (second : Option ℕ) → IsQueue link w q es second → EndsWith es e rest →
+    pub queue-of : ((x : Tag) → says x ≡ true → x ≢ tag.Second) → (q : QueueCells) (es : List (Entry T)) (second : Option ℕ) →
+        IsQueue link w q es second → EndsWith es e rest →
         IsQueue link new q (if b then retagged e.slot to es else es) second
     queue-of keeps q es second queue at =
         subst (λ (x : World T). IsQueue link x q (if b then retagged e.slot to es else es) second)
@@ -183,8 +184,8 @@ module _ {T : Type 0} (link : T → ℕ) where
     )
     list-by-answer c t es list e rest at same (Err why) is = is
 
-    pub queue-by-answer : ((x : Tag) → says x ≡ true → x ≢ tag.Second) → (q : QueueCells) (es : List (Entry T)) (second : Option ℕ) → IsQueue link w q es second → (e : Entry T)
-        (rest : List (Entry T)) → EndsWith es e rest → e.value ≡ v → (r : Result Bool Refused) → Retags r →
+    pub queue-by-answer : ((x : Tag) → says x ≡ true → x ≢ tag.Second) → (q : QueueCells) (es : List (Entry T)) (second : Option ℕ) →
+        IsQueue link w q es second → (e : Entry T) (rest : List (Entry T)) → EndsWith es e rest → e.value ≡ v → (r : Result Bool Refused) → Retags r →
         IfOk r (λ b. IsQueue link new q (if b then retagged e.slot to es else es) second)
     queue-by-answer keeps q es second queue e rest at same (Ok b) is =
         queue-of w new v e rest to plain says b is.0 (there-of is.0 is.1) is.2 (made-of b is.0 is.3) same keeps q es second queue at

@@ -97,7 +97,8 @@ module _ (h : Environment) (t : IsTied h) (whole : IsWhole h.world) (name : Plac
   place-is = acts.is h t whole name a there
 
   -- one more stack has a name
-  one-stack_more : (stacks : Vec (Option (Stack Body))) (x : Stack Body) → home_in x ≡ h.world.home.cells → stacks.items ≡ h.stacks.entries.items ++ Some x ∷ [] →
+  one-stack_more : (stacks : Vec (Option (Stack Body))) (x : Stack Body) → home_in x ≡ h.world.home.cells →
+      stacks.items ≡ h.stacks.entries.items ++ Some x ∷ [] →
       map (option_map stack_holding) stacks.items ≡ (desk_of h).stacks ++ Some (holding.atomic_shared (cell_in x) h.world.home.cells) ∷ []
   one-stack_more stacks x home pushed =
       stacks-more h stacks x pushed ∙ ap (λ z. (desk_of h).stacks ++ Some (holding.atomic_shared (cell_in x) z) ∷ []) home
@@ -138,8 +139,7 @@ module _ (h : Environment) (t : IsTied h) (whole : IsWhole h.world) (name : Plac
       acts-poured w stacks y r free world home pushed named =
           let more = one-stack_more stacks y home pushed in
           leads h t (At name (call.All s g)) (reply.Stack r) refl (cc (world, more))
-          (poured-leaves (desk_of h) t.sound whole p (cell_in x) (cell_in y) live s.0 es is free)
-          (
+          (poured-leaves (desk_of h) t.sound whole p (cell_in x) (cell_in y) live s.0 es is free) (
             (valid, is-stack h s.0 x mine),
             (named ∙ sym (length-map h.stacks.entries.items (option_map stack_holding)), (cell_in x, es, cell_in y, is, free, refl)),
           )

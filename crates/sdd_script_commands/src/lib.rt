@@ -1,6 +1,6 @@
 //! What participants of a script do: how they come and go, what they do with guards, with items and their owners, with items in their place and out as raw,
-//! with cells and the owners that they hold, with the links of entries, with queues and stacks, what they put among the entries of containers, take out and are told of, and
-//! with collectors; and the end of a script's world.
+//! with cells and the owners that they hold, with the links of entries and what is behind them, with queues and stacks, what they put among the entries of
+//! containers, take out and are told of, and with collectors; and the end of a script's world.
 #![tactic(auto)]
 
 pub mod cells;

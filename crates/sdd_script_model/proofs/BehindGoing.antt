@@ -167,8 +167,11 @@ module _ (begins : ℕ → Type 0) (seconds : (c b : ℕ) → Type 0) (v : World
         (let was = value-was s z is in elim (had.linked s z was) [
           | inl none ↦ inl (ap held_in (link-still s z was not) ∙ none)
           | inr other ↦
-              inr (inr (other, λ same. not (subst (λ (fs : List (Entry Val)). IsAmong s fs)
-              (same-list v c other.entries full (subst (λ (i : ℕ). Begins v i other.entries) same other.list) list) other.among)))
+              inr (inr (
+                other,
+                λ same. not (subst (λ (fs : List (Entry Val)). IsAmong s fs)
+                    (same-list v c other.entries full (subst (λ (i : ℕ). Begins v i other.entries) same other.list) list) other.among),
+              ))
         ])
   ]
 
@@ -219,8 +222,7 @@ module _ (d : ScriptState) (s : IsSound d) (i : ℕ) (v : Val) (there : value_at
         (cell.0.tag, [], record { entry = v; there = there; link = refl; list = record { begins = begins; linked = tt } }))
     | inr at ↦
         (let found = among-link d.world (slot_at d i) v at.entries at.list.linked at.among there in
-        let list = list-ends link_of d.world at.entries found.0 found.1 found.2 at.list.linked in
-        (
+        let list = list-ends link_of d.world at.entries found.0 found.1 found.2 at.list.linked in (
           found.0.tag,
           found.1,
           record {

@@ -238,7 +238,8 @@ among-or s (e ∷ es) = elim (cases_eq e.slot s) [
 
 module _ (begins : ℕ → Type 0) (seconds : (c b : ℕ) → Type 0) (v : World Val) (outside : Claim → ℕ) (ledger : IsLedger holdings_of outside v)
     (own : AreOwn begins seconds outside) (had : HasLists begins seconds v) (k : ℕ) (x : Val) (there : value_at v k ≡ Some x)
-    (cell now : CellContents) (holds : entry_at v.cells (link_of x) ≡ Some cell) (same : now.held ≡ cell.held) (plain : now.tag ≢ Both) (kept : cell.tag ≢ Second) where
+    (cell now : CellContents) (holds : entry_at v.cells (link_of x) ≡ Some cell) (same : now.held ≡ cell.held) (plain : now.tag ≢ Both)
+    (kept : cell.tag ≢ Second) where
   abbrev tagged : World Val
   tagged = with_cell v (link_of x) now
 

@@ -250,7 +250,8 @@ module _ {v w : World Val} {ins outs : Claim → ℕ} (move : Moves holdings_of 
 -- ---- one list changes
 
 module _ (begins : ℕ → Type 0) (seconds : (c b : ℕ) → Type 0) (v w : World Val) (had : HasLists begins seconds v) (c : ℕ) (its : begins c)
-    (stays : (a b : ℕ) → seconds a b → entry_at w.cells b ≡ entry_at v.cells b) (gone : StaysGone seconds v w) (es now : List (Entry Val)) (old : Begins v c es) (new : Begins w c now) (numbers : AreNumbers now)
+    (stays : (a b : ℕ) → seconds a b → entry_at w.cells b ≡ entry_at v.cells b) (gone : StaysGone seconds v w)
+    (es now : List (Entry Val)) (old : Begins v c es) (new : Begins w c now) (numbers : AreNumbers now)
     (of_it : (b : ℕ) → seconds c b → HoldsEntry w b now)
     (forward : (b : ℕ) → begins b → b ≢ c → (gs : List (Entry Val)) → Begins v b gs → Begins w b gs)
     (from : (s : ℕ) → IsAmong s now → IsAmong s es ⊎ (IsListed begins v s → ⊥)) where

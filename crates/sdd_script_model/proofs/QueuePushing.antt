@@ -322,7 +322,8 @@ module _ (d : ScriptState) (s : IsSound d) (whole : IsWhole d.world) (p : ℕ) (
       (λ fs list. record {
         second = Some k;
         holds = puts.pushed.queue.newest;
-        among = subst (λ (gs : List (Entry Val)). IsSecond link_of w (Some k) gs) (same-list w q.oldest now fs puts.pushed.queue.list list) puts.pushed.queue.among;
+        among = subst (λ (gs : List (Entry Val)). IsSecond link_of w (Some k) gs) (same-list w q.oldest now fs puts.pushed.queue.list list)
+            puts.pushed.queue.among;
       })
 
   pub enqueued-leaves : IsDatedWithin d after_enqueued → LeavesSound d after_enqueued

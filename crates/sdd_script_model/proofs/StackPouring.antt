@@ -74,9 +74,11 @@ module _ (begins more : ℕ → Type 0) (seconds : (c b : ℕ) → Type 0) (v : 
   lists-now b (inl x) (inl same) = ([], subst (λ (i : ℕ). Begins w i []) (sym same) empty, tt)
   lists-now b (inl x) (inr far) = let first = had.lists b x in (first.0, stays b far first.0 first.1, first.2)
   lists-now b (inr same) other =
-      let first = had.lists c its in
-      (es, subst (λ (i : ℕ). Begins w i es) (sym same) all,
-        subst (λ (gs : List (Entry Val)). AreNumbers gs) (same-list v c first.0 es first.1 list) first.2)
+      let first = had.lists c its in (
+        es,
+        subst (λ (i : ℕ). Begins w i es) (sym same) all,
+        subst (λ (gs : List (Entry Val)). AreNumbers gs) (same-list v c first.0 es first.1 list) first.2,
+      )
 
   -- in which list an entry was
   pub record Was (b s : ℕ) : Type 0 where
@@ -181,8 +183,8 @@ module _ (begins more : ℕ → Type 0) (seconds : (c b : ℕ) → Type 0) (v : 
 
 -- ---- the line
 
-module _ (d : ScriptState) (s : IsSound d) (whole : IsWhole d.world) (p c k : ℕ) (live : IsPlaceOf d.world p) (n : ℕ) (es : List (Entry Val)) (is : IsStack d n c es)
-    (free : IsEmptyAt d.world.cells k) where
+module _ (d : ScriptState) (s : IsSound d) (whole : IsWhole d.world) (p c k : ℕ) (live : IsPlaceOf d.world p) (n : ℕ)
+    (es : List (Entry Val)) (is : IsStack d n c es) (free : IsEmptyAt d.world.cells k) where
   abbrev new_cell : OwnerOrCell
   new_cell = holding.atomic_shared k d.world.home.cells
 

@@ -24,6 +24,7 @@ returns-in-None-clause-list g c = λ e t es v list fresh.
       | inl none ↦ absurd (let never : tag.Second ≡ tag.None = sym same ∙ tags ∙ none in cc)
       | inr first ↦ absurd (let never : tag.Second ≡ tag.First = sym same ∙ tags ∙ first in cc)
     ] in
-    let put = subst (λ (y : World _). IsList link y cell t es → IsFresh link y slot v cell es → t ≢ tag.Second → IsLinkedBehind link y cell c.tag_of_mark.result es slot v new)
+    let put = subst (λ (y : World _). IsList link y cell t es → IsFresh link y slot v cell es → t ≢ tag.Second →
+    IsLinkedBehind link y cell c.tag_of_mark.result es slot v new)
     (c.tag.ensures.exact e).0 (c.put_behind_link.ensures.list ex t es v) in
     subst (λ (x : Tag). IsLinkedBehind link w cell x es slot v new) c.tag_of_mark.ensures (put list fresh kept)
