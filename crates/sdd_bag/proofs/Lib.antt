@@ -19,3 +19,4 @@ pub mod Loans
 pub mod Fields
 pub mod Keys
 pub mod Nothing
+pub mod Gaps

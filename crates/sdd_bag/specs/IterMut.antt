@@ -19,6 +19,11 @@ use Rattle.sdd_bag.specs.Bag.{BagParts, HasSameCells, IsBag, primary_of, values_
 use Rattle.sdd_bag.specs.Lent.{AwaitsValue}
 use Rattle.sdd_bag.specs.Spots.{HasFirst, StandsIn, places_of, start_behind, start_of, values_before, whole_at}
 
+-- how many places of the storage where it is are passed
+abbrev pub passed : {T : Type 0} → ℕ → Option T → ℕ
+passed at None = at
+passed at (Some v) = suc at
+
 module _ {T B S : Type 0} {len : ℕ} where
   -- the reference to the bag, by its name
   abbrev pub bag_name : IterMut T len B S → GName
@@ -27,11 +32,6 @@ module _ {T B S : Type 0} {len : ℕ} where
   -- the bag as the cursor leaves it: with the value in its place that it has lent
   abbrev pub whole : IterMut T len B S → BagParts T B
   whole it = whole_at it.behind it.gap it.at it.held it.bag.now
-
-  -- how many places of the storage where it is are passed
-  abbrev pub passed : ℕ → Option T → ℕ
-  passed at None = at
-  passed at (Some v) = suc at
 
   -- how many values it has given
   abbrev pub given : IterMut T len B S → ℕ
@@ -75,12 +75,12 @@ module _ {T B S : Type 0} {len : ℕ} where
       pub same : HasSameBag old new
       pub none : new.held ≡ None
       pub bag : whole new ≡ whole old
-      pub given : given new ≡ given old
+      pub as_many : given new ≡ given old
 
     -- it has lent the value that is next, and will leave this one in its place; all else in the bag is as before
     pub record Lends (v w : T) (old new : IterMut T len B S) : Type 0 where
       pub same : HasSameBag old new
-      pub given : given new ≡ suc (given old)
+      pub one_more : given new ≡ suc (given old)
       pub was : slice_get (values_of (whole old)) (given old) ≡ Some v
       pub values : values_of (whole new) ≡ slice_set (values_of (whole old)) (given old) w
       pub inside : length (primary_of (whole new)) ≡ length (primary_of (whole old))

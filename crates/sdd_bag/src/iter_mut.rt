@@ -177,20 +177,20 @@ impl<
         requires cursor { IsCursor B.shown S.seat S.world self }
         ensures bag { self.exit.0.now ≡ whole self.entry }
     {
-        let mut it = self;
-        it.put_back();
         let IterMut {
-            bag: _,
+            bag,
             shelves: _,
-            behind: _,
-            at: _,
-            gap: _,
+            behind,
+            at,
+            gap,
             held,
-            fits: _,
-        } = it;
+            fits,
+        } = self;
+        let mut fits = fits;
+        fits.tell();
         match held {
+            Some(value) => bag.put_at(&behind, at, gap, value),
             None => {}
-            Some(_) => unreachable!(),
         }
     }
 }
