@@ -131,3 +131,11 @@ module _ {T : Type 0} where
   empty-first len start at ps (inl first) none =
       λ k far near. let same : start + k ≡ k = omega (arith, first) in ap (λ (j : ℕ). is_some (value_at ps j)) same ∙ none k near
   empty-first len start at ps (inr behind) none = absurd (behind.1 none)
+
+  -- the array is where it was, whatever its places have
+  pub array-kept : (len start : ℕ) (names : List PlaceName) (ps qs : List (KeptPlace T)) → names_of qs ≡ names_of ps → IsArrayAt len start names ps
+      → IsArrayAt len start names qs
+  array-kept len start names ps qs same is = record {
+    long = is.long;
+    keys = λ k name there. ap (λ (ns : List PlaceName). slice_get ns (start + k)) same ∙ is.keys k name there;
+  }

@@ -251,6 +251,8 @@ impl<T, const LEN: usize> StorageKeys<T, LEN> {
             ((self.new ≡ self.old) × AreEmptyFrom LEN start at self.old)
             (λ r. (at < LEN) × TakesOut LEN r.1 (start + at) r.0 self.old self.new) }
     {
+        // Once a field is looked at, what is always so of the keys is known: an array has 1 to 32 places.
+        let _ = &self.count;
         if self.count_from(start) <= at {
             return None;
         }
