@@ -20,3 +20,4 @@ pub mod Fields
 pub mod Keys
 pub mod Nothing
 pub mod Gaps
+pub mod Spots

@@ -2,6 +2,7 @@
 ghost use Rattle.std.specs.Prelude.{◌≡◌, ◌+◌, ◌^◌, ◌<◌, ◌≤◌, All, List, MatchOption, MatchResult, [], length};
 ghost use Rattle.sdd_bag.specs.Closing.{values_given};
 ghost use Rattle.sdd_bag.specs.Primary.{PrimaryParts, held_by};
+ghost use Rattle.sdd_bag.specs.Storage.{names_of};
 ghost use Rattle.sdd_bag.specs.Values.{AreInSomeOrder, HasOneMore};
 ghost use Rattle.sdd_rights.specs.Right.{number_of, home_of, kind_of};
 ghost use Rattle.sdd_space.specs.CallerId.{IsSeated, IsExact};
@@ -100,6 +101,7 @@ impl<T, const ARRAY_LEN: usize> Primary<T, ARRAY_LEN> {
     /// comes with the value.
     pub(crate) fn take_out(&mut self, at: usize) -> Option<(T, usize)>
         ensures storage { self.new.storage ≡ self.old.storage }
+        ensures names { names_of self.new.places ≡ names_of self.old.places }
         ensures out { MatchOption result
             ((self.new ≡ self.old) × AreEmptyFrom ARRAY_LEN 0 at self.old.places)
             (λ r. (at < ARRAY_LEN) × TakesOut ARRAY_LEN r.1 (0 + at) r.0 self.old.places self.new.places) }
