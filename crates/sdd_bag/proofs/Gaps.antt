@@ -139,3 +139,10 @@ module _ {T : Type 0} where
     long = is.long;
     keys = λ k name there. ap (λ (ns : List PlaceName). slice_get ns (start + k)) same ∙ is.keys k name there;
   }
+
+  pub first-filled : (len count arrays : ℕ) (ps : List (KeptPlace T)) → AreCounted len count arrays ps → ¬ (AreEmpty len ps)
+      → is_some (value_at ps 0) ≡ true
+  first-filled len count arrays ps are some = elim (cases_lt 0 count) [
+    | inl more ↦ sym (are.counted 0 are.some) ∙ lt-ltb 0 count more
+    | inr none ↦ absurd (some (λ k near. sym (are.counted k near) ∙ le-ltb k count (omega (arith, none))))
+  ]

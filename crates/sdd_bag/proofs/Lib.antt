@@ -21,3 +21,7 @@ pub mod Keys
 pub mod Nothing
 pub mod Gaps
 pub mod Spots
+pub mod Numbers
+pub mod Whole
+pub mod Cursors
+pub mod Entering

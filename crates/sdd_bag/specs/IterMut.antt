@@ -1,5 +1,5 @@
 -- Where a cursor over a bag's values is, and what it leaves of the bag
-use Rattle.std.specs.Prelude.{ℕ, ◌≡◌, ◌+◌, ◌^◌, ◌<◌, suc, List, [], Option, None, Some, IfSome, Result, drop, length, slice_get, slice_set}
+use Rattle.std.specs.Prelude.{ℕ, ◌≡◌, ◌+◌, ◌^◌, ◌<◌, ◌≤◌, suc, List, [], Option, None, Some, IfSome, MatchOption, Result, drop, is_some, length, slice_get, slice_set, true}
 use Rattle.std.specs.Borrow.{Fml, GName, LendsSo, MutBor, RattleType, RestsIfErr}
 use mir.Syntax.{named}
 use denote.Param.{value_of}
@@ -12,12 +12,12 @@ use Rattle.sdd_lists.specs.Walk.{shown_of}
 use Rattle.sdd_bag.specs.declared.iter_mut.IterMut.{IterMut}
 use Rattle.sdd_bag.specs.contracts.bag.Bag as bag
 use Rattle.sdd_bag.specs.contracts.iter_mut.IterMut as iter
-use Rattle.sdd_bag.specs.Storage.{names_of}
+use Rattle.sdd_bag.specs.Storage.{names_of, value_at}
 use Rattle.sdd_bag.specs.Storages.{StorageName}
 use Rattle.sdd_bag.specs.Overflow.{AreShelves, LiesOn, places_on}
 use Rattle.sdd_bag.specs.Bag.{BagParts, HasSameCells, IsBag, primary_of, values_of}
-use Rattle.sdd_bag.specs.Lent.{AwaitsValue}
-use Rattle.sdd_bag.specs.Spots.{HasFirst, StandsIn, places_of, start_behind, start_of, values_before, whole_at}
+use Rattle.sdd_bag.specs.Lent.{AreEmptyFrom, AwaitsValue}
+use Rattle.sdd_bag.specs.Spots.{HasFirst, IsInOrder, StandsIn, places_of, start_behind, start_of, values_before, whole_at}
 
 -- how many places of the storage where it is are passed
 abbrev pub passed : {T : Type 0} → ℕ → Option T → ℕ
@@ -41,6 +41,15 @@ module _ {T B S : Type 0} {len : ℕ} where
   abbrev pub space_in : IterMut T len B S → S
   space_in it = space_of it.shelves
 
+  -- the place where it is has a value
+  pub record HasHere (it : IterMut T len B S) : Type 0 where
+    pub inside : it.at < len
+    pub full : is_some (value_at (places_of it.behind it.bag.now) (start_of it.behind + it.at)) ≡ true
+
+  -- no place of the storage has a value, from that one on where it is
+  abbrev pub IsPassed : IterMut T len B S → Type 0
+  IsPassed it = AreEmptyFrom len (start_of it.behind) it.at (places_of it.behind it.bag.now)
+
   -- the value that is lent is out of its place
   pub record IsLent (it : IterMut T len B S) : Type 0 where
     pub inside : it.at < len
@@ -57,10 +66,12 @@ module _ {T B S : Type 0} {len : ℕ} where
     -- it goes over a bag that is in the world of its space, as soon as the value that is lent is back
     pub record IsCursor (it : IterMut T len B S) : Type 0 where
       pub bag : IsBag shown len (world (space_in it)) (whole it)
+      pub order : IsInOrder len (whole it)
       pub exact : IsExact (seat (space_in it))
       pub can : IsIterOf (seat (space_in it)).home.cells it.shelves
       pub stands : StandsIn shown len it.behind it.bag.now
       pub first : HasFirst len it.behind (whole it)
+      pub room : it.at ≤ len
       pub lent : IfSome it.held (λ v. IsLent it)
       pub left : (es : List (Entry (LinkedEntry B))) × AreLeft it es
 
@@ -104,4 +115,4 @@ abbrev pub LendsNext : (T N B S : RattleType) → (B.Denot → Option StorageNam
 LendsNext T N B S shown seat world it r =
     LendsSo (iter.the_row (record { mir = named 1; lft = [] }) T N B S) T it r
     (λ n w. IfSome r (λ v. Lends shown seat world v.now w it.now n))
-    (λ n. Ends shown seat world it.now n)
+    (λ n. MatchOption r (Ends shown seat world it.now n) (λ v. Unit {0}))

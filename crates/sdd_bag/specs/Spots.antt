@@ -1,7 +1,7 @@
 -- Where a cursor is in a bag
-use Rattle.std.specs.Prelude.{ℕ, ◌≡◌, ◌⊎◌, ◌+◌, ◌≤◌, List, Option, None, Some, length, take}
+use Rattle.std.specs.Prelude.{ℕ, ◌≡◌, ◌⊎◌, ◌+◌, ◌<◌, ◌≤◌, List, Option, None, Some, is_some, length, take, true}
 use Rattle.sdd_bag.specs.declared.behind.Behind.{Behind}
-use Rattle.sdd_bag.specs.Storage.{AreEmpty, KeptPlace, StandInFront, values_in}
+use Rattle.sdd_bag.specs.Storage.{AreEmpty, KeptPlace, StandInFront, value_at, values_in}
 use Rattle.sdd_bag.specs.Storages.{StorageName}
 use Rattle.sdd_bag.specs.Bag.{BagParts, primary_of}
 use Rattle.sdd_bag.specs.Lent.{IsArrayAt, with_lent}
@@ -67,6 +67,12 @@ module _ {B : Type 0} where
       abbrev pub StandsIn : Option (Behind B) → BagParts T B → Type 0
       StandsIn None bag = Unit {0}
       StandsIn (Some b) bag = IsAmong b bag.overflow.places
+
+    -- its own array has so many places, and the first place of the first one behind has a value if any of its places has
+    pub record IsInOrder (len : ℕ) (bag : BagParts T B) : Type 0 where
+      pub some : 0 < len
+      pub long : length bag.primary.places ≡ len
+      pub fills : ¬ (AreEmpty len bag.overflow.places) → is_some (value_at bag.overflow.places 0) ≡ true
 
     -- the first storage behind the bag's own has a value, if it is in one of these
     abbrev pub HasFirst : ℕ → Option (Behind B) → BagParts T B → Type 0

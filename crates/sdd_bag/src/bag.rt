@@ -14,7 +14,7 @@ ghost use Rattle.sdd_lists.specs.Lists.{Entry};
 ghost use Rattle.sdd_lists.specs.Iter.{GivesInOrder, IsIterOf, space_of};
 ghost use Rattle.sdd_lists.specs.Walk.{shown_of};
 ghost use Rattle.sdd_bag.specs.Lent.{AreEmptyFrom, AwaitsValue, TakesOut};
-ghost use Rattle.sdd_bag.specs.Spots.{HasFirst, StandsIn, places_of, start_of, whole_at, with_places};
+ghost use Rattle.sdd_bag.specs.Spots.{HasFirst, IsInOrder, StandsIn, places_of, start_of, whole_at, with_places};
 ghost use Rattle.sdd_lists.specs.Stack.{IsStack, cell_in, home_in};
 ghost use Rattle.sdd_space.specs.OwnerOrCell.{AreOf};
 ghost use Rattle.sdd_bag.specs.Closing.{AreBeside, ClosesBag, EmptiesStorages};
@@ -485,6 +485,14 @@ impl<T, const ARRAY_LEN: usize, B: Shelf<T, ARRAY_LEN>> Bag<T, ARRAY_LEN, B> {
                 self.keys.put_back(first, behind.start, here, at, gap, value)
             }
         }
+    }
+
+    /// A law, which does nothing when the program runs: the values of each array are in its first places.
+    pub(crate) fn lies_in_order(&self)
+        ensures { IsInOrder ARRAY_LEN self.now }
+    {
+        self.primary.has_all_places();
+        self.keys.fill_in_order();
     }
 
     /// The shelves of the storages behind the bag's own, where no guard is open.

@@ -1,12 +1,10 @@
 //! The values of a bag, lent one by one to be changed in their places.
-ghost use Rattle.std.specs.Prelude.{◌≡◌, ◌+◌, ◌^◌, ◌<◌, IfErr, IfOk, IsTrue, List, MatchOption, MatchResult, None, Some, false, is_some, length, slice_get, true};
+ghost use Rattle.std.specs.Prelude.{◌≡◌, ◌^◌, ◌<◌, IfOk, IsTrue, MatchOption, MatchResult, None, Some, false, length, slice_get};
 ghost use Rattle.sdd_space.specs.CallerId.{IsExact};
 ghost use Rattle.sdd_space.specs.World.{AnyGuardOpen};
 ghost use Rattle.sdd_lists.specs.Stack.{home_in};
 ghost use Rattle.sdd_bag.specs.Bag.{IsBag, values_of};
-ghost use Rattle.sdd_bag.specs.Lent.{AreEmptyFrom};
-ghost use Rattle.sdd_bag.specs.Storage.{value_at};
-ghost use Rattle.sdd_bag.specs.Spots.{places_of, start_of};
+ghost use Rattle.sdd_bag.specs.Spots.{start_of};
 
 use crate::bag::Bag;
 use crate::behind::{Behind, go_on};
@@ -57,6 +55,7 @@ impl<T, const ARRAY_LEN: usize, B: Shelf<T, ARRAY_LEN>> Bag<T, ARRAY_LEN, B> {
         if s.is_guarded() {
             return Err(Refused::GuardOpen);
         }
+        self.lies_in_order();
         let shelves = self.shelves(s);
         Ok(IterMut {
             bag: self,
@@ -78,7 +77,7 @@ impl<
     S: Items<LinkedEntry<B>> + HeldItems<LinkedEntry<B>>,
 > IterMut<'b, T, ARRAY_LEN, B, S> {
     ghost use Rattle.std.specs.Borrow.{sem};
-    ghost use Rattle.sdd_bag.specs.IterMut.{Ends, IsCursor, Lends, LendsNext, Rests, given, whole};
+    ghost use Rattle.sdd_bag.specs.IterMut.{Ends, HasHere, IsCursor, IsPassed, Lends, LendsNext, Rests, bag_name, given, whole};
 
     /// The value that is lent, if any, goes back into its place.
     fn put_back(&mut self)
@@ -112,8 +111,8 @@ impl<
         ensures few { start_of self.new.behind < 2 ^ 120 }
         ensures lent { IsTrue result → (v : T) × (self.new.held ≡ Some v) ×
             ((w : T) → Lends B.shown S.seat S.world v w self.old (record self.new { held = Some w })) }
-        ensures passed { result ≡ false → Rests B.shown S.seat S.world self.old self.new ×
-            AreEmptyFrom ARRAY_LEN (start_of self.new.behind) self.new.at (places_of self.new.behind self.new.bag.now) }
+        ensures rests { result ≡ false → Rests B.shown S.seat S.world self.old self.new }
+        ensures passed { result ≡ false → IsPassed self.old × IsPassed self.new }
     {
         self.fits.tell();
         match self.bag.take_at(&self.behind, self.at) {
@@ -130,10 +129,9 @@ impl<
         requires cursor { IsCursor B.shown S.seat S.world self.old }
         requires none { self.old.held ≡ None }
         requires few { start_of self.old.behind < 2 ^ 120 }
-        requires passed { AreEmptyFrom ARRAY_LEN (start_of self.old.behind) self.old.at (places_of self.old.behind self.old.bag.now) }
+        requires passed { IsPassed self.old }
         ensures rests { Rests B.shown S.seat S.world self.old self.new }
-        ensures first { IsTrue result → (self.new.at < ARRAY_LEN) ×
-            (is_some (value_at (places_of self.new.behind self.new.bag.now) (start_of self.new.behind + self.new.at)) ≡ true) }
+        ensures first { IsTrue result → HasHere self.new }
         ensures all { result ≡ false → given self.old ≡ length (values_of (whole self.old)) }
     {
         let Some(shelf) = self.shelves.next() else {
@@ -172,10 +170,11 @@ impl<
         self.held.as_mut()
     }
 
-    /// Ends the cursor. The value that was lent last goes back into its place.
-    pub fn close(self)
+    /// Ends the cursor: the value that was lent last goes back into its place, and the bag comes back.
+    pub fn close(self) -> &'b mut Bag<T, ARRAY_LEN, B>
         requires cursor { IsCursor B.shown S.seat S.world self }
-        ensures bag { self.exit.0.now ≡ whole self.entry }
+        ensures same { result.ghost_name ≡ bag_name self.entry }
+        ensures bag { result.now ≡ whole self.entry }
     {
         let IterMut {
             bag,
@@ -189,8 +188,11 @@ impl<
         let mut fits = fits;
         fits.tell();
         match held {
-            Some(value) => bag.put_at(&behind, at, gap, value),
-            None => {}
+            Some(value) => {
+                bag.put_at(&behind, at, gap, value);
+                bag
+            }
+            None => bag,
         }
     }
 }

@@ -97,6 +97,13 @@ impl<T, const ARRAY_LEN: usize> Primary<T, ARRAY_LEN> {
         self.keys.lend_array(0, self.storage.places(), change)
     }
 
+    /// A law, which does nothing when the program runs.
+    pub(crate) fn has_all_places(&self)
+        ensures { length self.now.places ≡ ARRAY_LEN }
+    {
+        let _ = &self.keys;
+    }
+
     /// Takes the value of the place of that number out, if it has one, to be lent. What is in the last full place lies there meanwhile. Which place that is
     /// comes with the value.
     pub(crate) fn take_out(&mut self, at: usize) -> Option<(T, usize)>

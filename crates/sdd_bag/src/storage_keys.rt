@@ -184,6 +184,14 @@ impl<T, const LEN: usize> StorageKeys<T, LEN> {
         places.lend_first(&mut self.keys, start, count, change)
     }
 
+    /// A law, which does nothing when the program runs: an array has places, and if any place of the first one has a value, its first place has.
+    pub fn fill_in_order(&self)
+        ensures some { 0 < LEN }
+        ensures first { ¬ (AreEmpty LEN self.now) → is_some (value_at self.now 0) ≡ true }
+    {
+        let _ = &self.count;
+    }
+
     /// Moves the value of the last full place of the first array out, if any is full, and says which place that was.
     fn take_last(&mut self, first: &Places<T, LEN>) -> Option<(T, usize)>
         requires first { StandInFront first.now self.old }
