@@ -25,3 +25,4 @@ pub mod Numbers
 pub mod Whole
 pub mod Cursors
 pub mod Entering
+pub mod Stepping
