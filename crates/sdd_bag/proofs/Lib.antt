@@ -26,3 +26,4 @@ pub mod Whole
 pub mod Cursors
 pub mod Entering
 pub mod Stepping
+pub mod Closed

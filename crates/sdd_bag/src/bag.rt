@@ -26,7 +26,7 @@ ghost use Rattle.sdd_participants.specs.Slab.{IsEmptyAt as IsEmptyCell};
 ghost use Rattle.sdd_lists.specs.Queue.{HasOneAtMost};
 ghost use Rattle.sdd_space.specs.Shared.{cell_of, cells_home};
 ghost use Rattle.sdd_space.specs.World.{World};
-ghost use Rattle.sdd_space.specs.WorldChanges.{nulled};
+ghost use Rattle.sdd_space.specs.WorldChanges.{closed, nulled};
 ghost use Rattle.sdd_lists.specs.Filling.{AddsOnto, RefusesPush};
 ghost use Rattle.sdd_bag.specs.Bag.{BagParts, HasSameCells, HasStorageMore, PopsBehind, PopsInside, PushesBehind, PushesInside, IsBag, IsOfCells, KeepsStorages, overflow_of, primary_of, values_of};
 
@@ -681,6 +681,13 @@ impl<T, const ARRAY_LEN: usize, B: Shelf<T, ARRAY_LEN>> Bag<T, ARRAY_LEN, B> {
         // Once a field is looked at, what is always so of a bag is known: an array has 1 to 32 places.
         let _ = &self.primary;
     }
+
+    /// A law, which does nothing when the program runs: the close of a guard, whoever does it, leaves the bag in its world, on the same entries.
+    pub fn stays_at_close(&self)
+        ensures bag { (w : World (Linked B)) (p : ℕ) → IsBag B.shown ARRAY_LEN w self.now → IsBag B.shown ARRAY_LEN (closed w p) self.now }
+        ensures list { (w : World (Linked B)) (p : ℕ) (es : List (Entry (Linked B))) → LiesOn B.shown ARRAY_LEN w es self.now.overflow →
+            LiesOn B.shown ARRAY_LEN (closed w p) es self.now.overflow }
+    {}
 
     /// There is no value.
     pub fn is_empty(&self) -> bool
