@@ -19,3 +19,11 @@ pub mod Loans
 pub mod Fields
 pub mod Keys
 pub mod Nothing
+pub mod Gaps
+pub mod Spots
+pub mod Numbers
+pub mod Whole
+pub mod Cursors
+pub mod Entering
+pub mod Stepping
+pub mod Closed

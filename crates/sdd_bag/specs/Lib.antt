@@ -14,3 +14,7 @@ pub mod Storage
 pub mod Values
 pub mod KeyedPlaces
 pub mod KeptValues
+pub mod Lent
+pub mod Sizes
+pub mod Spots
+pub mod IterMut

@@ -1,7 +1,7 @@
 //! The bag.
 ghost use Rattle.std.specs.Prelude.{◌≡◌, ◌≢◌, ◌↔◌, ◌⊎◌, ◌+◌, ◌^◌, ◌<◌, ◌≤◌, ◌++◌, ℕ, All, IfErr, IfOk, IfSome, IsTrue, List, MatchOption, MatchResult, None, Some, [], drop, is_some, length, map};
 ghost use Rattle.sdd_bag.specs.KeyedPlaces.{PlaceName};
-ghost use Rattle.sdd_bag.specs.Storage.{AreEmpty, AreFull, IsEmptyAt, IsFullWith, empty_place, value_at, with_value_at};
+ghost use Rattle.sdd_bag.specs.Storage.{AreEmpty, AreFull, IsEmptyAt, IsFullWith, empty_place, names_of, value_at, with_value_at};
 ghost use Rattle.sdd_bag.specs.Values.{AreInSomeOrder, HasOneMore};
 ghost use Rattle.sdd_space.specs.CallerId.{IsSeated, IsExact};
 ghost use Rattle.sdd_space.specs.Guard.{reader_of};
@@ -11,6 +11,10 @@ ghost use Rattle.sdd_space.specs.Undisturbed.{Undisturbed, Unmoved};
 ghost use Rattle.sdd_lists.specs.declared.linked_entry.LinkedEntry.{LinkedEntry as Linked};
 ghost use Rattle.sdd_lists.specs.declared.stack.Stack.{Stack as Storages};
 ghost use Rattle.sdd_lists.specs.Lists.{Entry};
+ghost use Rattle.sdd_lists.specs.Iter.{GivesInOrder, IsIterOf, space_of};
+ghost use Rattle.sdd_lists.specs.Walk.{shown_of};
+ghost use Rattle.sdd_bag.specs.Lent.{AreEmptyFrom, AwaitsValue, TakesOut};
+ghost use Rattle.sdd_bag.specs.Spots.{HasFirst, IsInOrder, StandsIn, places_of, start_of, whole_at, with_places};
 ghost use Rattle.sdd_lists.specs.Stack.{IsStack, cell_in, home_in};
 ghost use Rattle.sdd_space.specs.OwnerOrCell.{AreOf};
 ghost use Rattle.sdd_bag.specs.Closing.{AreBeside, ClosesBag, EmptiesStorages};
@@ -22,10 +26,11 @@ ghost use Rattle.sdd_participants.specs.Slab.{IsEmptyAt as IsEmptyCell};
 ghost use Rattle.sdd_lists.specs.Queue.{HasOneAtMost};
 ghost use Rattle.sdd_space.specs.Shared.{cell_of, cells_home};
 ghost use Rattle.sdd_space.specs.World.{World};
-ghost use Rattle.sdd_space.specs.WorldChanges.{nulled};
+ghost use Rattle.sdd_space.specs.WorldChanges.{closed, nulled};
 ghost use Rattle.sdd_lists.specs.Filling.{AddsOnto, RefusesPush};
 ghost use Rattle.sdd_bag.specs.Bag.{BagParts, HasSameCells, HasStorageMore, PopsBehind, PopsInside, PushesBehind, PushesInside, IsBag, IsOfCells, KeepsStorages, overflow_of, primary_of, values_of};
 
+use crate::behind::{Behind, storage_on};
 use crate::front::first_storage;
 use crate::giving::give_up;
 use crate::primary::Primary;
@@ -33,6 +38,7 @@ use crate::shelf::Shelf;
 use crate::storage::Storage;
 use crate::storage_keys::StorageKeys;
 use sdd_core::Refused;
+use sdd_lists::iter::Iter;
 use sdd_lists::{LinkedEntry, Stack};
 use sdd_space::inner::{right_of_shared_cell, shared_cell_with};
 use sdd_space::{
@@ -430,6 +436,80 @@ impl<T, const ARRAY_LEN: usize, B: Shelf<T, ARRAY_LEN>> Bag<T, ARRAY_LEN, B> {
         change
     }
 
+    /// Takes the value of a place out, if it has one, to be lent. It is a place of the storage where a cursor is. What is in the last full place of the first
+    /// storage lies there meanwhile; which place that is comes with the value.
+    pub(crate) fn take_at(
+        &mut self,
+        behind: &Option<Behind<'_, B>>,
+        at: usize,
+    ) -> Option<(T, usize)>
+        requires stands { StandsIn B.shown ARRAY_LEN behind.now self.old }
+        requires first { HasFirst ARRAY_LEN behind.now self.old }
+        ensures few { start_of behind.now < 2 ^ 120 }
+        ensures rest { self.new ≡ with_places behind.now (places_of behind.now self.new) self.old }
+        ensures names { names_of (places_of behind.now self.new) ≡ names_of (places_of behind.now self.old) }
+        ensures out { MatchOption result
+            ((self.new ≡ self.old) × AreEmptyFrom ARRAY_LEN (start_of behind.now) at (places_of behind.now self.old))
+            (λ r. (at < ARRAY_LEN) ×
+            TakesOut ARRAY_LEN r.1 (start_of behind.now + at) r.0 (places_of behind.now self.old) (places_of behind.now self.new)) }
+    {
+        match behind {
+            None => self.primary.take_out(at),
+            Some(behind) => {
+                let first = storage_on(behind.first).places();
+                let here = storage_on(behind.here).places();
+                self.keys.take_out(first, behind.start, here, at)
+            }
+        }
+    }
+
+    /// Puts a value that was lent back into its place, and what lay there meanwhile into the gap.
+    pub(crate) fn put_at(
+        &mut self,
+        behind: &Option<Behind<'_, B>>,
+        at: usize,
+        gap: usize,
+        value: T,
+    )
+        requires inside { at < ARRAY_LEN }
+        requires few { start_of behind.now < 2 ^ 120 }
+        requires stands { StandsIn B.shown ARRAY_LEN behind.now self.old }
+        requires awaits { AwaitsValue ARRAY_LEN gap (start_of behind.now + at) (places_of behind.now self.old) }
+        ensures { self.new ≡ whole_at behind.now gap at (Some value) self.old }
+    {
+        match behind {
+            None => self.primary.put_back(at, gap, value),
+            Some(behind) => {
+                let first = storage_on(behind.first).places();
+                let here = storage_on(behind.here).places();
+                self.keys.put_back(first, behind.start, here, at, gap, value)
+            }
+        }
+    }
+
+    /// A law, which does nothing when the program runs: the values of each array are in its first places.
+    pub(crate) fn lies_in_order(&self)
+        ensures { IsInOrder ARRAY_LEN self.now }
+    {
+        self.primary.has_all_places();
+        self.keys.fill_in_order();
+    }
+
+    /// The shelves of the storages behind the bag's own, where no guard is open.
+    pub(crate) fn shelves<'s, S: Items<LinkedEntry<B>> + HeldItems<LinkedEntry<B>>>(
+        &self,
+        s: &'s S,
+    ) -> Iter<'s, B, S>
+        requires home { home_in self.now.overflow.stack ≡ (S.seat s.now).home.cells }
+        requires exact { IsExact (S.seat s.now) }
+        ensures space { space_of result ≡ s.now }
+        ensures home { IsIterOf (S.seat s.now).home.cells result }
+        ensures list { (es : List (Entry (Linked B))) → LiesOn B.shown ARRAY_LEN (S.world s.now) es self.now.overflow →
+            GivesInOrder (S.world s.now) result (shown_of es) }
+    {
+        self.stack.iter_unguarded(s)
+    }
+
     /// An empty bag. It holds 1 to 32 values itself, and has two cells.
     ///
     /// `NoCell` where no two cells are free; `Contended`, in a domain alone, where as many exchanges were lost as its limits allow.
@@ -601,6 +681,13 @@ impl<T, const ARRAY_LEN: usize, B: Shelf<T, ARRAY_LEN>> Bag<T, ARRAY_LEN, B> {
         // Once a field is looked at, what is always so of a bag is known: an array has 1 to 32 places.
         let _ = &self.primary;
     }
+
+    /// A law, which does nothing when the program runs: the close of a guard, whoever does it, leaves the bag in its world, on the same entries.
+    pub fn stays_at_close(&self)
+        ensures bag { (w : World (Linked B)) (p : ℕ) → IsBag B.shown ARRAY_LEN w self.now → IsBag B.shown ARRAY_LEN (closed w p) self.now }
+        ensures list { (w : World (Linked B)) (p : ℕ) (es : List (Entry (Linked B))) → LiesOn B.shown ARRAY_LEN w es self.now.overflow →
+            LiesOn B.shown ARRAY_LEN (closed w p) es self.now.overflow }
+    {}
 
     /// There is no value.
     pub fn is_empty(&self) -> bool

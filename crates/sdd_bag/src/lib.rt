@@ -9,10 +9,13 @@
 #![tactic(auto)]
 
 pub mod bag;
+mod behind;
 mod filling;
+mod fits;
 mod front;
 mod giving;
 pub mod into_iter;
+pub mod iter_mut;
 mod keyed_place;
 mod lending;
 mod place;
@@ -24,5 +27,6 @@ mod storage_keys;
 
 pub use bag::Bag;
 pub use into_iter::IntoIter;
+pub use iter_mut::IterMut;
 pub use shelf::Shelf;
 pub use storage::Storage;

@@ -1,7 +1,8 @@
 //! The values that lie in a bag itself.
-ghost use Rattle.std.specs.Prelude.{◌≡◌, ◌^◌, ◌<◌, ◌≤◌, All, List, MatchOption, MatchResult, [], length};
+ghost use Rattle.std.specs.Prelude.{◌≡◌, ◌+◌, ◌^◌, ◌<◌, ◌≤◌, All, List, MatchOption, MatchResult, [], length};
 ghost use Rattle.sdd_bag.specs.Closing.{values_given};
 ghost use Rattle.sdd_bag.specs.Primary.{PrimaryParts, held_by};
+ghost use Rattle.sdd_bag.specs.Storage.{names_of};
 ghost use Rattle.sdd_bag.specs.Values.{AreInSomeOrder, HasOneMore};
 ghost use Rattle.sdd_rights.specs.Right.{number_of, home_of, kind_of};
 ghost use Rattle.sdd_space.specs.CallerId.{IsSeated, IsExact};
@@ -11,6 +12,7 @@ ghost use Rattle.sdd_space.specs.Undisturbed.{Unmoved};
 ghost use Rattle.sdd_space.specs.WorldChanges.{cell_closed};
 ghost use Rattle.sdd_bag.specs.Folding.{FoldsOn};
 ghost use Rattle.sdd_bag.specs.Changing.{ChangesEach};
+ghost use Rattle.sdd_bag.specs.Lent.{AreEmptyFrom, AwaitsValue, TakesOut, with_back};
 
 use crate::giving::give_up;
 use crate::storage::Storage;
@@ -93,6 +95,37 @@ impl<T, const ARRAY_LEN: usize> Primary<T, ARRAY_LEN> {
         ensures changed { ChangesEach F.FnMut change (held_by self.old) (held_by self.new) result }
     {
         self.keys.lend_array(0, self.storage.places(), change)
+    }
+
+    /// A law, which does nothing when the program runs.
+    pub(crate) fn has_all_places(&self)
+        ensures { length self.now.places ≡ ARRAY_LEN }
+    {
+        let _ = &self.keys;
+    }
+
+    /// Takes the value of the place of that number out, if it has one, to be lent. What is in the last full place lies there meanwhile. Which place that is
+    /// comes with the value.
+    pub(crate) fn take_out(&mut self, at: usize) -> Option<(T, usize)>
+        ensures storage { self.new.storage ≡ self.old.storage }
+        ensures names { names_of self.new.places ≡ names_of self.old.places }
+        ensures out { MatchOption result
+            ((self.new ≡ self.old) × AreEmptyFrom ARRAY_LEN 0 at self.old.places)
+            (λ r. (at < ARRAY_LEN) × TakesOut ARRAY_LEN r.1 (0 + at) r.0 self.old.places self.new.places) }
+    {
+        let places = self.storage.places();
+        self.keys.take_out(places, 0, places, at)
+    }
+
+    /// Moves a value that was lent back into its place, and what lay there meanwhile into the gap.
+    pub(crate) fn put_back(&mut self, at: usize, gap: usize, value: T)
+        requires inside { at < ARRAY_LEN }
+        requires awaits { AwaitsValue ARRAY_LEN gap (0 + at) self.old.places }
+        ensures storage { self.new.storage ≡ self.old.storage }
+        ensures back { self.new.places ≡ with_back gap (0 + at) value self.old.places }
+    {
+        let places = self.storage.places();
+        self.keys.put_back(places, 0, places, at, gap, value);
     }
 
     /// How many values there are.

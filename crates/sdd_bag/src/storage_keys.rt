@@ -5,8 +5,9 @@ ghost use Rattle.sdd_bag.specs.Storage.{KeptPlace, empty_place, value_at, with_v
 ghost use Rattle.sdd_bag.specs.Values.{HasOneMore};
 ghost use Rattle.sdd_bag.specs.Folding.{FoldsOn};
 ghost use Rattle.sdd_bag.specs.Changing.{ChangesOn};
+ghost use Rattle.sdd_bag.specs.Lent.{AreEmptyFrom, AwaitsValue, IsArrayAt, IsGap, TakesLast, TakesOut, with_back};
 
-use crate::place::{Keys, forget};
+use crate::place::{Keys, exchange, forget};
 use crate::places::Places;
 use std::marker::Model;
 
@@ -181,5 +182,120 @@ impl<T, const LEN: usize> StorageKeys<T, LEN> {
     {
         let count = self.count_from(start);
         places.lend_first(&mut self.keys, start, count, change)
+    }
+
+    /// A law, which does nothing when the program runs: an array has places, and if any place of the first one has a value, its first place has.
+    pub fn fill_in_order(&self)
+        ensures some { 0 < LEN }
+        ensures first { ¬ (AreEmpty LEN self.now) → is_some (value_at self.now 0) ≡ true }
+    {
+        let _ = &self.count;
+    }
+
+    /// Moves the value of the last full place of the first array out, if any is full, and says which place that was.
+    fn take_last(&mut self, first: &Places<T, LEN>) -> Option<(T, usize)>
+        requires first { StandInFront first.now self.old }
+        ensures names { names_of self.new ≡ names_of self.old }
+        ensures taken { MatchOption result
+            (AreEmpty LEN self.old × (self.new ≡ self.old))
+            (λ r. TakesLast LEN r.1 r.0 self.old self.new) }
+    {
+        let Some(last) = self.count.checked_sub(1) else {
+            return None;
+        };
+        self.count = last;
+        match first.exchange(&mut self.keys, last, None) {
+            Some(value) => Some((value, last)),
+            None => unreachable!(),
+        }
+    }
+
+    /// Moves a value into the first empty place of the first array.
+    fn fill(&mut self, first: &Places<T, LEN>, gap: usize, value: T)
+        requires first { StandInFront first.now self.old }
+        requires gap { IsGap LEN gap self.old }
+        ensures { self.new ≡ with_value_at self.old gap (Some value) }
+    {
+        match first.exchange(&mut self.keys, gap, Some(value)) {
+            None => {}
+            Some(_) => unreachable!(),
+        }
+        self.count = gap + 1;
+    }
+
+    /// Moves a value into a full place of an array, and the one that was there out.
+    fn swap(&mut self, start: u128, places: &Places<T, LEN>, at: usize, value: T) -> T
+        requires inside { at < LEN }
+        requires few { start < 2 ^ 120 }
+        requires array { IsArrayAt LEN start places.now self.old }
+        requires full { is_some (value_at self.old (start + at)) ≡ true }
+        ensures was { value_at self.old (start + at) ≡ Some result }
+        ensures now { self.new ≡ with_value_at self.old (start + at) (Some value) }
+    {
+        let Some(place) = places.at(at) else {
+            unreachable!()
+        };
+        match exchange(&mut self.keys, start + at as u128, place, Some(value)) {
+            Some(was) => was,
+            None => unreachable!(),
+        }
+    }
+
+    /// Takes the value of a place out, if it has one, to be lent. The place is of the array whose keys are those from `start` on. What is in the last full place
+    /// of the first array lies there meanwhile, so that of each array the first places have values. Which place that is comes with the value.
+    pub fn take_out(
+        &mut self,
+        first: &Places<T, LEN>,
+        start: u128,
+        places: &Places<T, LEN>,
+        at: usize,
+    ) -> Option<(T, usize)>
+        requires start { (start ≡ 0) ⊎ (LEN ≤ start) × ¬ (AreEmpty LEN self.old) }
+        requires first { StandInFront first.now self.old }
+        requires array { IsArrayAt LEN start places.now self.old }
+        ensures names { names_of self.new ≡ names_of self.old }
+        ensures few { start < 2 ^ 120 }
+        ensures out { MatchOption result
+            ((self.new ≡ self.old) × AreEmptyFrom LEN start at self.old)
+            (λ r. (at < LEN) × TakesOut LEN r.1 (start + at) r.0 self.old self.new) }
+    {
+        // Once a field is looked at, what is always so of the keys is known: an array has 1 to 32 places.
+        let _ = &self.count;
+        if self.count_from(start) <= at {
+            return None;
+        }
+        let Some((last, gap)) = self.take_last(first) else {
+            return None;
+        };
+        if start + at as u128 == gap as u128 {
+            return Some((last, gap));
+        }
+        Some((self.swap(start, places, at, last), gap))
+    }
+
+    /// Moves a value that was lent back into its place, and what lay there meanwhile into the gap.
+    pub fn put_back(
+        &mut self,
+        first: &Places<T, LEN>,
+        start: u128,
+        places: &Places<T, LEN>,
+        at: usize,
+        gap: usize,
+        value: T,
+    )
+        requires inside { at < LEN }
+        requires few { start < 2 ^ 120 }
+        requires first { StandInFront first.now self.old }
+        requires array { IsArrayAt LEN start places.now self.old }
+        requires awaits { AwaitsValue LEN gap (start + at) self.old }
+        ensures names { names_of self.new ≡ names_of self.old }
+        ensures back { self.new ≡ with_back gap (start + at) value self.old }
+    {
+        if start + at as u128 == gap as u128 {
+            self.fill(first, gap, value);
+            return;
+        }
+        let last = self.swap(start, places, at, value);
+        self.fill(first, gap, last);
     }
 }

@@ -10,6 +10,7 @@ use sdd_space::{
 };
 use sdd_world::{Place, Turn, World};
 use std::marker::Model;
+use std::mem::ManuallyDrop;
 use std::process::Abort;
 
 /// What is in a slot that has a storage.
@@ -90,6 +91,22 @@ impl<I: Item<I>> Setting<I> {
             Err((_world, refused)) => panic!(rt; "{refused:?}"),
         }
     }
+}
+
+/// Leaves a value as it is: it is never ended.
+pub fn left<T>(value: T) {
+    let _ = unsafe { ManuallyDrop::new_unchecked(value) };
+}
+
+/// The participant of a world with these limits does this, and leaves a bag there: the world is forgotten.
+pub fn in_a_world_left<I: Item<I>, E: Example<I>, R: Abort + AllocGlobal>(
+    rt: &R,
+    limits: Limits,
+    example: &E,
+) {
+    let mut setting: Setting<I> = Setting::new(rt, limits);
+    setting.run(rt, example);
+    left(setting);
 }
 
 /// The participant of a world with these limits does this. So many storages are made.

@@ -31,6 +31,22 @@ pub fn shut<I: Item<I>, S: Guards<I>>(s: &mut S, guard: Guard)
     guard.close(s);
 }
 
+/// Closes a guard. The bag is there as before.
+pub fn shut_beside<T, const LEN: usize, B: Shelf<T, LEN>, S: Bags<LinkedEntry<B>>>(
+    s: &mut S,
+    bag: &Bag<T, LEN, B>,
+    guard: Guard,
+)
+    requires may { MayCall (S.seat s.old) }
+    requires there { IsThere B.shown LEN (S.seat s.old) (S.world s.old) bag.now }
+    requires reader { reader_of guard ≡ (S.seat s.old).reader }
+    ensures seat { S.seat s.new ≡ S.seat s.old }
+    ensures there { IsThere B.shown LEN (S.seat s.new) (S.world s.new) bag.now }
+{
+    bag.stays_at_close();
+    guard.close(s);
+}
+
 /// An empty bag.
 pub fn made<T, const LEN: usize, B: Shelf<T, LEN>, S: Bags<LinkedEntry<B>>>(
     rt: &impl Abort,
@@ -159,6 +175,30 @@ pub fn changed<T, const LEN: usize, B: Shelf<T, LEN>, F: FnMut(&mut T), S: Bags<
     ensures there { IsThere B.shown LEN (S.seat s.now) (S.world s.now) bag.new }
 {
     bag.for_each_mut(change, s)
+}
+
+/// Multiplies each number of the bag by ten, as the cursor lends it. How many there are, and the sum of what they were.
+pub fn tenfold<const LEN: usize, B: Shelf<u64, LEN>, S: Bags<LinkedEntry<B>>>(
+    s: &S,
+    bag: &mut Bag<u64, LEN, B>,
+) -> Result<(u64, u64), Refused>
+    requires may { MayCall (S.seat s.now) }
+    requires there { IsThere B.shown LEN (S.seat s.now) (S.world s.now) bag.old }
+    ensures there { IsThere B.shown LEN (S.seat s.now) (S.world s.now) bag.new }
+{
+    let mut cursor = match bag.iter_mut(s) {
+        Ok(cursor) => cursor,
+        Err(refused) => return Err(refused),
+    };
+    let mut count = 0u64;
+    let mut sum = 0u64;
+    while let Some(number) = cursor.next() {
+        count = count.wrapping_add(1);
+        sum = sum.wrapping_add(*number);
+        *number = number.wrapping_mul(10);
+    }
+    cursor.close();
+    Ok((count, sum))
 }
 
 /// Ends a bag of what holds nothing.

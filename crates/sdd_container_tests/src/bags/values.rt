@@ -2,9 +2,10 @@
 ghost use Rattle.std.specs.Prelude.{◌≡◌, ◌<◌, ◌≤◌};
 ghost use Rattle.sdd_bag.specs.There.{MayCall};
 
-use crate::bags::example::{AMPLE, Bags, Entry, Example, StorageBag, in_a_world};
+use crate::bags::example::{AMPLE, Bags, Entry, Example, StorageBag, in_a_world, in_a_world_left, left};
 use crate::bags::steps::{
-    changed, closed, counted, filled, full_of, made, opened, popped, pushed, shut, summed,
+    changed, closed, counted, filled, full_of, made, opened, popped, pushed, shut,
+    shut_beside, summed, tenfold,
 };
 use sdd_bag::Bag;
 use sdd_core::{Limits, Refused};
@@ -99,6 +100,33 @@ impl Example<Entry<u64, 2>> for LendsNone {
 #[test]
 fn no_value_is_lent_while_a_guard_is_open(rt: HostRuntime) {
     in_a_world(&rt, AMPLE, &LendsNone, 3);
+}
+
+/// So many numbers from 0 on are in a bag, and the cursor lends each of them, as soon as no guard is open. What was left of them it lends the next time.
+struct LendsEach(u64);
+
+impl Example<Entry<u64, DEFAULT>> for LendsEach {
+    fn run<R: Abort, S: Bags<Entry<u64, DEFAULT>>>(&self, rt: &R, s: &mut S) {
+        let guard = opened(rt, s);
+        let mut bag: StorageBag<u64, DEFAULT> = full_of(rt, s, &mut (0..self.0), &guard);
+        assert!(rt; tenfold(s, &mut bag) == Err(Refused::GuardOpen));
+        shut_beside(s, &bag, guard);
+        let sum = self.0.wrapping_mul(self.0.wrapping_sub(1)) / 2;
+        assert!(rt; tenfold(s, &mut bag) == Ok((self.0, sum)));
+        assert!(rt; tenfold(s, &mut bag) == Ok((self.0, sum.wrapping_mul(10))));
+        assert!(rt; bag.len() == u128::from(self.0));
+        left(bag);
+    }
+}
+
+#[test]
+fn the_cursor_lends_each_value(rt: HostRuntime) {
+    in_a_world_left(&rt, AMPLE, &LendsEach(0));
+    in_a_world_left(&rt, AMPLE, &LendsEach(2));
+    in_a_world_left(&rt, AMPLE, &LendsEach(18));
+    in_a_world_left(&rt, AMPLE, &LendsEach(32));
+    in_a_world_left(&rt, AMPLE, &LendsEach(40));
+    in_a_world_left(&rt, AMPLE, &LendsEach(120));
 }
 
 /// So many numbers are in a bag.
