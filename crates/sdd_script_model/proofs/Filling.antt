@@ -13,7 +13,7 @@ use Rattle.sdd_space.specs.WorldInvariant.{IsWhole}
 use Rattle.sdd_space.proofs.Ledger.{ledger-laws}
 use Rattle.sdd_lists.specs.Ends.{IsAmong, appended, through_last}
 use Rattle.sdd_lists.specs.Lists.{Entry}
-use Rattle.sdd_lists.specs.Queue.{IsNoneOrAmong, IsQueue, QueueCells, made_newest}
+use Rattle.sdd_lists.specs.Queue.{IsQueue, QueueCells, made_newest}
 use Rattle.sdd_lists.specs.QueueFilling.{AddsAllBehind, AddsBehind, adds_behind, begins_behind}
 use Rattle.sdd_lists.specs.StackCloning.{AppendsAll, AppendsTo, appends, starts as starts_stack}
 use Rattle.sdd_lists.proofs.Ending.{among-last}
@@ -77,10 +77,15 @@ spilled-other w p (Some s) j ne = given-other w p s j (standing_at w s) refl (λ
 abbrev StillIdle : ScriptState → World Val → Type 0
 StillIdle d w = (j : ℕ) → is_waiting (standing_at w j) ≡ true → is_waiting (standing_at d.world j) ≡ true
 
+-- the second cell of a queue holds nothing, or one of these
+abbrev IsNoneOrAmong : Option ℕ → List (Entry Val) → Type 0
+IsNoneOrAmong None es = Unit {0}
+IsNoneOrAmong (Some k) es = IsAmong k es
+
 -- ---- one number more is behind a queue's entries, and its owner given up
 
 module _ (d : ScriptState) (s : IsSound d) (whole : IsWhole d.world) (p : ℕ) (live : IsPlaceOf d.world p) (n : ℕ) (q : QueueCells) (es : List (Entry Val))
-    (second : Option ℕ) (is : IsNamedQueue d n q es second) (plain : ArePlain es) (number k : ℕ) (w : World Val)
+    (second : Option ℕ) (is : IsNamedQueue d n q es second) (among : IsNoneOrAmong second es) (plain : ArePlain es) (number k : ℕ) (w : World Val)
     (puts : Enqueues d.world p q es second number k w) where
   abbrev x : Val
   x = puts.entry
@@ -118,14 +123,14 @@ module _ (d : ScriptState) (s : IsSound d) (whole : IsWhole d.world) (p : ℕ) (
       begins-not midway-queue d.world q.oldest now (inl (n, is.oldest)) list-queue j
       (elim (cases_eq j k) [
         | inl same ↦ inl (among-last j (through_last es) entry (sym same))
-        | inr far ↦ by far second refl is.queue.among
+        | inr far ↦ by far second refl among
       ]) where
         by : j ≢ k → (o : Option ℕ) → second ≡ o → IsNoneOrAmong o es → IsAmong j now ⊎ (standing_at given j ≡ standing_at d.world j)
         by far None e tt = inr (stands-queue j far (λ same. (let never : None ≡ Some j = sym e ∙ same in cc)))
-        by far (Some i) e among = elim (cases_eq i j) [
+        by far (Some i) e near = elim (cases_eq i j) [
           | inl same ↦
               inl (among-before j (through_last es) entry
-              (subst (λ (xs : List (Entry Val)). IsAmong j xs) (sym (through-plain es plain)) (subst (λ (m : ℕ). IsAmong m es) same among)))
+              (subst (λ (xs : List (Entry Val)). IsAmong j xs) (sym (through-plain es plain)) (subst (λ (m : ℕ). IsAmong m es) same near)))
           | inr ne ↦ inr (stands-queue j far (λ same. ne (let both : Some i ≡ Some j = sym e ∙ same in cc)))
         ]
 
@@ -240,8 +245,8 @@ module _ (d : ScriptState) (s : IsSound d) (whole : IsWhole d.world) (p : ℕ) (
   module _ (n : ℕ) (q : QueueCells) (oldest : shared_cell (holding_at d.queues n) ≡ Some q.oldest) (newest : shared_cell (holding_at d.newest n) ≡ Some q.newest)
       (empty : IsQueue link_of d.world q [] None) where
     one-behind : (v w : World Val) (es fs : List (Entry Val)) (second held : Option ℕ) (x : Body) → IsFilled v es → IsQueue link_of v q es second →
-        IsNumber x → AddsBehind v p q es second x w fs held → IsFilled w fs × IsQueue link_of w q fs held
-    one-behind v w es fs second held (Number m) was queue number adds =
+        IsNoneOrAmong second es → IsNumber x → AddsBehind v p q es second x w fs held → IsFilled w fs × IsQueue link_of w q fs held × IsNoneOrAmong held fs
+    one-behind v w es fs second held (Number m) was queue among number adds =
         let e = filled_with v es in
         let k = slot_of adds.owner in
         let puts : Enqueues v p q es second m k adds.between =
@@ -249,24 +254,31 @@ module _ (d : ScriptState) (s : IsSound d) (whole : IsWhole d.world) (p : ℕ) (
         let is : IsNamedQueue e n q es second = record { oldest = oldest; newest = newest; queue = queue } in
         let sound = was.leaves.sound in
         let now = still-whole v es was in
-        let more = queue-leaves e sound now p was.placed n q es second is was.plain m k adds.between puts in
-        let idle = idle-queue e sound now p was.placed n q es second is was.plain m k adds.between puts in
-        let there = keeps-live (midway-queue e sound now p was.placed n q es second is was.plain m k adds.between puts).frames.passes.guards p was.placed in
+        let more = queue-leaves e sound now p was.placed n q es second is among was.plain m k adds.between puts in
+        let idle = idle-queue e sound now p was.placed n q es second is among was.plain m k adds.between puts in
+        let there = keeps-live (midway-queue e sound now p was.placed n q es second is among was.plain m k adds.between puts).frames.passes.guards p was.placed in
         let filled = filled-more v (owner_given adds.between p k (standing_at adds.between k)) es was k adds.pushes.entry more idle there in
         let gs : List (Entry Val) = through_last es ++ record { slot = k; value = adds.pushes.entry; tag = no_tag } ∷ [] in (
           subst (λ (hs : List (Entry Val)). IsFilled w hs) (sym adds.entries) (subst (λ (u : World Val). IsFilled u gs) (sym adds.world) filled),
           adds.queue,
+          subst (λ (o : Option ℕ). IsNoneOrAmong o fs) (sym adds.newest)
+          (subst (λ (hs : List (Entry Val)). IsAmong k hs) (sym adds.entries)
+          (among-last k (through_last es) (record { slot = k; value = adds.pushes.entry; tag = no_tag }) refl)),
         )
-    one-behind v w es fs second held (Owned o) was queue number adds = absurd number
-    one-behind v w es fs second held (Shared o) was queue number adds = absurd number
+    one-behind v w es fs second held (Owned o) was queue among number adds = absurd number
+    one-behind v w es fs second held (Shared o) was queue among number adds = absurd number
+
+    fills-all : {xs : List Body} {w : World Val} {fs : List (Entry Val)} {held : Option ℕ} → AddsAllBehind p q d.world [] None xs w fs held →
+        AreAllNumbers xs → IsFilled w fs × IsQueue link_of w q fs held × IsNoneOrAmong held fs
+    fills-all begins_behind all = (not-filled, empty, tt)
+    fills-all (adds_behind ys v new gs hs was holds x before adds) all =
+        let both = all-before ys x all in
+        let so_far = fills-all before both.0 in
+        one-behind v new gs hs was holds x so_far.0 so_far.1 so_far.2 both.1 adds
 
     pub fills-queue : {xs : List Body} {w : World Val} {fs : List (Entry Val)} {held : Option ℕ} → AddsAllBehind p q d.world [] None xs w fs held →
         AreAllNumbers xs → IsFilled w fs × IsQueue link_of w q fs held
-    fills-queue begins_behind all = (not-filled, empty)
-    fills-queue (adds_behind ys v new gs hs was holds x before adds) all =
-        let both = all-before ys x all in
-        let so_far = fills-queue before both.0 in
-        one-behind v new gs hs was holds x so_far.0 so_far.1 both.1 adds
+    fills-queue adds all = let filled = fills-all adds all in (filled.0, filled.1)
 
   -- and so is a stack
   module _ (n c : ℕ) (begins : shared_cell (holding_at d.stacks n) ≡ Some c) (empty : Begins d.world c []) where

@@ -17,6 +17,7 @@ use Rattle.sdd_space.proofs.Ledger.{ledger-laws}
 use Rattle.sdd_lists.specs.Ends.{IsAmong, appended, end_of, through_last}
 use Rattle.sdd_lists.specs.Lists.{Apart, Entry}
 use Rattle.sdd_lists.proofs.Ending.{among-last, appended-other, put-values}
+use Rattle.sdd_lists.proofs.LetGo.{KeepsGone, gone-appended, gone-same, gone-then, let-go-kept}
 use Rattle.sdd_lists.proofs.Lists.{bare, list-same}
 use Rattle.sdd_script_model.specs.Listed.{AreNumbers, Begins, HasLists, IsListed}
 use Rattle.sdd_script_model.specs.Stacks.{Appends, IsStack}
@@ -26,7 +27,7 @@ use Rattle.sdd_script_model.specs.Val.{Val, holdings_of, link_of}
 use Rattle.sdd_script_model.proofs.Chains.{IsMidway, are-own, starts}
 use Rattle.sdd_script_model.proofs.Counting.{owner-given}
 use Rattle.sdd_script_model.proofs.Links.{same-once}
-use Rattle.sdd_script_model.proofs.Listed.{AreOwn, apart-item, apart-own, has-changed, link-apart, links-apart, listed-inside, same-list}
+use Rattle.sdd_script_model.proofs.Listed.{AreOwn, StaysGone, apart-item, apart-own, has-changed, link-apart, links-apart, listed-inside, same-list}
 use Rattle.sdd_script_model.proofs.ListChanges.{among-or}
 use Rattle.sdd_script_model.proofs.QueueEnds.{among-before, among-either, among-through, dropped, numbers-last, numbers-through, put-last}
 use Rattle.sdd_script_model.proofs.QueuePushing.{linked-where}
@@ -160,6 +161,16 @@ module _ (d : ScriptState) (s : IsSound d) (whole : IsWhole d.world) (p c : ℕ)
       cell-still b (λ same. own.two c a b its.begins y (sym same)) (apart-own v all sound-in.ledger b (own.second a b y) es list-in.linked)
       (link-apart v all sound-in.ledger b k x (own.second a b y) there-in)
 
+  -- what was let go of by a queue stays so
+  keeps-gone : KeepsGone v last
+  keeps-gone =
+      gone-then v twice last (gone-same v twice refl refl)
+      (gone-appended link_of twice p c no_tag es l k (inl (λ same. absurd (cc))) list-twice
+      (clear-mid d s whole p live number k x puts.free puts.appended.free puts.body) off-first off-links)
+
+  stays-gone : StaysGone (IsSecondCell entered) v last
+  stays-gone a b j y holds was = let-go-kept link_of v last j keeps-gone was
+
   from : (j : ℕ) → IsAmong j now → IsAmong j es ⊎ (IsListed (IsListCell entered) v j → ⊥)
   from j among = elim (among-either j (through_last es) _ among) [
     | inl through ↦ inl (among-through j es through)
@@ -199,7 +210,8 @@ module _ (d : ScriptState) (s : IsSound d) (whole : IsWhole d.world) (p c : ℕ)
 
   lists-now : HasLists (IsListCell entered) (IsSecondCell entered) last
   lists-now =
-      has-changed (IsListCell entered) (IsSecondCell entered) v last had c its.begins its.single stays es now list-in list-now numbers-now forward from links
+      has-changed (IsListCell entered) (IsSecondCell entered) v last had c its.begins stays stays-gone es now list-in list-now numbers-now
+      (λ b y. absurd (its.single b y)) forward from links
 
   -- ---- the other owner is given up
 
