@@ -464,13 +464,7 @@ impl<T, const ARRAY_LEN: usize, B: Shelf<T, ARRAY_LEN>> Bag<T, ARRAY_LEN, B> {
     }
 
     /// Puts a value that was lent back into its place, and what lay there meanwhile into the gap.
-    pub(crate) fn put_at(
-        &mut self,
-        behind: &Option<Behind<'_, B>>,
-        at: usize,
-        gap: usize,
-        value: T,
-    )
+    pub(crate) fn put_at(&mut self, behind: &Option<Behind<'_, B>>, at: usize, gap: usize, value: T)
         requires inside { at < ARRAY_LEN }
         requires few { start_of behind.now < 2 ^ 120 }
         requires stands { StandsIn B.shown ARRAY_LEN behind.now self.old }
@@ -482,7 +476,8 @@ impl<T, const ARRAY_LEN: usize, B: Shelf<T, ARRAY_LEN>> Bag<T, ARRAY_LEN, B> {
             Some(behind) => {
                 let first = storage_on(behind.first).places();
                 let here = storage_on(behind.here).places();
-                self.keys.put_back(first, behind.start, here, at, gap, value)
+                self.keys
+                    .put_back(first, behind.start, here, at, gap, value)
             }
         }
     }

@@ -2,7 +2,6 @@
 ghost use Rattle.std.specs.Prelude.{◌≡◌, ◌^◌, ◌<◌, IfSome, Some, is_some, true};
 ghost use Rattle.sdd_bag.specs.Spots.{GoesOn, start_of};
 
-
 use crate::shelf::Shelf;
 use crate::storage::Storage;
 
