@@ -120,7 +120,8 @@ module _ {T : Type 0} where
             (now ∙ ap (λ (qs : List (KeptPlace T)). with_value_at qs at (Some last)) takes.now)
             ∙ ap (λ (qs : List (KeptPlace T)). with_value_at qs at (Some w))
             (with-both (with_value_at old gap None) at gap (Some last) (Some last) apart
-            ∙ ap (λ (qs : List (KeptPlace T)). with_value_at qs at (Some last)) (with-twice old gap None (Some last) ∙ with-again old gap (Some last) takes.was))
+            ∙ ap (λ (qs : List (KeptPlace T)). with_value_at qs at (Some last))
+            (with-twice old gap None (Some last) ∙ with-again old gap (Some last) takes.was))
             ∙ with-twice old at (Some last) (Some w);
       }
 

@@ -131,7 +131,8 @@ module _ {T B : Type 0} where
     at-order len (Some b) there is = record {
       some = is.some;
       long = is.long;
-      fills = λ some. some-kept bag.overflow.places i v w there 0 ∙ is.fills (λ none. some (λ k near. some-kept bag.overflow.places i v w there k ∙ none k near));
+      fills = λ some. some-kept bag.overflow.places i v w there 0
+          ∙ is.fills (λ none. some (λ k near. some-kept bag.overflow.places i v w there k ∙ none k near));
     }
 
     module _ (shown : B → Option StorageName) (len : ℕ) (world : World (LinkedEntry B)) where
