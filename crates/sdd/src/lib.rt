@@ -3,7 +3,7 @@
 //! Scripts are in `sdd_script`, so that a program without them needs none of their crates.
 #![tactic(auto)]
 
-pub use sdd_bag::{Bag, IntoIter, Shelf, Storage};
+pub use sdd_bag::{Bag, IntoIter, IterMut, Shelf, Storage};
 pub use sdd_core::{Epoch, Limits, Refused, Tag};
 pub use sdd_domain::{Domain, Local, Receipt};
 pub use sdd_lists::laws::{first_in_first_out, last_in_first_out, releases_keep_values};

@@ -1,5 +1,5 @@
 -- Where a cursor goes over a bag, step by step
-use Rattle.std.proofs.Common.{◌≡◌, ◌⊎◌, inl, inr, ℕ, zero, suc, ◌+◌, ◌-◌, ◌^◌, ◌<◌, ◌≤◌, List, [], ◌∷◌, ◌++◌, Bool, Option, Some, None, drop, length, take, is_some, option_copied, slice_get, slice_set, true, false, refl, sym, ap, ◌∙◌, subst, arith}
+use Rattle.std.proofs.Common.{◌≡◌, ℕ, suc, ◌+◌, ◌^◌, ◌<◌, ◌≤◌, List, [], ◌∷◌, Bool, Option, Some, None, drop, length, slice_get, slice_set, true, false, refl, sym, ap, ◌∙◌, subst, arith}
 use Rattle.std.specs.Prelude.{IfSome, IsTrue, MatchOption}
 use Rattle.std.specs.Borrow.{Bor, MutBor}
 use Rattle.sdd_space.specs.CallerId.{CallerId, IsExact}
@@ -13,13 +13,13 @@ use Rattle.sdd_lists.specs.Walk.{shown_of}
 use Rattle.sdd_bag.specs.declared.behind.Behind.{Behind}
 use Rattle.sdd_bag.specs.declared.fits.Fits.{Fits}
 use Rattle.sdd_bag.specs.declared.iter_mut.IterMut.{IterMut}
-use Rattle.sdd_bag.specs.Storage.{KeptPlace, names_of, value_at, values_in}
+use Rattle.sdd_bag.specs.Storage.{names_of}
 use Rattle.sdd_bag.specs.Storages.{StorageName}
 use Rattle.sdd_bag.specs.Overflow.{AreShelves, LiesOn, places_in, places_on}
 use Rattle.sdd_bag.specs.Bag.{BagParts, HasSameCells, IsBag, primary_of, values_of}
-use Rattle.sdd_bag.specs.Lent.{TakesOut, with_back, with_lent}
+use Rattle.sdd_bag.specs.Lent.{TakesOut}
 use Rattle.sdd_bag.specs.Spots.{GoesOn, HasFirst, IsInOrder, StandsIn, places_of, start_behind, start_of, values_before, whole_at, with_places}
-use Rattle.sdd_bag.specs.IterMut.{AreLeft, Ends, HasHere, HasSameBag, IsCursor, IsLent, IsPassed, Lends, Rests, bag_name, given, passed, space_in, whole}
+use Rattle.sdd_bag.specs.IterMut.{Ends, HasHere, IsCursor, IsLent, IsPassed, Lends, Rests, bag_name, given, passed, space_in, whole}
 use Rattle.sdd_bag.proofs.Entering.{all-passed-by, count-next, first-next, here-next, stands-next}
 use Rattle.sdd_bag.proofs.Gaps.{names-back}
 use Rattle.sdd_bag.proofs.Lent.{Next, keys-behind, next-shelf, none-next}

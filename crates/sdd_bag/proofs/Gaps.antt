@@ -1,13 +1,12 @@
 -- A value that is out of its place for as long as it is lent, and comes back
-use Rattle.std.proofs.Common.{◌≡◌, ◌≢◌, ◌⊎◌, inl, inr, ℕ, zero, suc, ◌+◌, ◌-◌, ◌<◌, ◌≤◌, nat_lt, List, [], ◌∷◌, Option, Some, None, length, map, is_some, slice_get, take, true, false, refl, sym, ap, ◌∙◌, subst, arith}
+use Rattle.std.proofs.Common.{◌≡◌, ◌≢◌, ◌⊎◌, inl, inr, ℕ, zero, suc, ◌+◌, ◌<◌, ◌≤◌, List, [], ◌∷◌, Option, Some, None, length, is_some, slice_get, true, false, refl, sym, ap, ◌∙◌, subst, arith}
 use mathlib.Core.Logic.{dite}
 use native.Mathlib.Decide.{ℕ_discrete}
 use Rattle.std.proofs.lemmas.Bool.{cases_lt, le-ltb, lt-ltb}
-use Rattle.std.proofs.lemmas.List.{length-map}
 use Rattle.sdd_bag.specs.KeyedPlaces.{PlaceName}
-use Rattle.sdd_bag.specs.Storage.{AreCounted, AreEmpty, IsEmptyAt, KeptPlace, names_of, value_at, with_value_at}
-use Rattle.sdd_bag.specs.Lent.{AreEmptyFrom, AwaitsValue, IsArrayAt, IsGap, TakesLast, TakesOut, with_back, with_lent}
-use Rattle.sdd_bag.proofs.Changing.{keys-inside, with-twice}
+use Rattle.sdd_bag.specs.Storage.{AreCounted, AreEmpty, KeptPlace, names_of, value_at, with_value_at}
+use Rattle.sdd_bag.specs.Lent.{AreEmptyFrom, IsArrayAt, IsGap, TakesLast, TakesOut, with_back}
+use Rattle.sdd_bag.proofs.Changing.{with-twice}
 use Rattle.sdd_bag.proofs.Prefixes.{one-more, with-length, with-other, with-same}
 use Rattle.sdd_bag.proofs.Values.{names-same}
 
@@ -121,7 +120,8 @@ module _ {T : Type 0} where
             (now ∙ ap (λ (qs : List (KeptPlace T)). with_value_at qs at (Some last)) takes.now)
             ∙ ap (λ (qs : List (KeptPlace T)). with_value_at qs at (Some w))
             (with-both (with_value_at old gap None) at gap (Some last) (Some last) apart
-            ∙ ap (λ (qs : List (KeptPlace T)). with_value_at qs at (Some last)) (with-twice old gap None (Some last) ∙ with-again old gap (Some last) takes.was))
+            ∙ ap (λ (qs : List (KeptPlace T)). with_value_at qs at (Some last))
+            (with-twice old gap None (Some last) ∙ with-again old gap (Some last) takes.was))
             ∙ with-twice old at (Some last) (Some w);
       }
 

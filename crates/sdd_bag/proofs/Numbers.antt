@@ -1,5 +1,5 @@
 -- The values in places, by their numbers
-use Rattle.std.proofs.Common.{◌≡◌, ℕ, zero, suc, ◌+◌, ◌<◌, ◌≤◌, List, [], ◌∷◌, ◌++◌, Option, Some, None, length, take, is_some, slice_get, slice_set, true, false, refl, sym, ap, ◌∙◌, arith}
+use Rattle.std.proofs.Common.{◌≡◌, ℕ, zero, suc, ◌+◌, ◌<◌, ◌≤◌, List, [], ◌∷◌, ◌++◌, Option, Some, None, length, take, is_some, slice_get, slice_set, false, refl, sym, ap, ◌∙◌, arith}
 use Rattle.std.proofs.lemmas.List.{take_all}
 use Rattle.sdd_bag.specs.Storage.{KeptPlace, followed, value_at, values_in, with_value_at}
 use Rattle.sdd_bag.proofs.Kept.{not-there}

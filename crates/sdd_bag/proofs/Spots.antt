@@ -1,13 +1,13 @@
 -- Where a cursor is in a bag, and what comes out there and goes back
-use Rattle.std.proofs.Common.{◌≡◌, ◌⊎◌, inl, inr, ℕ, ◌+◌, ◌<◌, ◌≤◌, List, [], Option, Some, None, refl, sym, ap, ◌∙◌, subst}
+use Rattle.std.proofs.Common.{◌≡◌, ◌⊎◌, inl, inr, ℕ, ◌+◌, ◌<◌, ◌≤◌, List, Option, Some, None, refl, sym, ap, ◌∙◌, subst}
 use Rattle.std.specs.Prelude.{MatchOption}
 use Rattle.sdd_bag.specs.declared.behind.Behind.{Behind}
 use Rattle.sdd_bag.specs.KeyedPlaces.{PlaceName}
-use Rattle.sdd_bag.specs.Storage.{AreEmpty, KeptPlace, StandInFront, names_of}
+use Rattle.sdd_bag.specs.Storage.{AreEmpty, KeptPlace, StandInFront}
 use Rattle.sdd_bag.specs.Storages.{StorageName}
 use Rattle.sdd_bag.specs.Bag.{BagParts}
 use Rattle.sdd_bag.specs.Lent.{AreEmptyFrom, IsArrayAt, TakesOut}
-use Rattle.sdd_bag.specs.Spots.{HasFirst, IsAmong, StandsIn, places_of, start_of, with_places}
+use Rattle.sdd_bag.specs.Spots.{HasFirst, StandsIn, places_of, start_of, with_places}
 
 module _ {T B : Type 0} where
   pub with-own : (b : Option (Behind B)) (bag : BagParts T B) → with_places b (places_of b bag) bag ≡ bag

@@ -1,13 +1,13 @@
 -- The bag that a cursor leaves, with another value where one was lent
-use Rattle.std.proofs.Common.{◌≡◌, ℕ, zero, suc, ◌+◌, ◌<◌, ◌≤◌, List, [], ◌∷◌, ◌++◌, Option, Some, None, drop, length, take, is_some, slice_get, slice_set, true, false, refl, sym, ap, ◌∙◌, subst, arith}
+use Rattle.std.proofs.Common.{◌≡◌, ℕ, suc, ◌+◌, List, ◌++◌, Option, Some, None, drop, length, take, slice_get, slice_set, refl, sym, ap, ◌∙◌, arith}
 use Rattle.sdd_bag.specs.declared.behind.Behind.{Behind}
 use Rattle.sdd_bag.specs.KeyedPlaces.{PlaceName}
-use Rattle.sdd_bag.specs.Storage.{AreEmpty, KeptPlace, names_of, value_at, values_in, with_value_at}
+use Rattle.sdd_bag.specs.Storage.{KeptPlace, names_of, value_at, values_in, with_value_at}
 use Rattle.sdd_bag.specs.Storages.{StorageName}
 use Rattle.sdd_bag.specs.Overflow.{LiesOn}
 use Rattle.sdd_bag.specs.Bag.{BagParts, HasSameCells, IsBag, overflow_of, primary_of, values_of}
 use Rattle.sdd_bag.specs.Lent.{TakesOut}
-use Rattle.sdd_bag.specs.Spots.{HasFirst, IsAmong, IsInOrder, StandsIn, places_of, start_of, values_before, whole_at, with_places}
+use Rattle.sdd_bag.specs.Spots.{HasFirst, IsInOrder, StandsIn, places_of, start_of, values_before, whole_at, with_places}
 use Rattle.sdd_space.specs.World.{World}
 use Rattle.sdd_lists.specs.declared.linked_entry.LinkedEntry.{LinkedEntry}
 use Rattle.sdd_lists.specs.Lists.{Entry}
@@ -131,7 +131,8 @@ module _ {T B : Type 0} where
     at-order len (Some b) there is = record {
       some = is.some;
       long = is.long;
-      fills = λ some. some-kept bag.overflow.places i v w there 0 ∙ is.fills (λ none. some (λ k near. some-kept bag.overflow.places i v w there k ∙ none k near));
+      fills = λ some. some-kept bag.overflow.places i v w there 0
+          ∙ is.fills (λ none. some (λ k near. some-kept bag.overflow.places i v w there k ∙ none k near));
     }
 
     module _ (shown : B → Option StorageName) (len : ℕ) (world : World (LinkedEntry B)) where

@@ -16,7 +16,8 @@ ghost use Rattle.sdd_lists.specs.Walk.{shown_of};
 ghost use Rattle.sdd_bag.specs.Lent.{AreEmptyFrom, AwaitsValue, TakesOut};
 ghost use Rattle.sdd_bag.specs.Spots.{HasFirst, IsInOrder, StandsIn, places_of, start_of, whole_at, with_places};
 ghost use Rattle.sdd_lists.specs.Stack.{IsStack, cell_in, home_in};
-ghost use Rattle.sdd_space.specs.OwnerOrCell.{AreOf};
+ghost use Rattle.sdd_participants.specs.EpochState.{due_at};
+ghost use Rattle.sdd_space.specs.OwnerOrCell.{AreOf, OwnerOrCell};
 ghost use Rattle.sdd_bag.specs.Closing.{AreBeside, ClosesBag, EmptiesStorages};
 ghost use Rattle.sdd_bag.specs.Counting.{HasStoragesFor};
 ghost use Rattle.sdd_bag.specs.Changing.{ChangesEach};
@@ -26,7 +27,7 @@ ghost use Rattle.sdd_participants.specs.Slab.{IsEmptyAt as IsEmptyCell};
 ghost use Rattle.sdd_lists.specs.Queue.{HasOneAtMost};
 ghost use Rattle.sdd_space.specs.Shared.{cell_of, cells_home};
 ghost use Rattle.sdd_space.specs.World.{World};
-ghost use Rattle.sdd_space.specs.WorldChanges.{closed, nulled};
+ghost use Rattle.sdd_space.specs.WorldChanges.{closed, nulled, opened};
 ghost use Rattle.sdd_lists.specs.Filling.{AddsOnto, RefusesPush};
 ghost use Rattle.sdd_bag.specs.Bag.{BagParts, HasSameCells, HasStorageMore, PopsBehind, PopsInside, PushesBehind, PushesInside, IsBag, IsOfCells, KeepsStorages, overflow_of, primary_of, values_of};
 
@@ -464,13 +465,7 @@ impl<T, const ARRAY_LEN: usize, B: Shelf<T, ARRAY_LEN>> Bag<T, ARRAY_LEN, B> {
     }
 
     /// Puts a value that was lent back into its place, and what lay there meanwhile into the gap.
-    pub(crate) fn put_at(
-        &mut self,
-        behind: &Option<Behind<'_, B>>,
-        at: usize,
-        gap: usize,
-        value: T,
-    )
+    pub(crate) fn put_at(&mut self, behind: &Option<Behind<'_, B>>, at: usize, gap: usize, value: T)
         requires inside { at < ARRAY_LEN }
         requires few { start_of behind.now < 2 ^ 120 }
         requires stands { StandsIn B.shown ARRAY_LEN behind.now self.old }
@@ -482,7 +477,8 @@ impl<T, const ARRAY_LEN: usize, B: Shelf<T, ARRAY_LEN>> Bag<T, ARRAY_LEN, B> {
             Some(behind) => {
                 let first = storage_on(behind.first).places();
                 let here = storage_on(behind.here).places();
-                self.keys.put_back(first, behind.start, here, at, gap, value)
+                self.keys
+                    .put_back(first, behind.start, here, at, gap, value)
             }
         }
     }
@@ -687,6 +683,14 @@ impl<T, const ARRAY_LEN: usize, B: Shelf<T, ARRAY_LEN>> Bag<T, ARRAY_LEN, B> {
         ensures bag { (w : World (Linked B)) (p : ℕ) → IsBag B.shown ARRAY_LEN w self.now → IsBag B.shown ARRAY_LEN (closed w p) self.now }
         ensures list { (w : World (Linked B)) (p : ℕ) (es : List (Entry (Linked B))) → LiesOn B.shown ARRAY_LEN w es self.now.overflow →
             LiesOn B.shown ARRAY_LEN (closed w p) es self.now.overflow }
+    {}
+
+    /// A law, which does nothing when the program runs: so does an opening at which nothing is due, as that of one more guard of who has one.
+    pub fn stays_at_opening(&self)
+        ensures bag { (holds : Linked B → List OwnerOrCell) (w : World (Linked B)) (p : ℕ) → due_at w.time p ≡ [] →
+            IsBag B.shown ARRAY_LEN w self.now → IsBag B.shown ARRAY_LEN (opened holds w p) self.now }
+        ensures list { (holds : Linked B → List OwnerOrCell) (w : World (Linked B)) (p : ℕ) (es : List (Entry (Linked B))) → due_at w.time p ≡ [] →
+            LiesOn B.shown ARRAY_LEN w es self.now.overflow → LiesOn B.shown ARRAY_LEN (opened holds w p) es self.now.overflow }
     {}
 
     /// There is no value.

@@ -2,11 +2,11 @@
 ghost use Rattle.std.specs.Prelude.{◌≡◌, ◌^◌, ◌<◌, IfSome, Some, is_some, true};
 ghost use Rattle.sdd_bag.specs.Spots.{GoesOn, start_of};
 
-
 use crate::shelf::Shelf;
 use crate::storage::Storage;
 
-/// The storage where a cursor is, if it isn't the bag's own: the shelf of the first one behind that, and its own, with the number of the first key of its places.
+/// The storage where a cursor is, if it isn't the bag's own: the shelf of the first one behind that, its own shelf, and the number of the first key of its
+/// places.
 #[derive(Drop)]
 pub struct Behind<'b, B> {
     pub(crate) first: &'b B,

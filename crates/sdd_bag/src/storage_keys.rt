@@ -241,8 +241,8 @@ impl<T, const LEN: usize> StorageKeys<T, LEN> {
         }
     }
 
-    /// Takes the value of a place out, if it has one, to be lent. The place is of the array whose keys are those from `start` on. What is in the last full place
-    /// of the first array lies there meanwhile, so that of each array the first places have values. Which place that is comes with the value.
+    /// Takes the value of a place out, if it has one, to be lent. The place is of the array whose keys are those from `start` on. What is in the last full
+    /// place of the first array lies there meanwhile, so that of each array the first places have values. Which place that is comes with the value.
     pub fn take_out(
         &mut self,
         first: &Places<T, LEN>,

@@ -44,6 +44,7 @@ pub fn shut_beside<T, const LEN: usize, B: Shelf<T, LEN>, S: Bags<LinkedEntry<B>
     ensures there { IsThere B.shown LEN (S.seat s.new) (S.world s.new) bag.now }
 {
     bag.stays_at_close();
+    bag.stays_at_opening();
     guard.close(s);
 }
 

@@ -1,4 +1,4 @@
-use Rattle.std.proofs.Common.{rules, ◌≡◌, ◌+◌, ◌<◌, ℕ, List, Option, Some, None, MatchOption, refl, ap, ◌∙◌, sym, subst}
+use Rattle.std.proofs.Common.{rules, ◌≡◌, ◌+◌, ◌<◌, ℕ, List, Option, Some, MatchOption, ap, ◌∙◌, sym, subst}
 use Rattle.sdd_bag.specs.declared.behind.Behind.{Behind}
 use Rattle.sdd_bag.specs.Bag.{BagParts}
 use Rattle.sdd_bag.specs.Lent.{AreEmptyFrom, TakesOut}

@@ -37,11 +37,13 @@ new_spec 𝓤 𝓛 𝓜 𝓡 wired T len B L F L' =
     let Small : Type 0 = IsSmall R P S in
     let new : (fits.the_row R P S).Denot = record { of = record {} } in
     let y : (walk_of 𝓛 En hs c).Ghost = ((κs, qs, bounds, a, tt), gh) in let Post : Val → SProp 𝓤 = (walk_of 𝓛 En hs c).post y in
-    qed 𝓛 ((raw (alive 𝓛 En.signature κs qs) ⊛ ‵ (owns (types_at En.signature.params κs) a y.0.4)) ∷ raw (fact 𝓤 _) ∷ raw (fact 𝓤 _) ∷ raw (fact 𝓤 _) ∷ raw (fact 𝓤 _)
+    qed 𝓛 ((raw (alive 𝓛 En.signature κs qs) ⊛ ‵ (owns (types_at En.signature.params κs) a y.0.4)) ∷ raw (fact 𝓤 _) ∷ raw (fact 𝓤 _) ∷ raw (fact 𝓤 _)
+    ∷ raw (fact 𝓤 _)
     ∷ raw (fact 𝓤 Small) ∷ []) ∵
     keep ! (5 ∷ 0 ∷ []) $ heard ! Small (λ small. split ! $ keep ! (0 ∷ []) $
     enter ! 𝓣.C 𝓣.Λ fn [] Post $ alloc_all ! (λ l. pass_all ! refl tt $
     nothing ! $ fpack ! Small (λ _. ftrue) small $ use0 𝓛 (‵ ((Ring R P S).own_val (tt, tt) (token_val ∷ []))) (ring_made R P S 𝓛) $ fjoin ! $
     sets ! (agg ! (no_more !)) refl (tt, tt) $ sets ! (agg ! (and_then ! (get ! refl) (no_more !))) refl (tt, (tt, tt)) $
     nothing ! $
-    returns ! (look_at ! 0 refl) $ free_all ! refl $ use0 𝓛 (raw (emp 𝓤)) (id⊢ 𝓤 (emp 𝓤)) $ keep ! (3 ∷ 1 ∷ 2 ∷ 0 ∷ []) $ by ! (leaves 𝓛 En hs c y token_val new tt tt))))
+    returns ! (look_at ! 0 refl) $ free_all ! refl $ use0 𝓛 (raw (emp 𝓤)) (id⊢ 𝓤 (emp 𝓤)) $ keep ! (3 ∷ 1 ∷ 2 ∷ 0 ∷ []) $
+    by ! (leaves 𝓛 En hs c y token_val new tt tt))))

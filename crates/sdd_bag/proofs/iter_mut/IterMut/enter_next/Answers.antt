@@ -1,4 +1,4 @@
-use Rattle.std.proofs.Common.{◌≡◌, Option, Some, refl, sym, subst}
+use Rattle.std.proofs.Common.{Option, sym, subst}
 use Rattle.sdd_bag.specs.declared.behind.Behind.{Behind}
 use Rattle.sdd_bag.specs.IterMut.{HasHere, Rests}
 use Rattle.sdd_bag.proofs.Cursors.{ends, enters, has-here, stepped}

@@ -1,7 +1,7 @@
-use Rattle.std.proofs.Common.{rules, ◌≡◌, ◌+◌, Option, Some, is_some, refl, sym, ap, ◌∙◌, subst}
+use Rattle.std.proofs.Common.{rules, ◌+◌, Option, Some, is_some, refl, sym, ap, ◌∙◌, subst}
 use Rattle.sdd_bag.specs.Bag.{BagParts}
 use Rattle.sdd_bag.specs.IterMut.{Lends, passed}
-use Rattle.sdd_bag.specs.Spots.{HasFirst, places_of, start_of}
+use Rattle.sdd_bag.specs.Spots.{places_of, start_of}
 use Rattle.sdd_bag.specs.Storage.{value_at}
 use Rattle.sdd_bag.proofs.Cursors.{first-old, lends, rests-held, whole-old}
 use Rattle.sdd_bag.proofs.iter_mut.IterMut.take_here.Goals as goal
