@@ -2,10 +2,12 @@
 ghost use Rattle.std.specs.Prelude.{◌≡◌, ◌<◌, ◌≤◌};
 ghost use Rattle.sdd_bag.specs.There.{MayCall};
 
-use crate::bags::example::{AMPLE, Bags, Entry, Example, StorageBag, in_a_world, in_a_world_left, left};
+use crate::bags::example::{
+    AMPLE, Bags, Entry, Example, StorageBag, in_a_world, in_a_world_left, left,
+};
 use crate::bags::steps::{
-    changed, closed, counted, filled, full_of, made, opened, popped, pushed, shut,
-    shut_beside, summed, tenfold,
+    changed, closed, counted, filled, full_of, made, opened, popped, pushed, shut, shut_beside,
+    summed, tenfold,
 };
 use sdd_bag::Bag;
 use sdd_core::{Limits, Refused};

@@ -2,7 +2,7 @@ use Rattle.std.proofs.Common.{rules, ◌≡◌, ◌*◌, ◌+◌, ◌%◌, ℕ, 
 use Rattle.std.specs.Prelude.{IfSome, MatchOption}
 use Rattle.std.specs.Borrow.{MutBor}
 use Rattle.std.proofs.lemmas.Option.{slice_get_within}
-use Rattle.sdd_bag.specs.Bag.{BagParts, HasSameCells, IsBag, IsOfCells, values_of}
+use Rattle.sdd_bag.specs.Bag.{BagParts, IsBag, IsOfCells, values_of}
 use Rattle.sdd_bag.specs.Storages.{StorageName}
 use Rattle.sdd_lists.specs.declared.stack.Stack.{Stack}
 use Rattle.sdd_lists.specs.Stack.{home_in}
