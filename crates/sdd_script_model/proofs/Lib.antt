@@ -42,3 +42,5 @@ pub mod Leaving
 pub mod Entering
 pub mod Due
 pub mod Filling
+pub mod Closing
+pub mod Copying
