@@ -1,6 +1,6 @@
 -- What is always true of a desk is true after a line that copies a queue or a stack, whether it is refused or not
-use Rattle.std.proofs.Common.{◌≡◌, ◌≢◌, ◌⊎◌, ◌+◌, ◌<◌, ◌≤◌, inl, inr, ℕ, List, [], ◌∷◌, ◌++◌, Option, Some, None, is_some, length, map, count_by, slice_index_or, slice_set, refl, sym, ap, ◌∙◌, subst, arith}
-use Rattle.std.specs.Prelude.{◌*◌, ◌^◌}
+use Rattle.std.proofs.Common.{◌≡◌, ◌≢◌, ◌⊎◌, ◌+◌, ◌<◌, ◌≤◌, inl, inr, ℕ, List, [], ◌∷◌, ◌++◌, Bool, true, false, if◌then◌else◌, Option, Some, None, is_some, length, map, count_by, slice_index_or, slice_set, refl, sym, ap, ◌∙◌, subst, arith}
+use Rattle.std.specs.Prelude.{◌*◌, ◌^◌, not}
 use Rattle.std.proofs.lemmas.Bool.{cases_eq}
 use Rattle.std.proofs.lemmas.List.{length_push, length-set}
 use Rattle.sdd_core.specs.declared.tag.Tag.TheVariants.{None as no_tag}
@@ -14,7 +14,9 @@ use Rattle.sdd_space.specs.World.{World, IsPlaceOf, standing_at, value_at}
 use Rattle.sdd_space.specs.WorldChanges.{nulled, spilled, without_cell}
 use Rattle.sdd_space.specs.WorldInvariant.{IsWhole}
 use Rattle.sdd_lists.specs.Ends.{IsAmong}
-use Rattle.sdd_lists.specs.Lists.{AreLinked, Entry}
+use Rattle.sdd_lists.specs.Entries.{value_of}
+use Rattle.sdd_lists.specs.Lists.{AreLinked, Entry, content, is_deleted}
+use Rattle.sdd_lists.specs.Walk.{shown_of}
 use Rattle.sdd_lists.specs.Queue.{IsQueue, QueueCells, queue_closed}
 use Rattle.sdd_lists.proofs.Few.{no-longer}
 use Rattle.sdd_script_model.specs.declared.val.Body.{Body}
@@ -67,6 +69,25 @@ holds-none v w less es numbers linked j k among = by (value_at w j) refl where
       let was = less j x e in
       let none = none-owned (body_of was.0) (number-among v es numbers linked j among was.0 was.1) in
       times-held x k ∙ ap (λ (hs : List OwnerOrCell). count_by (is_owner_of k) hs) (was.3 ∙ none)
+
+-- what a list of numbers shows
+numbers-content : (es : List (Entry Val)) → AreNumbers es → AreNumbers (content es)
+numbers-content [] all = tt
+numbers-content (e ∷ es) all = by (is_deleted e) (numbers-content es all.1) where
+  by : (b : Bool) → AreNumbers (content es) → AreNumbers (if not b then e ∷ content es else content es)
+  by true more = more
+  by false more = (all.0, more)
+
+numbers-in : (es : List (Entry Val)) → AreNumbers es → AreAllNumbers (map value_of (map (λ (e : Entry Val). e.value) es))
+numbers-in [] all = tt
+numbers-in (e ∷ es) all = (all.0, numbers-in es all.1)
+
+pub shown-numbers : (es : List (Entry Val)) → AreNumbers es → AreAllNumbers (shown_of es)
+shown-numbers es all = numbers-in (content es) (numbers-content es all)
+
+pub first-numbers : (xs ys : List Body) → AreAllNumbers (xs ++ ys) → AreAllNumbers xs
+first-numbers [] ys all = tt
+first-numbers (x ∷ xs) ys all = (all.0, first-numbers xs ys all.1)
 
 -- as many entries as there are slots come in a line at most
 room-left : (d : ScriptState) (w new : World Val) (es : List (Entry Val)) → BeginsLine d → w.tally.made ≤ d.world.tally.made + length es →
