@@ -8,7 +8,7 @@ pub use sdd_core::{Epoch, Limits, Refused, Tag};
 pub use sdd_domain::{Domain, Local, Receipt};
 pub use sdd_lists::laws::{first_in_first_out, last_in_first_out, releases_keep_values};
 pub use sdd_lists::{
-    Iter, Link, LinkedEntry, LinkedList, Queue, Stack, Unfinished, Unpopped, Walk,
+    CloneValue, Iter, Link, LinkedEntry, LinkedList, Queue, Stack, Unfinished, Unpopped, Walk,
 };
 pub use sdd_machine::machine::{Did, Machine, Step, safety};
 pub use sdd_participants::{BoxedJob, Deferred, Idle, Job, Tally};
