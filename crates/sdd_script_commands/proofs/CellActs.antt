@@ -1,5 +1,5 @@
 -- What each action of a cell leaves in hand: it is sound, and it is what the call means
-use Rattle.std.proofs.Common.{◌≡◌, ℕ, Bool, true, false, if◌then◌else◌, List, [], ◌∷◌, ◌++◌, ◌<◌, Option, Some, None, is_some, map, length, slice_index, slice_index_or, slice_set, refl, sym, ap, ◌∙◌}
+use Rattle.std.proofs.Common.{◌≡◌, ℕ, Bool, true, false, if◌then◌else◌, List, [], ◌∷◌, ◌++◌, ◌<◌, Option, Some, None, IsSome, is_some, map, length, slice_index, slice_index_or, slice_set, refl, sym, ap, ◌∙◌}
 use Rattle.std.specs.Prelude.{IsTrue, ◌↔◌, IfSome}
 use Rattle.std.specs.Option.{option_map}
 use Rattle.std.specs.Global.{Vec}

@@ -310,7 +310,8 @@ module _ (h : Environment) (t : IsTied h) where
           free-slot (any.Queue y) puts = puts.pushed.free.0
           free-slot (any.Stack y) puts = puts.pushed.free.0
 
-        pub acts-pushed : (waited : List Bool) → AreTold h waited → (owners : Vec (Option AnyOwner)) (slots names dates : Vec ℕ) (o : OwnerName) (i : ItemName) →
+        pub acts-pushed : (waited : List Bool) → AreTold h waited → (owners : Vec (Option AnyOwner)) (slots : Vec ℕ) (names : Vec (Option ℕ))
+            (dates : Vec ℕ) (o : OwnerName) (i : ItemName) →
             owners.items ≡ h.owners.entries.items ++ Some (Share owner) ∷ [] → slots.items ≡ h.slots.items ++ slot_of owner ∷ [] →
             names.items ≡ slice_set h.names.items (slot_of owner) (Some (length h.slots.items)) → AreDatedNow h w waited dates →
             o.0 ≡ length h.owners.entries.items → i.0 ≡ length h.slots.items →

@@ -150,7 +150,7 @@ module _ (h : Environment) (t : IsTied h) (whole : IsWhole h.world) where
         ),
       )
 
-      pub acts-made : (w : World Val) (between owners : Vec (Option AnyOwner)) (slots named : Vec ℕ) (x : AnyOwner) (b : Body)
+      pub acts-made : (w : World Val) (between owners : Vec (Option AnyOwner)) (slots : Vec ℕ) (named : Vec (Option ℕ)) (x : AnyOwner) (b : Body)
           (o : OwnerName) (i : ItemName) → BecomesBody h.owners.entries.items value between.items b → body_of v ≡ b →
           IsEmptyAt h.world.cells c → IsEmptyAt h.world.standings k → link_of v ≡ c → link_home v ≡ h.world.home.cells →
           w ≡ made_as (nulled h.world c) k v (standing_first own) → owner_holding x ≡ holding_first own k h.world.home.slots →
