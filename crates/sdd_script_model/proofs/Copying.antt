@@ -21,7 +21,7 @@ use Rattle.sdd_lists.specs.Queue.{IsQueue, QueueCells, queue_closed}
 use Rattle.sdd_lists.proofs.Few.{no-longer}
 use Rattle.sdd_script_model.specs.declared.val.Body.{Body}
 use Rattle.sdd_script_model.specs.declared.val.Body.TheVariants.{Number, Owned, Shared}
-use Rattle.sdd_script_model.specs.Copies.{LosesNames, MakesQueueOf, MakesStackOf, entry_slots}
+use Rattle.sdd_script_model.specs.Copies.{ArePlain, LosesNames, MakesQueueOf, MakesStackOf, entry_slots}
 use Rattle.sdd_script_model.specs.Listed.{AreNumbers, Begins, IsNumber}
 use Rattle.sdd_script_model.specs.Queues.{IsNamedQueue}
 use Rattle.sdd_script_model.specs.ScriptState.{BeginsLine, ScriptState, holding_at, in_world, shared_cell, with_items, with_queue, with_stack}
@@ -138,6 +138,20 @@ module _ (d : ScriptState) (s : IsSound d) (whole : IsWhole d.world) (p : ℕ) (
   filled : IsFilled begun begins.sound begun-whole p live w fs held × IsQueue link_of w q fs held
   filled = fills-queue begun begins.sound begun-whole p live n q oldest-is newest-is empty makes.fills.all numbers
 
+  -- none of its entries is marked, and there are no more than slots
+  pub queue-plain : ArePlain fs
+  queue-plain = filled.0.plain
+
+  pub queue-few : length fs ≤ length d.world.standings
+  queue-few =
+      let whole_now = still-whole begun begins.sound begun-whole p live w fs held filled.0 in
+      omega (
+        arith,
+        no-longer link_of w fs filled.1.list.linked,
+        filled-long w.values w.standings whole_now.filled,
+        filled.0.slots,
+      )
+
   pub queue-copied : LeavesSound d (in_world (with_items (with_queue d q.oldest q.newest) (entry_slots fs)) w)
   queue-copied =
       let new : ScriptState = in_world (with_items (with_queue d q.oldest q.newest) (entry_slots fs)) w in
@@ -251,6 +265,14 @@ module _ (d : ScriptState) (s : IsSound d) (whole : IsWhole d.world) (p : ℕ) (
 
   stocked : IsFilled started starting.sound started-whole p live w fs None × Begins w c fs
   stocked = fills-stack started starting.sound started-whole p live m c cell-is nothing makes.fills.all numbers
+
+  pub stack-plain : ArePlain fs
+  stack-plain = stocked.0.plain
+
+  pub stack-few : length fs ≤ length d.world.standings
+  stack-few =
+      let whole_now = still-whole started starting.sound started-whole p live w fs None stocked.0 in
+      omega (arith, no-longer link_of w fs stocked.1.linked, filled-long w.values w.standings whole_now.filled, stocked.0.slots)
 
   pub stack-copied : LeavesSound d (in_world (with_items (with_stack d c) (entry_slots fs)) w)
   stack-copied =

@@ -21,6 +21,7 @@ use Rattle.sdd_lists.proofs.Ending.{among-last}
 use Rattle.sdd_lists.proofs.Lists.{bare, list-same}
 use Rattle.sdd_script_model.specs.declared.val.Body.{Body}
 use Rattle.sdd_script_model.specs.declared.val.Body.TheVariants.{Number, Owned, Shared}
+use Rattle.sdd_script_model.specs.Copies.{ArePlain}
 use Rattle.sdd_script_model.specs.Listed.{Begins, IsListed, IsNumber}
 use Rattle.sdd_script_model.specs.Queues.{Enqueues, IsNamedQueue}
 use Rattle.sdd_script_model.specs.ScriptState.{ScriptState, IsListCell, holding_at, in_world, names_from, shared_cell, with_item, with_items}
@@ -36,7 +37,7 @@ use Rattle.sdd_script_model.proofs.Entry.{at-other, at-same, not-free}
 use Rattle.sdd_script_model.proofs.Entry.{inside as inside-list}
 use Rattle.sdd_script_model.proofs.Gone.{given-other}
 use Rattle.sdd_script_model.proofs.Listed.{listed-inside}
-use Rattle.sdd_script_model.proofs.Plain.{ArePlain, appended-plain, plain-last, through-plain}
+use Rattle.sdd_script_model.proofs.Plain.{appended-plain, plain-last, through-plain}
 use Rattle.sdd_script_model.proofs.QueueEnds.{among-before, among-either}
 use Rattle.sdd_script_model.proofs.QueuePushing as pushing
 use Rattle.sdd_script_model.proofs.StackAppending as appending
@@ -44,7 +45,7 @@ use Rattle.sdd_script_model.proofs.StackPushing.{given-up, leaves-then, mid, not
 
 -- ---- names in order
 
-names-last : (names : List (Option ℕ)) (next : ℕ) (ks : List ℕ) (k : ℕ) →
+pub names-last : (names : List (Option ℕ)) (next : ℕ) (ks : List ℕ) (k : ℕ) →
     names_from names next (ks ++ k ∷ []) ≡ slice_set (names_from names next ks) k (Some (next + length ks))
 names-last names next [] k = ap (λ (n : ℕ). slice_set names k (Some n)) (let e : next ≡ next + 0 = omega arith in e)
 names-last names next (j ∷ ks) k =

@@ -2,6 +2,7 @@
 use Rattle.std.specs.Prelude.{ℕ, ◌≡◌, ◌≢◌, ◌⊎◌, ◌++◌, ◌∷◌, ◌&&◌, [], List, None, Option, is_some, length, map, not, if◌then◌else◌}
 use Rattle.sdd_core.specs.declared.refused.Refused.{Refused}
 use Rattle.sdd_core.specs.declared.refused.Refused.TheVariants.{NoCell}
+use Rattle.sdd_core.specs.declared.tag.Tag.TheVariants.{None as no_tag}
 use Rattle.sdd_participants.specs.Slab.{IsEmptyAt, IsFull}
 use Rattle.sdd_space.specs.World.{World, standing_at}
 use Rattle.sdd_space.specs.WorldChanges.{nulled}
@@ -15,6 +16,11 @@ use Rattle.sdd_script_model.specs.Queues.{IsNamedQueue}
 use Rattle.sdd_script_model.specs.ScriptState.{ScriptState, Leaves, in_world, name_at, with_items, with_queue, with_stack}
 use Rattle.sdd_script_model.specs.Stacks.{IsStack, RefusesEntry, stack_closed}
 use Rattle.sdd_script_model.specs.Val.{Val, link_of}
+
+-- none of these is marked or deleted
+abbrev pub ArePlain : List (Entry Val) → Type 0
+ArePlain [] = Unit {0}
+ArePlain (e ∷ es) = (e.tag ≡ no_tag) × ArePlain es
 
 -- the slots of entries, in order
 abbrev pub entry_slots : List (Entry Val) → List ℕ
