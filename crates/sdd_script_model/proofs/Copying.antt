@@ -163,24 +163,27 @@ module _ (d : ScriptState) (s : IsSound d) (whole : IsWhole d.world) (p : ℕ) (
     abbrev pub after_queue_refused : ScriptState
     after_queue_refused = record d { world = queue_closed link_of w p q fs held; names = names; dates = dates }
 
+    abbrev at_end : ScriptState
+    at_end = filled_with begun begins.sound begun-whole p live w fs
+
+    end-whole : IsWhole w
+    end-whole = still-whole begun begins.sound begun-whole p live w fs held filled.0
+
+    named-so : IsNamedQueue at_end n q fs held
+    named-so = record { oldest = oldest-is; newest = newest-is; queue = filled.1 }
+
+    frames : Frames w (queue_closed link_of w p q fs held)
+    frames = queue.queue_closed-frames at_end filled.0.leaves.sound end-whole p filled.0.placed n q fs held named-so dates
+
+    pub queue-long : length after_queue_refused.world.standings ≡ length d.world.standings
+    queue-long = frames.slots.slots ∙ filled.0.slots
+
     module _ (lost : LosesNames d after_queue_refused) (within : IsDatedWithin d after_queue_refused) where
-      abbrev at_end : ScriptState
-      at_end = filled_with begun begins.sound begun-whole p live w fs
-
-      end-whole : IsWhole w
-      end-whole = still-whole begun begins.sound begun-whole p live w fs held filled.0
-
-      named-so : IsNamedQueue at_end n q fs held
-      named-so = record { oldest = oldest-is; newest = newest-is; queue = filled.1 }
-
       within-end : IsDatedWithin at_end (queue.after_queue_closed at_end filled.0.leaves.sound end-whole p filled.0.placed n q fs held named-so dates)
       within-end = ((λ j lt. rw (filled.0.waits j) (within.0 j lt)), within.1)
 
       closes : LeavesSound at_end (queue.after_queue_closed at_end filled.0.leaves.sound end-whole p filled.0.placed n q fs held named-so dates)
       closes = queue.queue_closed-leaves at_end filled.0.leaves.sound end-whole p filled.0.placed n q fs held named-so dates within-end
-
-      frames : Frames w (queue_closed link_of w p q fs held)
-      frames = queue.queue_closed-frames at_end filled.0.leaves.sound end-whole p filled.0.placed n q fs held named-so dates
 
       abbrev freed : World Val
       freed = spilled (without_cell w q.newest) p held
@@ -283,24 +286,27 @@ module _ (d : ScriptState) (s : IsSound d) (whole : IsWhole d.world) (p : ℕ) (
     abbrev pub after_stack_refused : ScriptState
     after_stack_refused = record d { world = stack_closed w p c fs; names = names; dates = dates }
 
+    abbrev in_end : ScriptState
+    in_end = filled_with started starting.sound started-whole p live w fs
+
+    whole-end : IsWhole w
+    whole-end = still-whole started starting.sound started-whole p live w fs None stocked.0
+
+    is-so : IsStack in_end m c fs
+    is-so = record { named = cell-is; list = stocked.1 }
+
+    kept : Frames w (stack_closed w p c fs)
+    kept = stack.stack_closed-frames in_end stocked.0.leaves.sound whole-end p c stocked.0.placed m fs is-so dates
+
+    pub stack-long : length after_stack_refused.world.standings ≡ length d.world.standings
+    stack-long = kept.slots.slots ∙ stocked.0.slots
+
     module _ (lost : LosesNames d after_stack_refused) (within : IsDatedWithin d after_stack_refused) where
-      abbrev in_end : ScriptState
-      in_end = filled_with started starting.sound started-whole p live w fs
-
-      whole-end : IsWhole w
-      whole-end = still-whole started starting.sound started-whole p live w fs None stocked.0
-
-      is-so : IsStack in_end m c fs
-      is-so = record { named = cell-is; list = stocked.1 }
-
       dated-end : IsDatedWithin in_end (stack.after_stack_closed in_end stocked.0.leaves.sound whole-end p c stocked.0.placed m fs is-so dates)
       dated-end = ((λ j lt. rw (stocked.0.waits j) (within.0 j lt)), within.1)
 
       ends : LeavesSound in_end (stack.after_stack_closed in_end stocked.0.leaves.sound whole-end p c stocked.0.placed m fs is-so dates)
       ends = stack.stack_closed-leaves in_end stocked.0.leaves.sound whole-end p c stocked.0.placed m fs is-so dates dated-end
-
-      kept : Frames w (stack_closed w p c fs)
-      kept = stack.stack_closed-frames in_end stocked.0.leaves.sound whole-end p c stocked.0.placed m fs is-so dates
 
       left : IsForgotten after_stack_refused d fs d.queues d.newest (slice_set started.stacks m None)
       left = record {

@@ -1,0 +1,180 @@
+-- What a copy of a queue or a stack leaves in hand, refused or not: it is sound, and it is what the call means
+use Rattle.std.proofs.Common.{◌≡◌, ◌⊎◌, ◌<◌, ◌≤◌, inl, inr, ℕ, Bool, true, false, List, [], ◌∷◌, ◌++◌, Option, Some, None, is_some, map, length, slice_index, slice_index_or, if◌then◌else◌, refl, sym, ap, ◌∙◌, subst, arith}
+use Rattle.std.specs.Prelude.{Err, ◌&&◌, not}
+use Rattle.std.specs.Option.{option_map}
+use Rattle.std.specs.Global.{Vec}
+use Rattle.std.proofs.lemmas.Bool.{cases_lt}
+use Rattle.std.proofs.lemmas.List.{ext_get_or, get_or_past, length-map}
+use Rattle.sdd_core.specs.declared.refused.Refused.{Refused}
+use Rattle.sdd_standings.specs.Slots.{is_waiting}
+use Rattle.sdd_space.specs.OwnerOrCell as holding
+use Rattle.sdd_space.specs.World.{World, IsPlaceOf, standing_at}
+use Rattle.sdd_space.specs.WorldInvariant.{IsWhole}
+use Rattle.sdd_lists.specs.Lists.{Entry}
+use Rattle.sdd_lists.specs.Queue.{AreOfCells, QueueCells, cells_in, queue_closed}
+use Rattle.sdd_lists.specs.Walk.{shown_of}
+use Rattle.sdd_lists.specs.declared.queue.Queue.{Queue}
+use Rattle.sdd_world.specs.Place.{index_of}
+use Rattle.sdd_script_text.specs.declared.name.GuardName.{GuardName}
+use Rattle.sdd_script_text.specs.declared.name.ListName.TheVariants as list
+use Rattle.sdd_script_text.specs.declared.name.PlaceName.{PlaceName}
+use Rattle.sdd_script_text.specs.declared.name.QueueName.{QueueName}
+use Rattle.sdd_script_text.specs.declared.call.Call.TheVariants.{At}
+use Rattle.sdd_script_text.specs.declared.call.Action.TheVariants as call
+use Rattle.sdd_script_text.specs.declared.answer.Reply.TheVariants as reply
+use Rattle.sdd_script_model.specs.declared.val.Body.{Body}
+use Rattle.sdd_script_model.specs.Copies.{LosesNames, MakesQueueOf, entry_slots}
+use Rattle.sdd_script_model.specs.Listed.{AreNumbers}
+use Rattle.sdd_script_model.specs.Queues.{IsNamedQueue}
+use Rattle.sdd_script_model.specs.ScriptState.{BeginsLine, ScriptState, name_at, names_from, opening_at, place_of}
+use Rattle.sdd_script_model.specs.Script.{HasOpen}
+use Rattle.sdd_script_model.specs.Val.{Val, link_of}
+use Rattle.sdd_script_model.proofs.Copying.{first-numbers, queue-copied, queue-long, queue-refused, shown-numbers}
+use Rattle.sdd_script_model.proofs.Filling.{AreAllNumbers}
+use Rattle.sdd_script_model.proofs.QueueGoing.{its-numbers}
+use Rattle.sdd_interpreter.specs.Copies.{QueueIsCopied}
+use Rattle.sdd_interpreter.specs.Owners.{newest_holding, oldest_holding}
+use Rattle.sdd_interpreter.specs.declared.participants.NamedParticipant.{NamedParticipant}
+use Rattle.sdd_interpreter.specs.Environment.{attending}
+use Rattle.sdd_interpreter.specs.declared.interpreter.Environment.{Environment}
+use Rattle.sdd_interpreter.specs.Interpreter.{IsTied, desk_of}
+use Rattle.sdd_interpreter.proofs.Acts as acts
+use Rattle.sdd_interpreter.proofs.Acts.{Does, does, goes, in_range, is-there, leads, still}
+use Rattle.sdd_interpreter.proofs.Queues.{both-long, queues-more}
+use Rattle.sdd_script_commands.proofs.QueueActs.{is-queue, queue-entries}
+use Rattle.sdd_script_commands.proofs.StackActs.{AreDatedNow, AreDatedSo, AreTold, dated-within}
+
+-- of each slot it was told whether it was free
+abbrev pub AreFreeSo : Environment → List Bool → Type 0
+AreFreeSo h free = (s : ℕ) → s < length h.names.items → slice_index_or free s false ≡ not (is_some (standing_at h.world s))
+
+-- and by that what is in one that was has no name
+abbrev pub AreForgotten : Environment → World Val → List Bool → Vec (Option ℕ) → Type 0
+AreForgotten h w free names =
+    ((s : ℕ) → s < length h.names.items → slice_index_or names.items s None
+    ≡ (if is_some (standing_at w s) && slice_index_or free s false then None else slice_index_or h.names.items s None))
+    × (length names.items ≡ length h.names.items)
+
+past-end : {X : Type 0} (xs : List X) (k : ℕ) (x : X) → length xs ≤ k → slice_index_or xs k x ≡ x
+past-end xs k x past = get_or_past xs k x past
+
+module _ (h : Environment) (t : IsTied h) (whole : IsWhole h.world) (name : PlaceName) (a : NamedParticipant)
+    (there : attending (Some a) ≡ opening_at (desk_of h).places name.0) (line : BeginsLine (desk_of h)) where
+  abbrev d : ScriptState
+  d = desk_of h
+
+  abbrev n : ℕ
+  n = name.0
+
+  abbrev p : ℕ
+  p = index_of a.place
+
+  live : IsPlaceOf h.world p
+  live = in_range h t whole name a there
+
+  place-is : place_of (desk_of h) n ≡ p
+  place-is = acts.is h t whole name a there
+
+  -- what was told of the slots says which items lose their names
+  loses : (w : World Val) (free : List Bool) → AreFreeSo h free → (names : Vec (Option ℕ)) → AreForgotten h w free names →
+      length w.standings ≡ length h.world.standings → (new : ScriptState) → new.names ≡ names.items → new.world ≡ w → LosesNames d new
+  loses w free told names now long new names_are world = record {
+    names = λ s. elim (cases_lt s (length h.names.items)) [
+      | inl lt ↦
+          rw (names_are, world) (now.0 s lt
+          ∙ ap (λ (b : Bool). if is_some (standing_at w s) && b then None else slice_index_or h.names.items s None) (told s lt))
+      | inr past ↦
+          (let nothing : standing_at w s ≡ None = past-end w.standings s None (omega (arith, past, long, t.sound.stocked.names)) in
+          let none : slice_index_or names.items s None ≡ None = past-end names.items s None (omega (arith, past, now.1)) in
+          rw (names_are, world, nothing) (none ∙ sym (past-end h.names.items s None past)))
+    ];
+    long = ap length names_are ∙ now.1;
+  }
+
+  neither : (b : Bool) (x : Option ℕ) → (if b && not b then None else x) ≡ x
+  neither true x = refl
+  neither false x = refl
+
+  -- where the world is as before, so are the names and the dates
+  as-named : (w : World Val) (free : List Bool) → AreFreeSo h free → (names : Vec (Option ℕ)) → AreForgotten h w free names → w ≡ h.world →
+      names.items ≡ h.names.items
+  as-named w free told names now same =
+      ext_get_or None names.items h.names.items now.1 (λ s lt.
+      (let lt : s < length h.names.items = omega (arith, lt, now.1) in
+      now.0 s lt
+      ∙ ap (λ (b : Bool). if is_some (standing_at w s) && b then None else slice_index_or h.names.items s None)
+      (told s lt ∙ ap (λ (u : World Val). not (is_some (standing_at u s))) (sym same))
+      ∙ neither (is_some (standing_at w s)) (slice_index_or h.names.items s None)))
+
+  either : (b : Bool) (x y : ℕ) → (if b then (if b then x else y) else x) ≡ x
+  either true x y = refl
+  either false x y = refl
+
+  as-dated : (w : World Val) (dates : Vec ℕ) → AreDatedSo h w dates → w ≡ h.world → dates.items ≡ h.dates.items
+  as-dated w dates now same =
+      ext_get_or 0 dates.items h.dates.items now.1 (λ s lt.
+      now.0 s (omega (arith, lt, now.1))
+      ∙ ap (λ (u : World Val). if is_waiting (standing_at u s) then (if is_waiting (standing_at h.world s) then slice_index h.dates.items s else h.moment)
+      else slice_index h.dates.items s) same
+      ∙ either (is_waiting (standing_at h.world s)) (slice_index h.dates.items s) h.moment)
+
+  module _ (q : QueueName) (x : Queue Body) (mine : Some x ≡ slice_index_or h.queues.entries.items q.0 None) (g : GuardName)
+      (valid : HasOpen (desk_of h) n g.0) where
+    abbrev es : List (Entry Val)
+    es = (queue-entries h t q.0 x mine).0
+
+    abbrev second : Option ℕ
+    second = (queue-entries h t q.0 x mine).1
+
+    abbrev is : IsNamedQueue (desk_of h) q.0 (cells_in x) es second
+    is = (queue-entries h t q.0 x mine).2
+
+    pub numbers-of_queue : AreNumbers es
+    numbers-of_queue = its-numbers d t.sound whole q.0 (cells_in x) is.oldest is.newest es is.queue.list
+
+    all-numbers : AreAllNumbers (shown_of es)
+    all-numbers = shown-numbers es numbers-of_queue
+
+    pub acts-queue_copied : (w : World Val) (queues : Vec (Option (Queue Body))) (slots : Vec ℕ) (names : Vec (Option ℕ)) (y : Queue Body) (r : QueueName)
+        (fs : List (Entry Val)) (held : Option ℕ) → MakesQueueOf h.world p (shown_of es) (cells_in y) fs held w → AreOfCells h.world.home.cells y →
+        queues.items ≡ h.queues.entries.items ++ Some y ∷ [] → slots.items ≡ h.slots.items ++ entry_slots fs →
+        names.items ≡ names_from h.names.items (length h.slots.items) (entry_slots fs) → r.0 ≡ length h.queues.entries.items →
+        Does (desk_of h) (At name (call.CloneList (list.Queue q) g)) (reply.Queue r)
+        (record h { world = w; queues = record { entries = queues }; slots = slots; names = names })
+    acts-queue_copied w queues slots names y r fs held makes home pushed longer written named =
+        let c = cells_in y in
+        let more = queues-more h queues y pushed in
+        let oldest : map (option_map oldest_holding) queues.items ≡ d.queues ++ Some (holding.atomic_shared c.oldest h.world.home.cells) ∷ [] =
+        more.0 ∙ ap (λ z. d.queues ++ Some (holding.atomic_shared c.oldest z) ∷ []) home.oldest in
+        let newest : map (option_map newest_holding) queues.items ≡ d.newest ++ Some (holding.atomic_shared c.newest h.world.home.cells) ∷ [] =
+        more.1 ∙ ap (λ z. d.newest ++ Some (holding.atomic_shared c.newest z) ∷ []) home.newest in
+        let makes_so = subst (λ (i : ℕ). MakesQueueOf h.world i (shown_of es) c fs held w) (sym place-is) makes in
+        leads h t (At name (call.CloneList (list.Queue q) g)) (reply.Queue r) refl (cc (oldest, newest, longer, written))
+        (queue-copied d t.sound whole p live (shown_of es) all-numbers c fs held w makes (both-long h))
+        ((valid, is-queue h q.0 x mine),
+        (named ∙ sym (length-map h.queues.entries.items (option_map oldest_holding)), (cells_in x, es, second, c, fs, held, w, is, makes_so, refl)))
+
+    pub acts-queue_refused : (w : World Val) (why : Refused) (free waited : List Bool) → AreFreeSo h free → AreTold h waited → (names : Vec (Option ℕ))
+        (dates : Vec ℕ) → AreForgotten h w free names → AreDatedNow h w waited dates → QueueIsCopied p h.world es (Err why) w →
+        Does (desk_of h) (At name (call.CloneList (list.Queue q) g)) (reply.Refused why) (record h { world = w; names = names; dates = dates })
+    acts-queue_refused w why free waited free_so told names dates forgotten now (inl (none, is_cell, same)) =
+        let kept_names : names.items ≡ h.names.items = as-named w free free_so names forgotten same in
+        let kept_dates : dates.items ≡ h.dates.items = as-dated w dates (dated-within h t waited told w dates now) same in
+        does d (At name (call.CloneList (list.Queue q) g)) (reply.Refused why)
+        (goes (cc (same, kept_names, kept_dates)) t.sound t.guards)
+        (still d (At name (call.CloneList (list.Queue q) g)) (reply.Refused why) ((valid, is-queue h q.0 x mine), inl (none, is_cell, refl)))
+    acts-queue_refused w why free waited free_so told names dates forgotten now
+        (inr (c, fs, held, v, first, next, others, parts, makes, refuses, closed)) =
+        let numbers = first-numbers first (next ∷ others) (subst (λ (vs : List Body). AreAllNumbers vs) parts all-numbers) in
+        let last : World Val = queue_closed link_of v p c fs held in
+        let long = queue-long d t.sound whole p live first numbers c fs held v makes (both-long h) line names.items dates.items in
+        let lost = loses last free free_so names (subst (λ (u : World Val). AreForgotten h u free names) closed forgotten) long
+        (record d { world = last; names = names.items; dates = dates.items }) refl refl in
+        let makes_so = subst (λ (i : ℕ). MakesQueueOf h.world i first c fs held v) (sym place-is) makes in
+        leads h t (At name (call.CloneList (list.Queue q) g)) (reply.Refused why) refl (cc (closed))
+        (queue-refused d t.sound whole p live first numbers c fs held v makes (both-long h) line names.items dates.items lost
+        (dated-within h t waited told last dates (subst (λ (u : World Val). AreDatedNow h u waited dates) closed now)))
+        ((valid, is-queue h q.0 x mine),
+        inr (cells_in x, es, second, c, fs, held, v, first, next, others, is, parts, makes_so, refuses,
+        (ap (λ (i : ℕ). record d { world = queue_closed link_of v i c fs held; names = names.items; dates = dates.items }) (sym place-is),
+        record { names = lost.names; long = lost.long })))
