@@ -12,28 +12,33 @@ use Rattle.sdd_space.specs.World.{World, IsPlaceOf, standing_at}
 use Rattle.sdd_space.specs.WorldInvariant.{IsWhole}
 use Rattle.sdd_lists.specs.Lists.{Entry}
 use Rattle.sdd_lists.specs.Queue.{AreOfCells, QueueCells, cells_in, queue_closed}
+use Rattle.sdd_lists.specs.Stack.{cell_in, home_in}
 use Rattle.sdd_lists.specs.Walk.{shown_of}
 use Rattle.sdd_lists.specs.declared.queue.Queue.{Queue}
+use Rattle.sdd_lists.specs.declared.stack.Stack.{Stack}
 use Rattle.sdd_world.specs.Place.{index_of}
 use Rattle.sdd_script_text.specs.declared.name.GuardName.{GuardName}
 use Rattle.sdd_script_text.specs.declared.name.ListName.TheVariants as list
 use Rattle.sdd_script_text.specs.declared.name.PlaceName.{PlaceName}
 use Rattle.sdd_script_text.specs.declared.name.QueueName.{QueueName}
+use Rattle.sdd_script_text.specs.declared.name.StackName.{StackName}
 use Rattle.sdd_script_text.specs.declared.call.Call.TheVariants.{At}
 use Rattle.sdd_script_text.specs.declared.call.Action.TheVariants as call
 use Rattle.sdd_script_text.specs.declared.answer.Reply.TheVariants as reply
 use Rattle.sdd_script_model.specs.declared.val.Body.{Body}
-use Rattle.sdd_script_model.specs.Copies.{LosesNames, MakesQueueOf, entry_slots}
+use Rattle.sdd_script_model.specs.Copies.{LosesNames, MakesQueueOf, MakesStackOf, entry_slots}
 use Rattle.sdd_script_model.specs.Listed.{AreNumbers}
 use Rattle.sdd_script_model.specs.Queues.{IsNamedQueue}
 use Rattle.sdd_script_model.specs.ScriptState.{BeginsLine, ScriptState, name_at, names_from, opening_at, place_of}
 use Rattle.sdd_script_model.specs.Script.{HasOpen}
+use Rattle.sdd_script_model.specs.Stacks.{IsStack, stack_closed}
 use Rattle.sdd_script_model.specs.Val.{Val, link_of}
-use Rattle.sdd_script_model.proofs.Copying.{first-numbers, queue-copied, queue-long, queue-refused, shown-numbers}
+use Rattle.sdd_script_model.proofs.Copying.{first-numbers, queue-copied, queue-long, queue-refused, shown-numbers, stack-copied, stack-long, stack-refused}
 use Rattle.sdd_script_model.proofs.Filling.{AreAllNumbers}
 use Rattle.sdd_script_model.proofs.QueueGoing.{its-numbers}
-use Rattle.sdd_interpreter.specs.Copies.{QueueIsCopied}
-use Rattle.sdd_interpreter.specs.Owners.{newest_holding, oldest_holding}
+use Rattle.sdd_script_model.proofs.StackGoing.{numbers as stack_numbers}
+use Rattle.sdd_interpreter.specs.Copies.{QueueIsCopied, StackIsCopied}
+use Rattle.sdd_interpreter.specs.Owners.{newest_holding, oldest_holding, stack_holding}
 use Rattle.sdd_interpreter.specs.declared.participants.NamedParticipant.{NamedParticipant}
 use Rattle.sdd_interpreter.specs.Environment.{attending}
 use Rattle.sdd_interpreter.specs.declared.interpreter.Environment.{Environment}
@@ -41,8 +46,9 @@ use Rattle.sdd_interpreter.specs.Interpreter.{IsTied, desk_of}
 use Rattle.sdd_interpreter.proofs.Acts as acts
 use Rattle.sdd_interpreter.proofs.Acts.{Does, does, goes, in_range, is-there, leads, still}
 use Rattle.sdd_interpreter.proofs.Queues.{both-long, queues-more}
+use Rattle.sdd_interpreter.proofs.Stacks.{stacks-more}
 use Rattle.sdd_script_commands.proofs.QueueActs.{is-queue, queue-entries}
-use Rattle.sdd_script_commands.proofs.StackActs.{AreDatedNow, AreDatedSo, AreTold, dated-within}
+use Rattle.sdd_script_commands.proofs.StackActs.{AreDatedNow, AreDatedSo, AreTold, dated-within, is-stack, stack-entries}
 
 -- of each slot it was told whether it was free
 abbrev pub AreFreeSo : Environment → List Bool → Type 0
@@ -177,4 +183,59 @@ module _ (h : Environment) (t : IsTied h) (whole : IsWhole h.world) (name : Plac
         ((valid, is-queue h q.0 x mine),
         inr (cells_in x, es, second, c, fs, held, v, first, next, others, is, parts, makes_so, refuses,
         (ap (λ (i : ℕ). record d { world = queue_closed link_of v i c fs held; names = names.items; dates = dates.items }) (sym place-is),
+        record { names = lost.names; long = lost.long })))
+
+  module _ (s : StackName) (x : Stack Body) (mine : Some x ≡ slice_index_or h.stacks.entries.items s.0 None) (g : GuardName)
+      (valid : HasOpen (desk_of h) n g.0) where
+    abbrev fills : List (Entry Val)
+    fills = (stack-entries h t s.0 x mine).0
+
+    abbrev its : IsStack (desk_of h) s.0 (cell_in x) fills
+    its = (stack-entries h t s.0 x mine).1
+
+    pub numbers-of_stack : AreNumbers fills
+    numbers-of_stack = stack_numbers d t.sound whole p (cell_in x) live s.0 fills its h.dates.items
+
+    all-values : AreAllNumbers (shown_of fills)
+    all-values = shown-numbers fills numbers-of_stack
+
+    pub acts-stack_copied : (w : World Val) (stacks : Vec (Option (Stack Body))) (slots : Vec ℕ) (names : Vec (Option ℕ)) (y : Stack Body) (r : StackName)
+        (fs : List (Entry Val)) → MakesStackOf h.world p (shown_of fills) (cell_in y) fs w → home_in y ≡ h.world.home.cells →
+        stacks.items ≡ h.stacks.entries.items ++ Some y ∷ [] → slots.items ≡ h.slots.items ++ entry_slots fs →
+        names.items ≡ names_from h.names.items (length h.slots.items) (entry_slots fs) → r.0 ≡ length h.stacks.entries.items →
+        Does (desk_of h) (At name (call.CloneList (list.Stack s) g)) (reply.Stack r)
+        (record h { world = w; stacks = record { entries = stacks }; slots = slots; names = names })
+    acts-stack_copied w stacks slots names y r fs makes home pushed longer written named =
+        let c : ℕ = cell_in y in
+        let more : map (option_map stack_holding) stacks.items ≡ d.stacks ++ Some (holding.atomic_shared c h.world.home.cells) ∷ [] =
+        stacks-more h stacks y pushed ∙ ap (λ z. d.stacks ++ Some (holding.atomic_shared c z) ∷ []) home in
+        let makes_so = subst (λ (i : ℕ). MakesStackOf h.world i (shown_of fills) c fs w) (sym place-is) makes in
+        leads h t (At name (call.CloneList (list.Stack s) g)) (reply.Stack r) refl (cc (more, longer, written))
+        (stack-copied d t.sound whole p live (shown_of fills) all-values c fs w makes)
+        ((valid, is-stack h s.0 x mine),
+        (named ∙ sym (length-map h.stacks.entries.items (option_map stack_holding)), (cell_in x, fills, c, fs, w, its, makes_so, refl)))
+
+    pub acts-stack_refused : (w : World Val) (why : Refused) (free waited : List Bool) → AreFreeSo h free → AreTold h waited → (names : Vec (Option ℕ))
+        (dates : Vec ℕ) → AreForgotten h w free names → AreDatedNow h w waited dates → StackIsCopied p h.world fills (Err why) w →
+        Does (desk_of h) (At name (call.CloneList (list.Stack s) g)) (reply.Refused why) (record h { world = w; names = names; dates = dates })
+    acts-stack_refused w why free waited free_so told names dates forgotten now (inl (none, is_cell, same)) =
+        let kept_names : names.items ≡ h.names.items = as-named w free free_so names forgotten same in
+        let kept_dates : dates.items ≡ h.dates.items = as-dated w dates (dated-within h t waited told w dates now) same in
+        does d (At name (call.CloneList (list.Stack s) g)) (reply.Refused why)
+        (goes (cc (same, kept_names, kept_dates)) t.sound t.guards)
+        (still d (At name (call.CloneList (list.Stack s) g)) (reply.Refused why) ((valid, is-stack h s.0 x mine), inl (none, is_cell, refl)))
+    acts-stack_refused w why free waited free_so told names dates forgotten now
+        (inr (c, fs, v, first, next, others, parts, makes, refuses, closed)) =
+        let numbers = first-numbers first (next ∷ others) (subst (λ (vs : List Body). AreAllNumbers vs) parts all-values) in
+        let last : World Val = stack_closed v p c fs in
+        let long = stack-long d t.sound whole p live first numbers c fs v makes line names.items dates.items in
+        let lost = loses last free free_so names (subst (λ (u : World Val). AreForgotten h u free names) closed forgotten) long
+        (record d { world = last; names = names.items; dates = dates.items }) refl refl in
+        let makes_so = subst (λ (i : ℕ). MakesStackOf h.world i first c fs v) (sym place-is) makes in
+        leads h t (At name (call.CloneList (list.Stack s) g)) (reply.Refused why) refl (cc (closed))
+        (stack-refused d t.sound whole p live first numbers c fs v makes line names.items dates.items lost
+        (dated-within h t waited told last dates (subst (λ (u : World Val). AreDatedNow h u waited dates) closed now)))
+        ((valid, is-stack h s.0 x mine),
+        inr (cell_in x, fills, c, fs, v, first, next, others, its, parts, makes_so, refuses,
+        (ap (λ (i : ℕ). record d { world = stack_closed v i c fs; names = names.items; dates = dates.items }) (sym place-is),
         record { names = lost.names; long = lost.long })))
