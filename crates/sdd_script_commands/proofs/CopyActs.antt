@@ -1,17 +1,19 @@
 -- What a copy of a queue or a stack leaves in hand, refused or not: it is sound, and it is what the call means
 use Rattle.std.proofs.Common.{◌≡◌, ◌⊎◌, ◌<◌, ◌≤◌, inl, inr, ℕ, Bool, true, false, List, [], ◌∷◌, ◌++◌, Option, Some, None, is_some, map, length, slice_index, slice_index_or, if◌then◌else◌, refl, sym, ap, ◌∙◌, subst, arith}
-use Rattle.std.specs.Prelude.{Err, ◌&&◌, not}
+use Rattle.std.specs.Prelude.{Err, Ok, ◌&&◌, not}
 use Rattle.std.specs.Option.{option_map}
 use Rattle.std.specs.Global.{Vec}
 use Rattle.std.proofs.lemmas.Bool.{cases_lt}
 use Rattle.std.proofs.lemmas.List.{ext_get_or, get_or_past, length-map}
 use Rattle.sdd_core.specs.declared.refused.Refused.{Refused}
 use Rattle.sdd_standings.specs.Slots.{is_waiting}
+use Rattle.sdd_space.specs.CallerId.{reader_at}
+use Rattle.sdd_space.specs.Guard.{ReaderId}
 use Rattle.sdd_space.specs.OwnerOrCell as holding
 use Rattle.sdd_space.specs.World.{World, IsPlaceOf, standing_at}
 use Rattle.sdd_space.specs.WorldInvariant.{IsWhole}
 use Rattle.sdd_lists.specs.Lists.{Entry}
-use Rattle.sdd_lists.specs.Queue.{AreOfCells, QueueCells, cells_in, queue_closed}
+use Rattle.sdd_lists.specs.Queue.{AreOfCells, IsQueue, QueueCells, cells_in, queue_closed}
 use Rattle.sdd_lists.specs.Stack.{cell_in, home_in}
 use Rattle.sdd_lists.specs.Walk.{shown_of}
 use Rattle.sdd_lists.specs.declared.queue.Queue.{Queue}
@@ -26,14 +28,14 @@ use Rattle.sdd_script_text.specs.declared.call.Call.TheVariants.{At}
 use Rattle.sdd_script_text.specs.declared.call.Action.TheVariants as call
 use Rattle.sdd_script_text.specs.declared.answer.Reply.TheVariants as reply
 use Rattle.sdd_script_model.specs.declared.val.Body.{Body}
-use Rattle.sdd_script_model.specs.Copies.{LosesNames, MakesQueueOf, MakesStackOf, entry_slots}
-use Rattle.sdd_script_model.specs.Listed.{AreNumbers}
+use Rattle.sdd_script_model.specs.Copies.{ArePlain, LosesNames, MakesQueueOf, MakesStackOf, entry_slots}
+use Rattle.sdd_script_model.specs.Listed.{AreNumbers, Begins}
 use Rattle.sdd_script_model.specs.Queues.{IsNamedQueue}
 use Rattle.sdd_script_model.specs.ScriptState.{BeginsLine, ScriptState, name_at, names_from, opening_at, place_of}
 use Rattle.sdd_script_model.specs.Script.{HasOpen}
 use Rattle.sdd_script_model.specs.Stacks.{IsStack, stack_closed}
 use Rattle.sdd_script_model.specs.Val.{Val, link_of}
-use Rattle.sdd_script_model.proofs.Copying.{first-numbers, queue-copied, queue-long, queue-refused, shown-numbers, stack-copied, stack-long, stack-refused}
+use Rattle.sdd_script_model.proofs.Copying.{first-numbers, queue-copied, queue-few, queue-holds, queue-inside, queue-long, queue-placed, queue-plain, queue-refused, shown-numbers, stack-copied, stack-few, stack-holds, stack-inside, stack-long, stack-placed, stack-plain, stack-refused}
 use Rattle.sdd_script_model.proofs.Filling.{AreAllNumbers}
 use Rattle.sdd_script_model.proofs.QueueGoing.{its-numbers}
 use Rattle.sdd_script_model.proofs.StackGoing.{numbers as stack_numbers}
@@ -97,6 +99,9 @@ module _ (h : Environment) (t : IsTied h) (whole : IsWhole h.world) (name : Plac
     long = ap length names_are ∙ now.1;
   }
 
+  reader-same : (w : World Val) → w.home ≡ h.world.home → reader_at w p ≡ reader_at h.world p
+  reader-same w home = ap (λ z. let id : ReaderId = record { home = z.readers; number = p } in id) home
+
   neither : (b : Bool) (x : Option ℕ) → (if b && not b then None else x) ≡ x
   neither true x = refl
   neither false x = refl
@@ -141,6 +146,45 @@ module _ (h : Environment) (t : IsTied h) (whole : IsWhole h.world) (name : Plac
     all-numbers : AreAllNumbers (shown_of es)
     all-numbers = shown-numbers es numbers-of_queue
 
+    -- what the copy has, and what was not changed
+    pub record QueueFilled (w : World Val) (y : Queue Body) : Type 0 where
+      pub entries : List (Entry Val)
+      pub newest : Option ℕ
+      pub makes : MakesQueueOf h.world p (shown_of es) (cells_in y) entries newest w
+      pub has : IsQueue link_of w (cells_in y) entries newest
+      pub plain : ArePlain entries
+      pub few : length entries ≤ length h.names.items
+      pub inside : (k i : ℕ) → k < length (entry_slots entries) → slice_index_or (entry_slots entries) k i < length h.names.items
+      pub placed : IsPlaceOf w p
+      pub home : w.home ≡ h.world.home
+      pub reader : reader_at w p ≡ reader_at h.world p
+
+    pub queue-filled : (w : World Val) (y : Queue Body) → QueueIsCopied p h.world es (Ok y) w → QueueFilled w y
+    queue-filled w y (fs, held, makes) =
+        let c = cells_in y in
+        record {
+          entries = fs;
+          newest = held;
+          makes = makes;
+          has = queue-holds d t.sound whole p live (shown_of es) all-numbers c fs held w makes (both-long h);
+          plain = queue-plain d t.sound whole p live (shown_of es) all-numbers c fs held w makes (both-long h);
+          few =
+              omega (
+                arith,
+                queue-few d t.sound whole p live (shown_of es) all-numbers c fs held w makes (both-long h),
+                t.sound.stocked.names,
+              );
+          inside = λ k i lt.
+              omega (
+                arith,
+                queue-inside d t.sound whole p live (shown_of es) all-numbers c fs held w makes (both-long h) k i lt,
+                t.sound.stocked.names,
+              );
+          placed = queue-placed d t.sound whole p live (shown_of es) all-numbers c fs held w makes (both-long h);
+          home = (queue-copied d t.sound whole p live (shown_of es) all-numbers c fs held w makes (both-long h)).home;
+          reader = reader-same w (queue-copied d t.sound whole p live (shown_of es) all-numbers c fs held w makes (both-long h)).home;
+        }
+
     pub acts-queue_copied : (w : World Val) (queues : Vec (Option (Queue Body))) (slots : Vec ℕ) (names : Vec (Option ℕ)) (y : Queue Body) (r : QueueName)
         (fs : List (Entry Val)) (held : Option ℕ) → MakesQueueOf h.world p (shown_of es) (cells_in y) fs held w → AreOfCells h.world.home.cells y →
         queues.items ≡ h.queues.entries.items ++ Some y ∷ [] → slots.items ≡ h.slots.items ++ entry_slots fs →
@@ -160,16 +204,17 @@ module _ (h : Environment) (t : IsTied h) (whole : IsWhole h.world) (name : Plac
         ((valid, is-queue h q.0 x mine),
         (named ∙ sym (length-map h.queues.entries.items (option_map oldest_holding)), (cells_in x, es, second, c, fs, held, w, is, makes_so, refl)))
 
-    pub acts-queue_refused : (w : World Val) (why : Refused) (free waited : List Bool) → AreFreeSo h free → AreTold h waited → (names : Vec (Option ℕ))
-        (dates : Vec ℕ) → AreForgotten h w free names → AreDatedNow h w waited dates → QueueIsCopied p h.world es (Err why) w →
-        Does (desk_of h) (At name (call.CloneList (list.Queue q) g)) (reply.Refused why) (record h { world = w; names = names; dates = dates })
-    acts-queue_refused w why free waited free_so told names dates forgotten now (inl (none, is_cell, same)) =
+    pub acts-queue_refused : (queues : Vec (Option (Queue Body))) (slots : Vec ℕ) → queues.items ≡ h.queues.entries.items → slots.items ≡ h.slots.items →
+        (w : World Val) (why : Refused) (free waited : List Bool) → AreFreeSo h free → AreTold h waited → (names : Vec (Option ℕ)) (dates : Vec ℕ) →
+        AreForgotten h w free names → AreDatedNow h w waited dates → QueueIsCopied p h.world es (Err why) w →
+        Does (desk_of h) (At name (call.CloneList (list.Queue q) g)) (reply.Refused why) (record h { world = w; queues = record { entries = queues }; slots = slots; names = names; dates = dates })
+    acts-queue_refused queues slots same_queues same_slots w why free waited free_so told names dates forgotten now (inl (none, is_cell, same)) =
         let kept_names : names.items ≡ h.names.items = as-named w free free_so names forgotten same in
         let kept_dates : dates.items ≡ h.dates.items = as-dated w dates (dated-within h t waited told w dates now) same in
         does d (At name (call.CloneList (list.Queue q) g)) (reply.Refused why)
-        (goes (cc (same, kept_names, kept_dates)) t.sound t.guards)
+        (goes (cc (same, ap (map (option_map oldest_holding)) same_queues, ap (map (option_map newest_holding)) same_queues, same_slots, kept_names, kept_dates)) t.sound t.guards)
         (still d (At name (call.CloneList (list.Queue q) g)) (reply.Refused why) ((valid, is-queue h q.0 x mine), inl (none, is_cell, refl)))
-    acts-queue_refused w why free waited free_so told names dates forgotten now
+    acts-queue_refused queues slots same_queues same_slots w why free waited free_so told names dates forgotten now
         (inr (c, fs, held, v, first, next, others, parts, makes, refuses, closed)) =
         let numbers = first-numbers first (next ∷ others) (subst (λ (vs : List Body). AreAllNumbers vs) parts all-numbers) in
         let last : World Val = queue_closed link_of v p c fs held in
@@ -177,7 +222,7 @@ module _ (h : Environment) (t : IsTied h) (whole : IsWhole h.world) (name : Plac
         let lost = loses last free free_so names (subst (λ (u : World Val). AreForgotten h u free names) closed forgotten) long
         (record d { world = last; names = names.items; dates = dates.items }) refl refl in
         let makes_so = subst (λ (i : ℕ). MakesQueueOf h.world i first c fs held v) (sym place-is) makes in
-        leads h t (At name (call.CloneList (list.Queue q) g)) (reply.Refused why) refl (cc (closed))
+        leads h t (At name (call.CloneList (list.Queue q) g)) (reply.Refused why) refl (cc (closed, ap (map (option_map oldest_holding)) same_queues, ap (map (option_map newest_holding)) same_queues, same_slots))
         (queue-refused d t.sound whole p live first numbers c fs held v makes (both-long h) line names.items dates.items lost
         (dated-within h t waited told last dates (subst (λ (u : World Val). AreDatedNow h u waited dates) closed now)))
         ((valid, is-queue h q.0 x mine),
@@ -194,10 +239,37 @@ module _ (h : Environment) (t : IsTied h) (whole : IsWhole h.world) (name : Plac
     its = (stack-entries h t s.0 x mine).1
 
     pub numbers-of_stack : AreNumbers fills
-    numbers-of_stack = stack_numbers d t.sound whole p (cell_in x) live s.0 fills its h.dates.items
+    numbers-of_stack = stack_numbers d t.sound whole p (cell_in x) live s.0 fills its
 
     all-values : AreAllNumbers (shown_of fills)
     all-values = shown-numbers fills numbers-of_stack
+
+    pub record StackFilled (w : World Val) (y : Stack Body) : Type 0 where
+      pub entries : List (Entry Val)
+      pub makes : MakesStackOf h.world p (shown_of fills) (cell_in y) entries w
+      pub has : Begins w (cell_in y) entries
+      pub plain : ArePlain entries
+      pub few : length entries ≤ length h.names.items
+      pub inside : (k i : ℕ) → k < length (entry_slots entries) → slice_index_or (entry_slots entries) k i < length h.names.items
+      pub placed : IsPlaceOf w p
+      pub home : w.home ≡ h.world.home
+      pub reader : reader_at w p ≡ reader_at h.world p
+
+    pub stack-filled : (w : World Val) (y : Stack Body) → StackIsCopied p h.world fills (Ok y) w → StackFilled w y
+    stack-filled w y (fs, makes) =
+        let c : ℕ = cell_in y in
+        record {
+          entries = fs;
+          makes = makes;
+          has = stack-holds d t.sound whole p live (shown_of fills) all-values c fs w makes;
+          plain = stack-plain d t.sound whole p live (shown_of fills) all-values c fs w makes;
+          few = omega (arith, stack-few d t.sound whole p live (shown_of fills) all-values c fs w makes, t.sound.stocked.names);
+          inside = λ k i lt.
+              omega (arith, stack-inside d t.sound whole p live (shown_of fills) all-values c fs w makes k i lt, t.sound.stocked.names);
+          placed = stack-placed d t.sound whole p live (shown_of fills) all-values c fs w makes;
+          home = (stack-copied d t.sound whole p live (shown_of fills) all-values c fs w makes).home;
+          reader = reader-same w (stack-copied d t.sound whole p live (shown_of fills) all-values c fs w makes).home;
+        }
 
     pub acts-stack_copied : (w : World Val) (stacks : Vec (Option (Stack Body))) (slots : Vec ℕ) (names : Vec (Option ℕ)) (y : Stack Body) (r : StackName)
         (fs : List (Entry Val)) → MakesStackOf h.world p (shown_of fills) (cell_in y) fs w → home_in y ≡ h.world.home.cells →
@@ -215,16 +287,17 @@ module _ (h : Environment) (t : IsTied h) (whole : IsWhole h.world) (name : Plac
         ((valid, is-stack h s.0 x mine),
         (named ∙ sym (length-map h.stacks.entries.items (option_map stack_holding)), (cell_in x, fills, c, fs, w, its, makes_so, refl)))
 
-    pub acts-stack_refused : (w : World Val) (why : Refused) (free waited : List Bool) → AreFreeSo h free → AreTold h waited → (names : Vec (Option ℕ))
-        (dates : Vec ℕ) → AreForgotten h w free names → AreDatedNow h w waited dates → StackIsCopied p h.world fills (Err why) w →
-        Does (desk_of h) (At name (call.CloneList (list.Stack s) g)) (reply.Refused why) (record h { world = w; names = names; dates = dates })
-    acts-stack_refused w why free waited free_so told names dates forgotten now (inl (none, is_cell, same)) =
+    pub acts-stack_refused : (stacks : Vec (Option (Stack Body))) (slots : Vec ℕ) → stacks.items ≡ h.stacks.entries.items → slots.items ≡ h.slots.items →
+        (w : World Val) (why : Refused) (free waited : List Bool) → AreFreeSo h free → AreTold h waited → (names : Vec (Option ℕ)) (dates : Vec ℕ) →
+        AreForgotten h w free names → AreDatedNow h w waited dates → StackIsCopied p h.world fills (Err why) w →
+        Does (desk_of h) (At name (call.CloneList (list.Stack s) g)) (reply.Refused why) (record h { world = w; stacks = record { entries = stacks }; slots = slots; names = names; dates = dates })
+    acts-stack_refused stacks slots same_stacks same_slots w why free waited free_so told names dates forgotten now (inl (none, is_cell, same)) =
         let kept_names : names.items ≡ h.names.items = as-named w free free_so names forgotten same in
         let kept_dates : dates.items ≡ h.dates.items = as-dated w dates (dated-within h t waited told w dates now) same in
         does d (At name (call.CloneList (list.Stack s) g)) (reply.Refused why)
-        (goes (cc (same, kept_names, kept_dates)) t.sound t.guards)
+        (goes (cc (same, ap (map (option_map stack_holding)) same_stacks, same_slots, kept_names, kept_dates)) t.sound t.guards)
         (still d (At name (call.CloneList (list.Stack s) g)) (reply.Refused why) ((valid, is-stack h s.0 x mine), inl (none, is_cell, refl)))
-    acts-stack_refused w why free waited free_so told names dates forgotten now
+    acts-stack_refused stacks slots same_stacks same_slots w why free waited free_so told names dates forgotten now
         (inr (c, fs, v, first, next, others, parts, makes, refuses, closed)) =
         let numbers = first-numbers first (next ∷ others) (subst (λ (vs : List Body). AreAllNumbers vs) parts all-values) in
         let last : World Val = stack_closed v p c fs in
@@ -232,7 +305,7 @@ module _ (h : Environment) (t : IsTied h) (whole : IsWhole h.world) (name : Plac
         let lost = loses last free free_so names (subst (λ (u : World Val). AreForgotten h u free names) closed forgotten) long
         (record d { world = last; names = names.items; dates = dates.items }) refl refl in
         let makes_so = subst (λ (i : ℕ). MakesStackOf h.world i first c fs v) (sym place-is) makes in
-        leads h t (At name (call.CloneList (list.Stack s) g)) (reply.Refused why) refl (cc (closed))
+        leads h t (At name (call.CloneList (list.Stack s) g)) (reply.Refused why) refl (cc (closed, ap (map (option_map stack_holding)) same_stacks, same_slots))
         (stack-refused d t.sound whole p live first numbers c fs v makes line names.items dates.items lost
         (dated-within h t waited told last dates (subst (λ (u : World Val). AreDatedNow h u waited dates) closed now)))
         ((valid, is-stack h s.0 x mine),

@@ -1,5 +1,5 @@
 -- What is always true of a desk is true after a line that copies a queue or a stack, whether it is refused or not
-use Rattle.std.proofs.Common.{◌≡◌, ◌≢◌, ◌⊎◌, ◌+◌, ◌<◌, ◌≤◌, inl, inr, ℕ, List, [], ◌∷◌, ◌++◌, Bool, true, false, if◌then◌else◌, Option, Some, None, is_some, length, map, count_by, slice_index_or, slice_set, refl, sym, ap, ◌∙◌, subst, arith}
+use Rattle.std.proofs.Common.{◌≡◌, ◌≢◌, ◌⊎◌, ◌+◌, ◌<◌, ◌≤◌, inl, inr, ℕ, List, [], ◌∷◌, ◌++◌, Bool, true, false, if◌then◌else◌, Option, Some, None, is_some, length, map, count_by, slice_index_or, slice_set, refl, sym, zero, suc, ap, ◌∙◌, subst, arith}
 use Rattle.std.specs.Prelude.{◌*◌, ◌^◌, not}
 use Rattle.std.proofs.lemmas.Bool.{cases_eq}
 use Rattle.std.proofs.lemmas.List.{length_push, length-set}
@@ -19,6 +19,7 @@ use Rattle.sdd_lists.specs.Lists.{AreLinked, Entry, content, is_deleted}
 use Rattle.sdd_lists.specs.Walk.{shown_of}
 use Rattle.sdd_lists.specs.Queue.{IsQueue, QueueCells, queue_closed}
 use Rattle.sdd_lists.proofs.Few.{no-longer}
+use Rattle.sdd_lists.proofs.Lists.{inside}
 use Rattle.sdd_script_model.specs.declared.val.Body.{Body}
 use Rattle.sdd_script_model.specs.declared.val.Body.TheVariants.{Number, Owned, Shared}
 use Rattle.sdd_script_model.specs.Copies.{ArePlain, LosesNames, MakesQueueOf, MakesStackOf, entry_slots}
@@ -89,6 +90,13 @@ pub first-numbers : (xs ys : List Body) → AreAllNumbers (xs ++ ys) → AreAllN
 first-numbers [] ys all = tt
 first-numbers (x ∷ xs) ys all = (all.0, first-numbers xs ys all.1)
 
+-- entries lie in slots
+slots-inside : (w : World Val) (es : List (Entry Val)) → AreLinked link_of w es → (k i : ℕ) → k < length (entry_slots es) →
+    slice_index_or (entry_slots es) k i < length w.values
+slots-inside w [] linked k i lt = absurd (omega (arith, lt))
+slots-inside w (e ∷ es) linked zero i lt = inside w.values e.slot e.value linked.0.there
+slots-inside w (e ∷ es) linked (suc k) i lt = slots-inside w es linked.1 k i (omega (arith, lt))
+
 -- as many entries as there are slots come in a line at most
 room-left : (d : ScriptState) (w new : World Val) (es : List (Entry Val)) → BeginsLine d → w.tally.made ≤ d.world.tally.made + length es →
     length w.standings ≡ length d.world.standings → new.tally.made ≡ w.tally.made → IsWhole w → AreLinked link_of w es → IsSound d →
@@ -151,6 +159,18 @@ module _ (d : ScriptState) (s : IsSound d) (whole : IsWhole d.world) (p : ℕ) (
         filled-long w.values w.standings whole_now.filled,
         filled.0.slots,
       )
+
+  pub queue-inside : (k i : ℕ) → k < length (entry_slots fs) → slice_index_or (entry_slots fs) k i < length d.world.standings
+  queue-inside k i lt =
+      let whole_now = still-whole begun begins.sound begun-whole p live w fs held filled.0 in
+      omega (arith, slots-inside w fs filled.1.list.linked k i lt, filled-long w.values w.standings whole_now.filled, filled.0.slots)
+
+  -- it has them, and p is a place still
+  pub queue-holds : IsQueue link_of w q fs held
+  queue-holds = filled.1
+
+  pub queue-placed : IsPlaceOf w p
+  queue-placed = filled.0.placed
 
   pub queue-copied : LeavesSound d (in_world (with_items (with_queue d q.oldest q.newest) (entry_slots fs)) w)
   queue-copied =
@@ -276,6 +296,17 @@ module _ (d : ScriptState) (s : IsSound d) (whole : IsWhole d.world) (p : ℕ) (
   stack-few =
       let whole_now = still-whole started starting.sound started-whole p live w fs None stocked.0 in
       omega (arith, no-longer link_of w fs stocked.1.linked, filled-long w.values w.standings whole_now.filled, stocked.0.slots)
+
+  pub stack-inside : (k i : ℕ) → k < length (entry_slots fs) → slice_index_or (entry_slots fs) k i < length d.world.standings
+  stack-inside k i lt =
+      let whole_now = still-whole started starting.sound started-whole p live w fs None stocked.0 in
+      omega (arith, slots-inside w fs stocked.1.linked k i lt, filled-long w.values w.standings whole_now.filled, stocked.0.slots)
+
+  pub stack-holds : Begins w c fs
+  stack-holds = stocked.1
+
+  pub stack-placed : IsPlaceOf w p
+  stack-placed = stocked.0.placed
 
   pub stack-copied : LeavesSound d (in_world (with_items (with_stack d c) (entry_slots fs)) w)
   stack-copied =
