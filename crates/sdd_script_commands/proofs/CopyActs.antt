@@ -9,6 +9,7 @@ use Rattle.sdd_core.specs.declared.refused.Refused.{Refused}
 use Rattle.sdd_standings.specs.Slots.{is_waiting}
 use Rattle.sdd_space.specs.CallerId.{reader_at}
 use Rattle.sdd_space.specs.Guard.{ReaderId}
+use Rattle.sdd_space.specs.OwnerOrCell.{OwnerOrCell}
 use Rattle.sdd_space.specs.OwnerOrCell as holding
 use Rattle.sdd_space.specs.World.{World, IsPlaceOf, standing_at}
 use Rattle.sdd_space.specs.WorldInvariant.{IsWhole}
@@ -101,6 +102,25 @@ module _ (h : Environment) (t : IsTied h) (whole : IsWhole h.world) (name : Plac
 
   reader-same : (w : World Val) → w.home ≡ h.world.home → reader_at w p ≡ reader_at h.world p
   reader-same w home = ap (λ z. let id : ReaderId = record { home = z.readers; number = p } in id) home
+
+  -- where each of these is as before, so is the desk, but for the world, the names and the dates
+  as-refused : (queues newest stacks : List (Option OwnerOrCell)) (w v : World Val) (slots : List ℕ) (names : List (Option ℕ)) (dates : List ℕ) →
+      queues ≡ d.queues → newest ≡ d.newest → stacks ≡ d.stacks → w ≡ v → slots ≡ d.slots →
+      record d { queues = queues; newest = newest; stacks = stacks; world = w; slots = slots; names = names; dates = dates }
+      ≡ record d { world = v; names = names; dates = dates }
+  as-refused queues newest stacks w v slots names dates same_queues same_newest same_stacks same_world same_slots =
+      ap (λ (x : List (Option OwnerOrCell)). record d { queues = x; newest = newest; stacks = stacks; world = w; slots = slots; names = names; dates = dates })
+      same_queues
+      ∙ ap (λ (x : List (Option OwnerOrCell)). record d { newest = x; stacks = stacks; world = w; slots = slots; names = names; dates = dates }) same_newest
+      ∙ ap (λ (x : List (Option OwnerOrCell)). record d { stacks = x; world = w; slots = slots; names = names; dates = dates }) same_stacks
+      ∙ ap (λ (x : World Val). record d { world = x; slots = slots; names = names; dates = dates }) same_world
+      ∙ ap (λ (x : List ℕ). record d { world = v; slots = x; names = names; dates = dates }) same_slots
+
+  -- and for nothing else
+  as-before : (names : List (Option ℕ)) (dates : List ℕ) → names ≡ d.names → dates ≡ d.dates →
+      record d { world = d.world; names = names; dates = dates } ≡ desk_of h
+  as-before names dates same_names same_dates =
+      ap (λ (x : List (Option ℕ)). record d { names = x; dates = dates }) same_names ∙ ap (λ (x : List ℕ). record d { dates = x }) same_dates
 
   neither : (b : Bool) (x : Option ℕ) → (if b && not b then None else x) ≡ x
   neither true x = refl
@@ -212,7 +232,10 @@ module _ (h : Environment) (t : IsTied h) (whole : IsWhole h.world) (name : Plac
         let kept_names : names.items ≡ h.names.items = as-named w free free_so names forgotten same in
         let kept_dates : dates.items ≡ h.dates.items = as-dated w dates (dated-within h t waited told w dates now) same in
         does d (At name (call.CloneList (list.Queue q) g)) (reply.Refused why)
-        (goes (cc (same, ap (map (option_map oldest_holding)) same_queues, ap (map (option_map newest_holding)) same_queues, same_slots, kept_names, kept_dates)) t.sound t.guards)
+        (goes (as-refused (map (option_map oldest_holding) queues.items) (map (option_map newest_holding) queues.items) d.stacks w h.world slots.items names.items
+        dates.items (ap (map (option_map oldest_holding)) same_queues) (ap (map (option_map newest_holding)) same_queues) refl same same_slots
+        ∙ as-before names.items dates.items kept_names kept_dates)
+        t.sound t.guards)
         (still d (At name (call.CloneList (list.Queue q) g)) (reply.Refused why) ((valid, is-queue h q.0 x mine), inl (none, is_cell, refl)))
     acts-queue_refused queues slots same_queues same_slots w why free waited free_so told names dates forgotten now
         (inr (c, fs, held, v, first, next, others, parts, makes, refuses, closed)) =
@@ -222,7 +245,9 @@ module _ (h : Environment) (t : IsTied h) (whole : IsWhole h.world) (name : Plac
         let lost = loses last free free_so names (subst (λ (u : World Val). AreForgotten h u free names) closed forgotten) long
         (record d { world = last; names = names.items; dates = dates.items }) refl refl in
         let makes_so = subst (λ (i : ℕ). MakesQueueOf h.world i first c fs held v) (sym place-is) makes in
-        leads h t (At name (call.CloneList (list.Queue q) g)) (reply.Refused why) refl (cc (closed, ap (map (option_map oldest_holding)) same_queues, ap (map (option_map newest_holding)) same_queues, same_slots))
+        leads h t (At name (call.CloneList (list.Queue q) g)) (reply.Refused why) refl
+        (as-refused (map (option_map oldest_holding) queues.items) (map (option_map newest_holding) queues.items) d.stacks w last slots.items names.items dates.items
+        (ap (map (option_map oldest_holding)) same_queues) (ap (map (option_map newest_holding)) same_queues) refl closed same_slots)
         (queue-refused d t.sound whole p live first numbers c fs held v makes (both-long h) line names.items dates.items lost
         (dated-within h t waited told last dates (subst (λ (u : World Val). AreDatedNow h u waited dates) closed now)))
         ((valid, is-queue h q.0 x mine),
@@ -295,7 +320,10 @@ module _ (h : Environment) (t : IsTied h) (whole : IsWhole h.world) (name : Plac
         let kept_names : names.items ≡ h.names.items = as-named w free free_so names forgotten same in
         let kept_dates : dates.items ≡ h.dates.items = as-dated w dates (dated-within h t waited told w dates now) same in
         does d (At name (call.CloneList (list.Stack s) g)) (reply.Refused why)
-        (goes (cc (same, ap (map (option_map stack_holding)) same_stacks, same_slots, kept_names, kept_dates)) t.sound t.guards)
+        (goes (as-refused d.queues d.newest (map (option_map stack_holding) stacks.items) w h.world slots.items names.items dates.items
+        refl refl (ap (map (option_map stack_holding)) same_stacks) same same_slots
+        ∙ as-before names.items dates.items kept_names kept_dates)
+        t.sound t.guards)
         (still d (At name (call.CloneList (list.Stack s) g)) (reply.Refused why) ((valid, is-stack h s.0 x mine), inl (none, is_cell, refl)))
     acts-stack_refused stacks slots same_stacks same_slots w why free waited free_so told names dates forgotten now
         (inr (c, fs, v, first, next, others, parts, makes, refuses, closed)) =
@@ -305,7 +333,9 @@ module _ (h : Environment) (t : IsTied h) (whole : IsWhole h.world) (name : Plac
         let lost = loses last free free_so names (subst (λ (u : World Val). AreForgotten h u free names) closed forgotten) long
         (record d { world = last; names = names.items; dates = dates.items }) refl refl in
         let makes_so = subst (λ (i : ℕ). MakesStackOf h.world i first c fs v) (sym place-is) makes in
-        leads h t (At name (call.CloneList (list.Stack s) g)) (reply.Refused why) refl (cc (closed, ap (map (option_map stack_holding)) same_stacks, same_slots))
+        leads h t (At name (call.CloneList (list.Stack s) g)) (reply.Refused why) refl
+        (as-refused d.queues d.newest (map (option_map stack_holding) stacks.items) w last slots.items names.items dates.items
+        refl refl (ap (map (option_map stack_holding)) same_stacks) closed same_slots)
         (stack-refused d t.sound whole p live first numbers c fs v makes line names.items dates.items lost
         (dated-within h t waited told last dates (subst (λ (u : World Val). AreDatedNow h u waited dates) closed now)))
         ((valid, is-stack h s.0 x mine),

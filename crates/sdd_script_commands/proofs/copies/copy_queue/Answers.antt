@@ -1,4 +1,4 @@
-use Rattle.std.proofs.Common.{◌≡◌, ◌≤◌, ℕ, length, map, sym, ap, ◌∙◌, subst, arith, rules}
+use Rattle.std.proofs.Common.{◌≡◌, ◌+◌, ◌≤◌, ℕ, length, map, sym, ap, ◌∙◌, subst, arith, rules, vec_capacity}
 use Rattle.std.specs.Prelude.{Err, Ok}
 use Rattle.std.proofs.lemmas.List.{length-map}
 use Rattle.sdd_space.specs.World.{World}
@@ -120,7 +120,9 @@ name_all-requires-clause-room c =
     let few : length f.entries ≤ c.len-most.result = omega (arith, f.few, most) in
     let written : c.as_slice-2.result.now ≡ entry_slots f.entries =
     c.as_slice-2.ensures.value ∙ c.slots_at-slots.ensures.slots f.entries f.newest f.has f.plain few in
-    omega (arith, ap length written, length-map f.entries (λ (e : Entry Val). e.slot), f.few, most, c.in_ok-reserve.ensures.items, c.in_ok-reserve.ensures.capacity)
+    let long : c.reserve.new.self.len ≡ length c.reserve.new.self.items = c.reserve.new.self.ok.0 in
+    let room : c.reserve.new.self.len + c.len-most.result ≤ vec_capacity c.reserve.new.self = c.in_ok-reserve.ensures.ok in
+    omega (arith, ap length written, length-map f.entries (λ (e : Entry Val). e.slot), few, long, room)
 
 pub name_all-requires-clause-inside : goal.name_all-requires-clause-inside
 name_all-requires-clause-inside c =
