@@ -73,8 +73,19 @@ module _ (p : ℕ) (w new : World Val) (es : List (Entry Val)) where
       last ≡ queue_closed link_of new p q m.entries m.held → QueueIsCopied p w es (Err why) last
   queue-uncloned from q second next others why last numbers m refuses closed =
       let number = behind-number m.first next others (subst (λ (vs : List Body). AreAllNumbers vs) m.parts (shown-numbers es numbers)) in
-      inr (q, m.entries, m.held, new, m.first, next, others, m.parts, makes-queue from q second (next ∷ others) m,
-      refuses-entry new next why number refuses, closed)
+      inr (
+        q,
+        m.entries,
+        m.held,
+        new,
+        m.first,
+        next,
+        others,
+        m.parts,
+        makes-queue from q second (next ∷ others) m,
+        refuses-entry new next why number refuses,
+        closed,
+      )
 
   makes-stack : (from c : ℕ) (others : List Body) (m : ClonesStack IsCloneOf (λ b. IsNumber b) p w from c es others new) →
       MakesStackOf w p m.first c m.entries new

@@ -214,7 +214,11 @@ pub fn items_in(
 }
 
 /// The names of the items that these slots had last, of those that had one.
-fn names_of(alloc: Global, slots: &[u32], names: &[Option<u64>]) -> Result<Vec<ItemName>, AllocError>
+fn names_of(
+    alloc: Global,
+    slots: &[u32],
+    names: &[Option<u64>],
+) -> Result<Vec<ItemName>, AllocError>
     requires inside { All (λ slot. slot < length names.now) slots.now }
     ensures { IfOk result (λ found. found.items ≡ names_in names.now slots.now) }
 {

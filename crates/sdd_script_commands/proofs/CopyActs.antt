@@ -220,9 +220,10 @@ module _ (h : Environment) (t : IsTied h) (whole : IsWhole h.world) (name : Plac
         more.1 ∙ ap (λ z. d.newest ++ Some (holding.atomic_shared c.newest z) ∷ []) home.newest in
         let makes_so = subst (λ (i : ℕ). MakesQueueOf h.world i (shown_of es) c fs held w) (sym place-is) makes in
         leads h t (At name (call.CloneList (list.Queue q) g)) (reply.Queue r) refl (cc (oldest, newest, longer, written))
-        (queue-copied d t.sound whole p live (shown_of es) all-numbers c fs held w makes (both-long h))
-        ((valid, is-queue h q.0 x mine),
-        (named ∙ sym (length-map h.queues.entries.items (option_map oldest_holding)), (cells_in x, es, second, c, fs, held, w, is, makes_so, refl)))
+        (queue-copied d t.sound whole p live (shown_of es) all-numbers c fs held w makes (both-long h)) (
+          (valid, is-queue h q.0 x mine),
+          (named ∙ sym (length-map h.queues.entries.items (option_map oldest_holding)), (cells_in x, es, second, c, fs, held, w, is, makes_so, refl)),
+        )
 
     pub acts-queue_refused : (queues : Vec (Option (Queue Body))) (slots : Vec ℕ) → queues.items ≡ h.queues.entries.items → slots.items ≡ h.slots.items →
         (w : World Val) (why : Refused) (free waited : List Bool) → AreFreeSo h free → AreTold h waited → (names : Vec (Option ℕ)) (dates : Vec ℕ) →
@@ -249,11 +250,29 @@ module _ (h : Environment) (t : IsTied h) (whole : IsWhole h.world) (name : Plac
         (as-refused (map (option_map oldest_holding) queues.items) (map (option_map newest_holding) queues.items) d.stacks w last slots.items names.items dates.items
         (ap (map (option_map oldest_holding)) same_queues) (ap (map (option_map newest_holding)) same_queues) refl closed same_slots)
         (queue-refused d t.sound whole p live first numbers c fs held v makes (both-long h) line names.items dates.items lost
-        (dated-within h t waited told last dates (subst (λ (u : World Val). AreDatedNow h u waited dates) closed now)))
-        ((valid, is-queue h q.0 x mine),
-        inr (cells_in x, es, second, c, fs, held, v, first, next, others, is, parts, makes_so, refuses,
-        (ap (λ (i : ℕ). record d { world = queue_closed link_of v i c fs held; names = names.items; dates = dates.items }) (sym place-is),
-        record { names = lost.names; long = lost.long })))
+        (dated-within h t waited told last dates (subst (λ (u : World Val). AreDatedNow h u waited dates) closed now))) (
+          (valid, is-queue h q.0 x mine),
+          inr (
+            cells_in x,
+            es,
+            second,
+            c,
+            fs,
+            held,
+            v,
+            first,
+            next,
+            others,
+            is,
+            parts,
+            makes_so,
+            refuses,
+            (
+              ap (λ (i : ℕ). record d { world = queue_closed link_of v i c fs held; names = names.items; dates = dates.items }) (sym place-is),
+              record { names = lost.names; long = lost.long },
+            ),
+          ),
+        )
 
   module _ (s : StackName) (x : Stack Body) (mine : Some x ≡ slice_index_or h.stacks.entries.items s.0 None) (g : GuardName)
       (valid : HasOpen (desk_of h) n g.0) where
@@ -308,9 +327,10 @@ module _ (h : Environment) (t : IsTied h) (whole : IsWhole h.world) (name : Plac
         stacks-more h stacks y pushed ∙ ap (λ z. d.stacks ++ Some (holding.atomic_shared c z) ∷ []) home in
         let makes_so = subst (λ (i : ℕ). MakesStackOf h.world i (shown_of fills) c fs w) (sym place-is) makes in
         leads h t (At name (call.CloneList (list.Stack s) g)) (reply.Stack r) refl (cc (more, longer, written))
-        (stack-copied d t.sound whole p live (shown_of fills) all-values c fs w makes)
-        ((valid, is-stack h s.0 x mine),
-        (named ∙ sym (length-map h.stacks.entries.items (option_map stack_holding)), (cell_in x, fills, c, fs, w, its, makes_so, refl)))
+        (stack-copied d t.sound whole p live (shown_of fills) all-values c fs w makes) (
+          (valid, is-stack h s.0 x mine),
+          (named ∙ sym (length-map h.stacks.entries.items (option_map stack_holding)), (cell_in x, fills, c, fs, w, its, makes_so, refl)),
+        )
 
     pub acts-stack_refused : (stacks : Vec (Option (Stack Body))) (slots : Vec ℕ) → stacks.items ≡ h.stacks.entries.items → slots.items ≡ h.slots.items →
         (w : World Val) (why : Refused) (free waited : List Bool) → AreFreeSo h free → AreTold h waited → (names : Vec (Option ℕ)) (dates : Vec ℕ) →
@@ -337,8 +357,24 @@ module _ (h : Environment) (t : IsTied h) (whole : IsWhole h.world) (name : Plac
         (as-refused d.queues d.newest (map (option_map stack_holding) stacks.items) w last slots.items names.items dates.items
         refl refl (ap (map (option_map stack_holding)) same_stacks) closed same_slots)
         (stack-refused d t.sound whole p live first numbers c fs v makes line names.items dates.items lost
-        (dated-within h t waited told last dates (subst (λ (u : World Val). AreDatedNow h u waited dates) closed now)))
-        ((valid, is-stack h s.0 x mine),
-        inr (cell_in x, fills, c, fs, v, first, next, others, its, parts, makes_so, refuses,
-        (ap (λ (i : ℕ). record d { world = stack_closed v i c fs; names = names.items; dates = dates.items }) (sym place-is),
-        record { names = lost.names; long = lost.long })))
+        (dated-within h t waited told last dates (subst (λ (u : World Val). AreDatedNow h u waited dates) closed now))) (
+          (valid, is-stack h s.0 x mine),
+          inr (
+            cell_in x,
+            fills,
+            c,
+            fs,
+            v,
+            first,
+            next,
+            others,
+            its,
+            parts,
+            makes_so,
+            refuses,
+            (
+              ap (λ (i : ℕ). record d { world = stack_closed v i c fs; names = names.items; dates = dates.items }) (sym place-is),
+              record { names = lost.names; long = lost.long },
+            ),
+          ),
+        )

@@ -5,7 +5,8 @@ ghost use Rattle.sdd_script_commands.specs.ItemLines.{IsItemAct, IsRawAct, IsCel
 ghost use Rattle.sdd_script_model.specs.ScriptState.{BeginsLine};
 
 use crate::{
-    cells, collectors, containers, copies, entries, exchanges, items, links, owners, queues, raw, stacks,
+    cells, collectors, containers, copies, entries, exchanges, items, links, owners, queues, raw,
+    stacks,
 };
 use sdd_core::Refused;
 use sdd_interpreter::Interpreter;

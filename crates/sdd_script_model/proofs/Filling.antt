@@ -403,7 +403,7 @@ module _ (d : ScriptState) (s : IsSound d) (whole : IsWhole d.world) (p : ℕ) (
         (kept-queue e sound now p was.placed n q es second is was.plain m k adds.between puts was.lone) in
         let gs : List (Entry Val) = through_last es ++ record { slot = k; value = adds.pushes.entry; tag = no_tag } ∷ [] in (
           subst (λ (h : Option ℕ). IsFilled w fs h) (sym adds.newest) (subst (λ (hs : List (Entry Val)). IsFilled w hs (Some k)) (sym adds.entries)
-          (subst (λ (u : World Val). IsFilled u gs (Some k)) (sym adds.world) filled)),
+              (subst (λ (u : World Val). IsFilled u gs (Some k)) (sym adds.world) filled)),
           adds.queue,
         )
     one-behind v w es fs second held (Owned o) was queue number adds = absurd number

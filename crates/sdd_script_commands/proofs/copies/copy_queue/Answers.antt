@@ -39,9 +39,13 @@ copy_queue_at-requires-clause-numbers c =
     let h = c.stage.inside.hand in
     let mine = (rw c.make_room.ensures.kept at c.in-Some-get-2.ensures) in
     let line = rw (← c.stage.view_is) at c.requires.line in
-    let its = queue-entries h c.stage.invariant c.args.queue.0 _ mine in
-    (its.0, its.1, its.2.queue, numbers-of_queue h c.stage.invariant c.is_whole.ensures c.args.name _ c.in-Some.ensures.found.0 line c.args.queue _ mine c.args.guard
-    c.in-Some.ensures.valid)
+    let its = queue-entries h c.stage.invariant c.args.queue.0 _ mine in (
+      its.0,
+      its.1,
+      its.2.queue,
+      numbers-of_queue h c.stage.invariant c.is_whole.ensures c.args.name _ c.in-Some.ensures.found.0 line c.args.queue _ mine c.args.guard
+          c.in-Some.ensures.valid,
+    )
 
 refused : (c : goal.After-drop-room-in-Err) → Does (desk_of c.stage.inside.hand) (At c.args.name (call.CloneList (list.Queue c.args.queue) c.args.guard))
     (reply.Refused c.in-Err.refused)

@@ -38,9 +38,12 @@ copy_stack_at-requires-clause-numbers c =
     let h = c.stage.inside.hand in
     let mine = (rw c.make_room.ensures.kept at c.in-Some-get-2.ensures) in
     let line = rw (← c.stage.view_is) at c.requires.line in
-    let its = stack-entries h c.stage.invariant c.args.stack.0 _ mine in
-    (its.0, its.1.list, numbers-of_stack h c.stage.invariant c.is_whole.ensures c.args.name _ c.in-Some.ensures.found.0 line c.args.stack _ mine c.args.guard
-    c.in-Some.ensures.valid)
+    let its = stack-entries h c.stage.invariant c.args.stack.0 _ mine in (
+      its.0,
+      its.1.list,
+      numbers-of_stack h c.stage.invariant c.is_whole.ensures c.args.name _ c.in-Some.ensures.found.0 line c.args.stack _ mine c.args.guard
+          c.in-Some.ensures.valid,
+    )
 
 refused : (c : goal.After-drop-room-in-Err) → Does (desk_of c.stage.inside.hand) (At c.args.name (call.CloneList (list.Stack c.args.stack) c.args.guard))
     (reply.Refused c.in-Err.refused)

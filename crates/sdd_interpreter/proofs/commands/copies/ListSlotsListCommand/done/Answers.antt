@@ -38,9 +38,12 @@ loop-preserved g c =
           let next = next-slot w (g.S.Shows.shows c.loop.s) (λ k v. (g.met.S.Caller.shows_is_value c.loop.s exact k v).0) c.loop.next c.load-next.result
           inv.shown c.in-Some.slot named c.in-Some-as_ref.entry.now (sym c.in-Some-as_ref.ensures.shown)
           (sym (ap (λ k. entry_at w.cells k) c.link_ref.ensures.link) ∙ loaded.0) es was.0 c.loop.slots.items
-          (subst (λ (u : World Val). AreLinked link_of u was.0) (sym inv.world) was.1) was.2 was.3 in
-          (next.0, subst (λ (u : World Val). AreLinked link_of u next.0) inv.world next.1, next.2,
-          next.3 ∙ ap (λ (xs : List ℕ). xs ++ entry_slots next.0) (sym pushed)));
+          (subst (λ (u : World Val). AreLinked link_of u was.0) (sym inv.world) was.1) was.2 was.3 in (
+            next.0,
+            subst (λ (u : World Val). AreLinked link_of u next.0) inv.world next.1,
+            next.2,
+            next.3 ∙ ap (λ (xs : List ℕ). xs ++ entry_slots next.0) (sym pushed),
+          ));
     }
 
 pub returns-after-loop-clause-done : goal.returns-after-loop-clause-done
