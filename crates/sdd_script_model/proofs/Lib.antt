@@ -35,6 +35,7 @@ pub mod Runs
 pub mod Awaiting
 pub mod Calm
 pub mod StackTurns
+pub mod CopyTurns
 pub mod Turns
 pub mod History
 pub mod Telling
@@ -42,3 +43,5 @@ pub mod Leaving
 pub mod Entering
 pub mod Due
 pub mod Filling
+pub mod Closing
+pub mod Copying

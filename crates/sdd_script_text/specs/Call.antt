@@ -101,6 +101,7 @@ spoken (action.PopIf l m g) = (codes "popif", named l ∷ Number m ∷ Guard g �
 spoken (action.Peek l g) = (codes "peek", named l ∷ Guard g ∷ [])
 spoken (action.Len l g) = (codes "len", named l ∷ Guard g ∷ [])
 spoken (action.List l g) = (codes "list", named l ∷ Guard g ∷ [])
+spoken (action.CloneList l g) = (codes "clonelist", named l ∷ Guard g ∷ [])
 spoken (action.Close g) = (codes "close", Guard g ∷ [])
 spoken (action.CloseCell c) = (codes "close", Cell c ∷ [])
 spoken (action.CloseCollector k) = (codes "close", Collector k ∷ [])
