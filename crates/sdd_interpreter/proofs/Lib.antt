@@ -14,3 +14,4 @@ pub mod Stacks
 pub mod Guarded
 pub mod Shown
 pub mod Asked
+pub mod Copied

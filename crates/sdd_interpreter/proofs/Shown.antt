@@ -24,7 +24,7 @@ begun-list w (any.Stack stack) es second has = has
 -- a pointer to the first entry that isn't deleted shows its value
 module _ (w : World Val) (shows : ℕ → Val → Type 0) (value : (k : ℕ) (v : Val) → shows k v → value_at w k ≡ Some v) (ptr : Ptr Val)
     (shown : PtrIsShown shows ptr) where
-  points-first : (es : List (Entry Val)) → AreLinked link_of w es → slot_named ptr ≡ first_slot es → shown_by ptr ≡ first_value es
+  pub points-first : (es : List (Entry Val)) → AreLinked link_of w es → slot_named ptr ≡ first_slot es → shown_by ptr ≡ first_value es
   points-first [] linked named = shown.null named
   points-first (e ∷ es) linked named =
       let there = shown.full e.slot named in

@@ -2,3 +2,4 @@ pub mod Environment
 pub mod Interpreter
 pub mod Owners
 pub mod Containers
+pub mod Copies

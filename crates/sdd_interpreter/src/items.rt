@@ -1,5 +1,7 @@
 //! Names of items: the slots that they have, and since when an item waits.
-ghost use Rattle.std.specs.Prelude.{◌≡◌, ◌↔◌, ◌<◌, ◌≤◌, ◌^◌, ℕ, false, All, IsSome, IsTrue, None, Some, MatchOption, length, slice_index, slice_index_or, IfOk, IfSome, map, if◌then◌else◌};
+ghost use Rattle.sdd_script_model.specs.ScriptState.{names_from};
+ghost use Rattle.std.specs.Vec.{vec_capacity};
+ghost use Rattle.std.specs.Prelude.{◌++◌, ◌+◌, ◌&&◌, is_some, not, ◌≡◌, ◌↔◌, ◌<◌, ◌≤◌, ◌^◌, ℕ, false, All, IsSome, IsTrue, None, Some, MatchOption, length, slice_index, slice_index_or, IfOk, IfSome, map, if◌then◌else◌};
 ghost use Rattle.std.specs.List.Sorted.{IsPermutation, IsNonDecreasingBy};
 ghost use Rattle.std.specs.Option.{option_map};
 ghost use Rattle.sdd_space.specs.World.{World, standing_at, value_at};
@@ -299,5 +301,50 @@ pub fn date_new(dates: &mut Vec<u64>, world: &World<Val>, waited: &[bool], line:
         if is_waiting(world, slot as u32) && !waited[slot] {
             dates[slot] = line;
         }
+    }
+}
+
+/// Of each of so many slots whether it is free.
+pub fn free_by_slot(
+    alloc: Global,
+    world: &World<Val>,
+    slots: usize,
+) -> Result<Vec<bool>, AllocError>
+    requires small { slots ≤ 2 ^ 32 }
+    ensures long { IfOk result (λ found. length found.items ≡ slots) }
+    ensures each { IfOk result (λ found. (s : ℕ) → s < slots → slice_index_or found.items s false ≡ not (is_some (standing_at world.now s))) }
+{
+    let mut found = Vec::with_capacity(alloc, slots)?;
+    for slot in 0..slots {
+        found.push_reserved(standing_of(world, slot as u32).is_none());
+    }
+    Ok(found)
+}
+
+/// What is in a slot that was free has no name.
+pub fn forget_new(names: &mut Vec<Option<u64>>, world: &World<Val>, free: &[bool])
+    requires small { length names.old.items ≤ 2 ^ 32 }
+    requires long { length free.now ≡ length names.old.items }
+    ensures names { (s : ℕ) → s < length names.old.items → slice_index_or names.new.items s None
+        ≡ (if is_some (standing_at world.now s) && slice_index_or free.now s false then None else slice_index_or names.old.items s None) }
+    ensures long { length names.new.items ≡ length names.old.items }
+{
+    for slot in 0..names.len() {
+        if standing_of(world, slot as u32).is_some() && free[slot] {
+            names[slot] = None;
+        }
+    }
+}
+
+/// The next items are in these slots, in order.
+pub fn name_all(slots: &mut Vec<u32>, names: &mut Vec<Option<u64>>, found: &[u32])
+    requires room { length slots.old.items + length found.now ≤ vec_capacity slots.old }
+    requires inside { All (λ slot. slot < length names.old.items) found.now }
+    ensures slots { slots.new.items ≡ slots.old.items ++ found.now }
+    ensures names { names.new.items ≡ names_from names.old.items (length slots.old.items) found.now }
+{
+    for slot in found {
+        names[*slot as usize] = Some(slots.len() as u64);
+        slots.push_reserved(*slot);
     }
 }

@@ -3,6 +3,7 @@
 pub mod cells;
 pub mod collectors;
 pub mod containers;
+pub mod copies;
 pub mod exchanges;
 pub mod guards;
 pub mod items;

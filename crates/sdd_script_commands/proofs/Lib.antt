@@ -9,6 +9,7 @@ pub mod ExchangeActs
 pub mod LinkActs
 pub mod StackActs
 pub mod QueueActs
+pub mod CopyActs
 pub mod GuardActs
 pub mod Ending
 pub mod ListEnding

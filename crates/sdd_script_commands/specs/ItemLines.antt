@@ -92,6 +92,11 @@ IsListAct (call.Len container guard) = Unit {0}
 IsListAct (call.List container guard) = Unit {0}
 IsListAct other = ⊥
 
+-- an action that copies a container
+abbrev pub IsCopyAct : Action → Type 0
+IsCopyAct (call.CloneList container guard) = Unit {0}
+IsCopyAct other = ⊥
+
 -- the line that puts a number among a container's entries, and the one that takes the first out: if a number is what is asked, where one is
 abbrev pub pushing : ListName → ℕ → Option ℕ → GuardName → Action
 pushing l number None guard = call.Push l number guard

@@ -1,15 +1,17 @@
 //! What participants do with items, owners, cells, links, queues and stacks: the actions, and what each answers.
 ghost use Rattle.std.specs.Prelude.{◌≡◌, MatchOption, MatchResult};
 ghost use Rattle.sdd_script_model.specs.Script.{Acts};
-ghost use Rattle.sdd_script_commands.specs.ItemLines.{IsItemAct, IsRawAct, IsCellAct, IsHeldAct, IsLinkAct, IsQueueAct, IsStackAct, IsListAct};
+ghost use Rattle.sdd_script_commands.specs.ItemLines.{IsItemAct, IsRawAct, IsCellAct, IsHeldAct, IsLinkAct, IsQueueAct, IsStackAct, IsListAct, IsCopyAct};
+ghost use Rattle.sdd_script_model.specs.ScriptState.{BeginsLine};
 
 use crate::{
-    cells, collectors, containers, entries, exchanges, items, links, owners, queues, raw, stacks,
+    cells, collectors, containers, copies, entries, exchanges, items, links, owners, queues, raw,
+    stacks,
 };
 use sdd_core::Refused;
 use sdd_interpreter::Interpreter;
 use sdd_script_model::{LinkChange, OwnerKind};
-use sdd_script_text::{Action, Call, PlaceName, Reply};
+use sdd_script_text::{Action, Call, ListName, PlaceName, Reply};
 
 /// An action on an item or an owner. None where the action is another.
 pub fn act_on_item(
@@ -186,6 +188,29 @@ pub fn act_on_list(
         Action::Peek(list, guard) => containers::peek(stage, name, list, guard),
         Action::Len(list, guard) => containers::len(stage, name, list, guard),
         Action::List(list, guard) => containers::list(stage, name, list, guard)?,
+        _ => return Ok(None),
+    }))
+}
+
+/// An action that copies a container. None where the action is another.
+pub fn act_on_copy(
+    stage: &mut Interpreter,
+    name: PlaceName,
+    action: Action,
+) -> Result<Option<Reply>, Refused>
+    requires line { BeginsLine stage.old }
+    ensures acts { MatchResult result
+        (λ o. MatchOption o (¬ (IsCopyAct action) × (stage.new ≡ stage.old))
+        (λ reply. IsCopyAct action × Acts stage.old (Call.At name action) reply stage.new))
+        (λ refused. (refused ≡ Refused.NoMemory) × (stage.new ≡ stage.old)) }
+{
+    Ok(Some(match action {
+        Action::CloneList(ListName::Queue(queue), guard) => {
+            copies::copy_queue(stage, name, queue, guard)?
+        }
+        Action::CloneList(ListName::Stack(stack), guard) => {
+            copies::copy_stack(stage, name, stack, guard)?
+        }
         _ => return Ok(None),
     }))
 }

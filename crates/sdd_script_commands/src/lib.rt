@@ -6,6 +6,7 @@
 pub mod cells;
 pub mod collectors;
 pub mod containers;
+pub mod copies;
 pub mod entries;
 pub mod exchanges;
 mod guard_line;
@@ -22,6 +23,6 @@ pub mod stacks;
 
 pub use guard_line::act_on_guard;
 pub use item_line::{
-    act_on_cell, act_on_held, act_on_item, act_on_link, act_on_list, act_on_queue, act_on_raw,
-    act_on_stack,
+    act_on_cell, act_on_copy, act_on_held, act_on_item, act_on_link, act_on_list, act_on_queue,
+    act_on_raw, act_on_stack,
 };

@@ -1,5 +1,5 @@
 -- When an item began to wait, after each step of a desk
-use Rattle.std.specs.Prelude.{◌&&◌}
+use Rattle.std.specs.Prelude.{◌*◌, ◌^◌, ◌&&◌}
 use Rattle.std.proofs.Math.ListN.{replicate, length-replicate}
 use Rattle.std.proofs.lemmas.List.{get_or-replicate, get_or_past, set_past}
 use Rattle.sdd_participants.specs.Slab.{entry_at, with_entry}
@@ -260,9 +260,14 @@ module _ (d new : ScriptState) where
         by false was date le = le
 
 -- one line later, each date is of an earlier line
-pub begins-line : (d : ScriptState) → ((s : ℕ) → date_at d s ≤ d.moment) → ((k : ℕ) → job_date_at d k ≤ d.moment) → d.jobs ≤ d.moment → BeginsLine (later d)
-begins-line d early early_jobs few =
-    record { dates = λ s. omega (arith, early s); job_dates = λ k. omega (arith, early_jobs k); jobs = omega (arith, few) }
+pub begins-line : (d : ScriptState) → ((s : ℕ) → date_at d s ≤ d.moment) → ((k : ℕ) → job_date_at d k ≤ d.moment) → d.jobs ≤ d.moment →
+    d.world.tally.made ≤ length d.slots + d.moment * 2 ^ 32 → BeginsLine (later d)
+begins-line d early early_jobs few made = record {
+  dates = λ s. omega (arith, early s);
+  job_dates = λ k. omega (arith, early_jobs k);
+  jobs = omega (arith, few);
+  made = omega (arith, made);
+}
 
 pub early-later : (d : ScriptState) → ((s : ℕ) → date_at d s ≤ d.moment) → (s : ℕ) → date_at (later d) s ≤ (later d).moment
 early-later d early s = omega (arith, early s)

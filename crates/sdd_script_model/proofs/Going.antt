@@ -532,4 +532,4 @@ sound-later d s = record {
 }
 
 pub line-begins : (d : ScriptState) → IsSound d → BeginsLine (later d)
-line-begins d s = begins-line d s.early s.jobs.early s.few
+line-begins d s = begins-line d s.early s.jobs.early s.few s.made

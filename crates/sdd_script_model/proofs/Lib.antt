@@ -37,6 +37,7 @@ pub mod Runs
 pub mod Awaiting
 pub mod Calm
 pub mod StackTurns
+pub mod CopyTurns
 pub mod Turns
 pub mod History
 pub mod Telling
@@ -44,3 +45,5 @@ pub mod Leaving
 pub mod Entering
 pub mod Due
 pub mod Filling
+pub mod Closing
+pub mod Copying

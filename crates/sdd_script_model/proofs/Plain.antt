@@ -6,11 +6,8 @@ use Rattle.sdd_core.specs.declared.tag.Tag.TheVariants.{None as no_tag}
 use Rattle.sdd_space.specs.World.{World}
 use Rattle.sdd_lists.specs.Ends.{appended, end_of, is_spent, through_last}
 use Rattle.sdd_lists.specs.Lists.{Entry, is_deleting, trimmed}
+use Rattle.sdd_script_model.specs.Copies.{ArePlain}
 use Rattle.sdd_script_model.specs.Val.{Val, link_of}
-
-abbrev pub ArePlain : List (Entry Val) → Type 0
-ArePlain [] = Unit {0}
-ArePlain (e ∷ es) = (e.tag ≡ no_tag) × ArePlain es
 
 pub plain-last : (es : List (Entry Val)) (e : Entry Val) → ArePlain es → e.tag ≡ no_tag → ArePlain (es ++ e ∷ [])
 plain-last [] e all last = (last, tt)

@@ -29,7 +29,7 @@ use Rattle.sdd_script_model.proofs.Counting.{tells, owner-given, some-holding, s
 use Rattle.sdd_script_model.proofs.Dates.{dated-same}
 use Rattle.sdd_script_model.proofs.Entry.{at-other, at-pushed, at-same}
 use Rattle.sdd_script_model.proofs.Entry.{inside as inside-list}
-use Rattle.sdd_script_model.proofs.Frames.{frames-on, frames-start}
+use Rattle.sdd_script_model.proofs.Frames.{Frames, frames-on, frames-start}
 use Rattle.sdd_script_model.proofs.Layers.{layered-less}
 use Rattle.sdd_script_model.proofs.Links.{null, same-once}
 use Rattle.sdd_script_model.proofs.Listed.{AreOwn, apart-own, same-list}
@@ -451,12 +451,16 @@ module _ (d : ScriptState) (s : IsSound d) (whole : IsWhole d.world) (p : ℕ) (
     all-gone : IsWith without_second (named d) p q.oldest its live drained []
     all-gone = empties without_second (named d) p q.oldest its live freed es freed-so
 
+    pub queue_closed-frames : Frames d.world after_queue_closed.world
+    queue_closed-frames =
+        frames-on all-gone.midway.frames all-gone.midway.whole (spends_cell drained q.oldest (record { held = None; tag = no_tag }) all-gone.list.begins) tt
+
     pub queue_closed-leaves : IsDatedWithin d after_queue_closed → LeavesSound d after_queue_closed
     queue_closed-leaves within =
         let m = all-gone.midway in
         let move = spends_cell drained q.oldest (record { held = None; tag = no_tag }) all-gone.list.begins in
         let kept = (ledger-laws holdings_of drained).kept m.whole _ _ after_queue_closed.world move in
-        let frames = frames-on m.frames m.whole move tt in
+        let frames = queue_closed-frames in
         let dated = dated-all d after_queue_closed s.stocked frames.slots.slots within in
         record {
           line = refl;

@@ -8,14 +8,14 @@ use Rattle.sdd_space.specs.WorldChanges.{made_as, nulled, spilled, with_cell, wi
 use Rattle.sdd_space.proofs.Own.{Gives, Gives-owner_given, Gives-range}
 use Rattle.sdd_lists.specs.Ends.{End, end_of}
 use Rattle.sdd_lists.specs.Lists.{Entry}
-use Rattle.sdd_lists.specs.Queue.{QueueCells, cell_emptied, cell_left, lets_go_of, queue_closed}
+use Rattle.sdd_lists.specs.Queue.{IsEnqueued, QueueCells, cell_emptied, cell_left, lets_go_of, queue_closed}
 use Rattle.sdd_script_model.specs.Queues.{DrainsQueue, Enqueues, TakesOldest}
 use Rattle.sdd_script_model.specs.Val.{Val, link_of}
 use Rattle.sdd_script_model.proofs.StackTurns.{gives-emptied, gives-nothing, gives-removed, gives-then, gives-trimmed}
 
 module _ (p : ℕ) where
   -- what a cell held
-  gives-spilled : (w : World Val) (held : Option ℕ) → Gives p w (spilled w p held)
+  pub gives-spilled : (w : World Val) (held : Option ℕ) → Gives p w (spilled w p held)
   gives-spilled w None = gives-nothing p w w refl
   gives-spilled w (Some k) = Gives-owner_given w p k (standing_at w k) refl
 
@@ -26,18 +26,22 @@ module _ (p : ℕ) where
   left-by w c held true = gives-cell w c held
   left-by w c held false = gives-nothing p w w refl
 
-  pub gives-enqueued : (w : World Val) (q : QueueCells) (es : List (Entry Val)) (second : Option ℕ) (number k : ℕ) (new : World Val) →
-      p < length w.time.places → Enqueues w p q es second number k new → Gives p w new
-  gives-enqueued w q es second number k new l puts =
-      let x = puts.entry in
+  -- an entry behind the others
+  pub gives-behind : (w : World Val) (q : QueueCells) (es : List (Entry Val)) (second : Option ℕ) (x : Val) (k : ℕ) (new : World Val) →
+      p < length w.time.places → IsEnqueued link_of (nulled w (link_of x)) p q es second k x new → Gives p w new
+  gives-behind w q es second x k new l pushed =
       let fronted : World Val = with_cell (made_as (nulled w (link_of x)) k x (Shared 3)) q.newest (record { held = Some k; tag = no_tag }) in
       let spent : World Val = spilled fronted p second in
       let given = gives-spilled fronted second in
       let first : Gives p w spent = record { slots = given.slots; time = given.time } in
       let at : End Val = end_of link_of q.oldest no_tag es in
       let rest = gives-trimmed p spent at.cell at.tag at.behind (Gives-range l first) in
-      subst (λ (u : World Val). Gives p w u) (sym puts.pushed.world)
+      subst (λ (u : World Val). Gives p w u) (sym pushed.world)
       (gives-then p {u = w} {v = spent} l first (record { slots = rest.slots; time = rest.time }))
+
+  pub gives-enqueued : (w : World Val) (q : QueueCells) (es : List (Entry Val)) (second : Option ℕ) (number k : ℕ) (new : World Val) →
+      p < length w.time.places → Enqueues w p q es second number k new → Gives p w new
+  gives-enqueued w q es second number k new l puts = gives-behind w q es second puts.entry k new l puts.pushed
 
   pub gives-dequeued : (w : World Val) (q : QueueCells) (es : List (Entry Val)) (second : Option ℕ) (e : Entry Val) (new : World Val) →
       p < length w.time.places → TakesOldest w p q es second e new → Gives p w new

@@ -23,7 +23,7 @@ use Rattle.sdd_script_model.specs.Stacks.{Drains, IsStack, Takes, stack_closed}
 use Rattle.sdd_script_model.specs.Val.{Val, body_of, holdings_of, link_of}
 use Rattle.sdd_script_model.proofs.Attending.{left-entry, pushed-entry}
 use Rattle.sdd_script_model.proofs.Chains.{AtHome, IsMidway, LeavesSound, at_home-given, at_home-spent, finishes, list-right, moves, own-midway, sound-after, stacked-right, starts}
-use Rattle.sdd_script_model.proofs.Frames.{frames-on}
+use Rattle.sdd_script_model.proofs.Frames.{Frames, frames-on}
 use Rattle.sdd_space.proofs.Ledger.{ledger-laws}
 use Rattle.sdd_lists.proofs.Lists.{list-same}
 use Rattle.sdd_script_model.proofs.Counting.{tells, owner-given, some-holding, stack-given, stack-spent}
@@ -188,12 +188,16 @@ module _ (d : ScriptState) (s : IsSound d) (whole : IsWhole d.world) (p c : ℕ)
       all-gone : IsWith d (named d) p c its live drained []
       all-gone = empties d (named d) p c its live d.world es begins-so
 
+      pub stack_closed-frames : Frames d.world after_stack_closed.world
+      stack_closed-frames =
+          frames-on all-gone.midway.frames all-gone.midway.whole (spends_cell drained c (record { held = None; tag = no_tag }) all-gone.list.begins) tt
+
       pub stack_closed-leaves : IsDatedWithin d after_stack_closed → LeavesSound d after_stack_closed
       stack_closed-leaves within =
           let m = all-gone.midway in
           let move = spends_cell drained c (record { held = None; tag = no_tag }) all-gone.list.begins in
           let kept = (ledger-laws holdings_of drained).kept m.whole _ _ after_stack_closed.world move in
-          let frames = frames-on m.frames m.whole move tt in
+          let frames = stack_closed-frames in
           let dated = dated-all d after_stack_closed s.stocked frames.slots.slots within in
           record {
             line = refl;

@@ -48,7 +48,7 @@ use Rattle.sdd_script_model.proofs.StackGoing.{IsDatedWithin, dated-all, is-sing
 
 -- ---- one after another
 
-calls-then : {u v w : World Val} → AreCalls u v → AreCalls v w → AreCalls u w
+pub calls-then : {u v w : World Val} → AreCalls u v → AreCalls v w → AreCalls u w
 calls-then a (no_call w) = a
 calls-then {u} a (one_more t v w calls step) = one_more u v w (calls-then a calls) step
 

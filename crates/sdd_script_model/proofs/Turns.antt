@@ -25,8 +25,10 @@ use Rattle.sdd_script_text.specs.declared.answer.Reply.TheVariants as reply
 use Rattle.sdd_core.specs.declared.tag.Tag.TheVariants.{None as no_tag}
 use Rattle.sdd_lists.specs.Lists.{trimmed}
 use Rattle.sdd_lists.specs.Queue.{queue_closed}
+use Rattle.sdd_lists.specs.Walk.{shown_of}
 use Rattle.sdd_script_model.specs.Stacks.{stack_closed}
 use Rattle.sdd_script_model.specs.Val.{link_of}
+use Rattle.sdd_script_model.proofs.CopyTurns.{gives-queue_made, gives-queue_refused, gives-stack_made, gives-stack_refused}
 use Rattle.sdd_script_model.proofs.QueueTurns.{gives-dequeued, gives-enqueued, gives-queue_closed, gives-queue_drained}
 use Rattle.sdd_script_model.proofs.StackTurns.{gives-closed, gives-pushed, gives-taken, gives-trimmed}
 use Rattle.sdd_script_model.specs.Collecting.{Collects}
@@ -39,7 +41,7 @@ use Rattle.sdd_script_model.specs.Script.{AddsOwner, Does, GivesOwner, IsDrained
 use Rattle.sdd_script_model.specs.ScriptState as desk
 use Rattle.sdd_script_model.specs.ScriptState.{place_of, place_in}
 use Rattle.sdd_script_model.proofs.Calm.{Calmly, calm-accelerated, calm-collector, calm-deferred, calm-gives, calm-still, calm-stirred, still-begins}
-use Rattle.sdd_script_model.proofs.Terms.{LimboEntry, ◌≡◌, ℕ, ◌+◌, ◌-◌, ◌<◌, Bool, true, false, nat_lt, if◌then◌else◌, List, [], ◌∷◌, Option, Some, None, IsSome, length, refl, sym, ap, ◌∙◌, subst, false≢true, Participant, nobody, IsVacant, Shared, World, IsPlaceOf, retired, owner_given, cell_closed, opened, IsWhole, Val, holdings_of, LimboEntry, ScriptState, OpenSince, opening_at}
+use Rattle.sdd_script_model.proofs.Terms.{inl, inr, LimboEntry, ◌≡◌, ℕ, ◌+◌, ◌-◌, ◌<◌, Bool, true, false, nat_lt, if◌then◌else◌, List, [], ◌∷◌, Option, Some, None, IsSome, length, refl, sym, ap, ◌∙◌, subst, false≢true, Participant, nobody, IsVacant, Shared, World, IsPlaceOf, retired, owner_given, cell_closed, opened, IsWhole, Val, holdings_of, LimboEntry, ScriptState, OpenSince, opening_at}
 
 -- nobody comes or goes, no guard is opened or closed, and what begins to wait waits with the participant whose line it is
 pub record CalmLine (d new : ScriptState) (call : Call) (given : Reply) : Type 0 where
@@ -321,6 +323,24 @@ module _ (d new : ScriptState) (whole : IsWhole d.world) (after : IsWhole new.wo
   turn-does n (call.Peek l g) given valid (is, e) = still (λ k. (refl, refl, refl)) (same-desk d new e)
   turn-does n (call.Len l g) (reply.Value m) valid (is, e) = still (λ k. (refl, refl, refl)) (same-desk d new e)
   turn-does n (call.List l g) (reply.Numbers ns) valid (is, e) = still (λ k. (refl, refl, refl)) (same-desk d new e)
+  turn-does n (call.CloneList (list.Queue q) g) (reply.Queue r) valid (name, (from, es, second, cells, fs, held, w, is, makes, leaves)) =
+      gives w (λ k. (refl, refl, refl)) valid.0.0 (places-left leaves) (world-left leaves)
+      (gives-queue_made (place_of d n.0) d.world (shown_of es) cells fs held w (live n.0 valid.0.0).0 makes)
+  turn-does n (call.CloneList (list.Stack s) g) (reply.Stack r) valid (name, (from, es, c, fs, w, is, makes, leaves)) =
+      gives w (λ k. (refl, refl, refl)) valid.0.0 (places-left leaves) (world-left leaves)
+      (gives-stack_made (place_of d n.0) d.world (shown_of es) c fs w (live n.0 valid.0.0).0 makes)
+  turn-does n (call.CloneList (list.Queue q) g) (reply.Refused r) valid (inl (none, why, e)) = still (λ k. (refl, refl, refl)) (same-desk d new e)
+  turn-does n (call.CloneList (list.Queue q) g) (reply.Refused r) valid
+      (inr (from, es, second, cells, fs, held, w, first, next, others, is, parts, makes, why, (same, lost))) =
+      gives (queue_closed link_of w (place_of d n.0) cells fs held) (λ k. (refl, refl, refl)) valid.0.0
+      (ap (λ (e : ScriptState). e.places) same) (ap (λ (e : ScriptState). e.world) same)
+      (gives-queue_refused (place_of d n.0) d.world first cells fs held w (live n.0 valid.0.0).0 makes)
+  turn-does n (call.CloneList (list.Stack s) g) (reply.Refused r) valid (inl (none, why, e)) = still (λ k. (refl, refl, refl)) (same-desk d new e)
+  turn-does n (call.CloneList (list.Stack s) g) (reply.Refused r) valid
+      (inr (from, es, c, fs, w, first, next, others, is, parts, makes, why, (same, lost))) =
+      gives (stack_closed w (place_of d n.0) c fs) (λ k. (refl, refl, refl)) valid.0.0
+      (ap (λ (e : ScriptState). e.places) same) (ap (λ (e : ScriptState). e.world) same)
+      (gives-stack_refused (place_of d n.0) d.world first c fs w (live n.0 valid.0.0).0 makes)
   turn-does n (call.CloseStack s) reply.Done valid (c, es, is, leaves) =
       gives (stack_closed d.world (place_of d n.0) c es) (λ k. (refl, refl, refl)) valid.0.1.0 (places-left leaves) (world-left leaves)
       (gives-closed (place_of d n.0) d.world c es (live n.0 valid.0.1.0).0)

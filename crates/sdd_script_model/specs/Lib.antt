@@ -11,5 +11,6 @@ pub mod Held
 pub mod Link
 pub mod Listed
 pub mod Stacks
+pub mod Copies
 pub mod Containers
 pub mod Queues

@@ -43,6 +43,7 @@ use Rattle.sdd_lists.specs.Stack.{poured}
 use Rattle.sdd_lists.specs.Walk.{shown_of}
 use Rattle.sdd_script_model.specs.Link.{IsBehind, IsLink, Retags}
 use Rattle.sdd_script_model.specs.Stacks.{Drains, IsOwnedEnough, IsStack, Pushes, RefusesEntry, Takes, stack_closed}
+use Rattle.sdd_script_model.specs.Copies.{CopiesQueue, CopiesStack, RefusesQueueCopy, RefusesStackCopy}
 use Rattle.sdd_script_model.specs.Containers.{HasNewest, IsContainer, TellsNumber}
 use Rattle.sdd_lists.specs.Queue.{HasOneAtMost, QueueCells, queue_closed}
 use Rattle.sdd_script_model.specs.Queues.{DrainsQueue, Enqueues, IsNamedQueue, TakesOldest}
@@ -187,6 +188,7 @@ IsValid d n (call.All s g) = HasOpen d n g.0 × IsStackName d s.0
 IsValid d n (call.Peek l g) = HasOpen d n g.0 × IsListName d l
 IsValid d n (call.Len l g) = HasOpen d n g.0 × IsListName d l
 IsValid d n (call.List l g) = HasOpen d n g.0 × IsListName d l
+IsValid d n (call.CloneList l g) = HasOpen d n g.0 × IsListName d l
 IsValid d n (call.CloseQueue q) = IsUnderGuard d n × IsQueueName d q.0
 IsValid d n (call.CloseStack s) = IsUnderGuard d n × IsStackName d s.0
 IsValid d n (call.CloseCell c) = IsParticipant d n × IsCellName d c.0
@@ -447,6 +449,11 @@ Does d n p (call.Peek l g) given new = ((c : ℕ) × (es : List (Entry Val)) × 
 Does d n p (call.Len l g) (reply.Value m) new = ((c : ℕ) × (es : List (Entry Val)) × IsContainer d l c es × (m ≡ length (content es))) × (new ≡ d)
 Does d n p (call.List l g) (reply.Numbers ns) new =
     ((c : ℕ) × (es : List (Entry Val)) × IsContainer d l c es × (shown_of es ≡ map body.Number ns)) × (new ≡ d)
+-- free cells and free slots are taken, whichever
+Does d n p (call.CloneList (list.Queue q) g) (reply.Queue r) new = CopiesQueue d p q.0 r.0 new
+Does d n p (call.CloneList (list.Stack s) g) (reply.Stack r) new = CopiesStack d p s.0 r.0 new
+Does d n p (call.CloneList (list.Queue q) g) (reply.Refused refused) new = RefusesQueueCopy d p q.0 refused new
+Does d n p (call.CloneList (list.Stack s) g) (reply.Refused refused) new = RefusesStackCopy d p s.0 refused new
 Does d n p (call.CloseQueue q) reply.Done new =
     (cells : QueueCells) × (es : List (Entry Val)) × (second : Option ℕ) × IsNamedQueue d q.0 cells es second
     × Leaves (in_world (without_queue d q.0) (queue_closed link_of d.world p cells es second)) new

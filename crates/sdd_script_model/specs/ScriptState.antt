@@ -1,5 +1,5 @@
 -- A script's world, and what its names stand for
-use Rattle.std.specs.Prelude.{ℕ, ◌+◌, ◌<◌, ◌≡◌, ◌⊎◌, List, [], ◌∷◌, ◌++◌, Option, None, Some, IsSome, length, replicate, slice_index, slice_index_or, slice_set, if◌then◌else◌}
+use Rattle.std.specs.Prelude.{ℕ, ◌+◌, ◌*◌, ◌^◌, ◌<◌, ◌≤◌, ◌≡◌, ◌⊎◌, List, [], ◌∷◌, ◌++◌, Option, None, Some, IsSome, length, replicate, slice_index, slice_index_or, slice_set, if◌then◌else◌}
 use Rattle.sdd_participants.specs.EpochState.{is_open}
 use Rattle.sdd_participants.specs.Slab.{entry_at}
 use Rattle.sdd_standings.specs.Slots.{is_waiting}
@@ -250,11 +250,12 @@ without_guard d g = record d { guards = slice_set d.guards g None }
 abbrev pub later : ScriptState → ScriptState
 later d = record d { moment = d.moment + 1 }
 
--- a line begins: nothing began to wait in it so far, and there were fewer jobs than lines
+-- a line begins: nothing began to wait in it so far, there were fewer jobs than lines, and the tally has room for an item in each slot
 pub record BeginsLine (d : ScriptState) : Type 0 where
   pub dates : (s : ℕ) → date_at d s < d.moment
   pub job_dates : (k : ℕ) → job_date_at d k < d.moment
   pub jobs : d.jobs < d.moment
+  pub made : d.world.tally.made + 2 ^ 32 ≤ length d.slots + d.moment * 2 ^ 32
 
 -- it is so now, whatever the dates are
 abbrev pub Leaves : ScriptState → ScriptState → Type 0

@@ -1,6 +1,7 @@
-use sdd_lists::LinkedEntry;
+use sdd_lists::{CloneValue, LinkedEntry};
 use sdd_space::inner::{owner_of, right_of_owner, right_of_shared, shared_of};
 use sdd_space::{Giver, Item, Owned, Shared};
+use std::alloc::AllocError;
 
 /// Stands for the value of the item whose owner a body is: its type has a body in it.
 pub struct Nested;
@@ -25,6 +26,23 @@ impl Item<Val> for Body {
             Body::Number(_) => {}
             Body::Owned(owner) => giver.owned(owner_of(right_of_owner(owner))),
             Body::Shared(owner) => giver.shared(shared_of(right_of_shared(owner))),
+        }
+    }
+}
+
+/// Of a number a second one is made; an owner has none.
+impl CloneValue for Body {
+    ghost use Rattle.std.specs.Prelude.{◌≡◌};
+    ghost use Rattle.sdd_script_model.specs.Listed.{IsNumber};
+
+    ghost is_clone = { λ body other. IsNumber body × (other ≡ body) };
+
+    ghost is_infallible = { λ body. IsNumber body };
+
+    fn clone_value(&self) -> Result<Body, AllocError> {
+        match self {
+            Body::Number(number) => Ok(Body::Number(*number)),
+            _ => Err(AllocError),
         }
     }
 }

@@ -395,6 +395,7 @@ said (action.PopIf (list.Queue q) m g) = (written_word 10 _ refl refl, omega ari
 said (action.Peek (list.Queue q) g) = (written_word 10 _ refl refl, omega arith, omega arith, refl)
 said (action.Len (list.Queue q) g) = (written_word 10 _ refl refl, omega arith, omega arith, refl)
 said (action.List (list.Queue q) g) = (written_word 10 _ refl refl, omega arith, omega arith, refl)
+said (action.CloneList (list.Queue q) g) = (written_word 10 _ refl refl, omega arith, omega arith, refl)
 said (action.Push (list.Stack s) n g) = (written_word 10 _ refl refl, omega arith, omega arith, refl)
 said (action.PushIf (list.Stack s) n m g) = (written_word 10 _ refl refl, omega arith, omega arith, refl)
 said (action.Pop (list.Stack s) g) = (written_word 10 _ refl refl, omega arith, omega arith, refl)
@@ -402,6 +403,7 @@ said (action.PopIf (list.Stack s) m g) = (written_word 10 _ refl refl, omega ari
 said (action.Peek (list.Stack s) g) = (written_word 10 _ refl refl, omega arith, omega arith, refl)
 said (action.Len (list.Stack s) g) = (written_word 10 _ refl refl, omega arith, omega arith, refl)
 said (action.List (list.Stack s) g) = (written_word 10 _ refl refl, omega arith, omega arith, refl)
+said (action.CloneList (list.Stack s) g) = (written_word 10 _ refl refl, omega arith, omega arith, refl)
 said action = (written_word 10 _ refl refl, omega arith, omega arith, refl)
 
 -- ---- both

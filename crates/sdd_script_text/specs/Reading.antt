@@ -80,7 +80,7 @@ few_arguments_at words = if nat_lt most_arguments (length words) then None else 
 
 -- the actions on a container with a guard, and those with a number too
 abbrev pub with_list : ListName → GuardName → List Action
-with_list l g = action.Pop l g ∷ action.Peek l g ∷ action.Len l g ∷ action.List l g ∷ []
+with_list l g = action.Pop l g ∷ action.Peek l g ∷ action.Len l g ∷ action.List l g ∷ action.CloneList l g ∷ []
 
 abbrev pub with_list_number : ListName → ℕ → GuardName → List Action
 with_list_number l n g = action.Push l n g ∷ action.PopIf l n g ∷ []

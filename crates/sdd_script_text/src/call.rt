@@ -113,6 +113,8 @@ pub enum Action {
     Len(ListName, GuardName),
     /// `list L G`: a container's numbers that aren't deleted, in order.
     List(ListName, GuardName),
+    /// `clonelist L G`: a copy of a container, with its numbers that aren't deleted, in order.
+    CloneList(ListName, GuardName),
     /// `close G`: closes a guard.
     Close(GuardName),
     /// `close C`: closes a cell, and gives up what it holds.

@@ -226,6 +226,7 @@ fn with_list(verb: &str, list: ListName, guard: GuardName) -> Option<Action>
         "peek" => Some(Action::Peek(list, guard)),
         "len" => Some(Action::Len(list, guard)),
         "list" => Some(Action::List(list, guard)),
+        "clonelist" => Some(Action::CloneList(list, guard)),
         _ => None,
     }
 }

@@ -1,0 +1,37 @@
+use Rattle.std.proofs.Common.{List, ap, ◌∙◌, subst, sym}
+use Rattle.sdd_space.specs.CallerId.{CallerId, IsExact}
+use Rattle.sdd_lists.specs.Lists.{Entry}
+use Rattle.sdd_lists.specs.Queue.{cells_in, queue_closed}
+use Rattle.sdd_script_model.specs.Listed.{AreNumbers}
+use Rattle.sdd_script_model.specs.Val.{Val, link_of}
+use Rattle.sdd_script_model.proofs.Listed.{same-list}
+use Rattle.sdd_interpreter.proofs.Copied.{queue-cloned, queue-uncloned}
+use Rattle.sdd_interpreter.proofs.commands.copies.CopyQueueListCommand.done.Goals as goal
+
+pub returns-in-Ok-clause-done : goal.returns-in-Ok-clause-done
+returns-in-Ok-clause-done g c = (
+  c.in-Ok.ensures.home,
+  (λ es second is.
+      queue-cloned (g.S.Caller.seat c.args.s.now).place (g.S.Caller.world c.args.s.now) (g.S.Caller.world c.clone.new.s) es
+      (cells_in c.args.self.queue.now) (cells_in c.in-Ok.copy) second (c.in-Ok.ensures.list c.requires.exact es second is)),
+)
+
+pub returns-in-Err-Part-clause-done : goal.returns-in-Err-Part-clause-done
+returns-in-Err-Part-clause-done g c = (
+  tt,
+  (λ es second is.
+      let w = g.S.Caller.world c.args.s.now in
+      let mid = g.S.Caller.world c.clone.new.s in
+      let place = (g.S.Caller.seat c.args.s.now).place in
+      let seat = c.in-Err-Part.ensures.unmoved.seat in
+      let exact = subst (λ (s : CallerId). IsExact s) (sym seat) c.requires.exact in
+      let asked = c.requires.asked.2 in
+      let numbers = subst (λ (fs : List (Entry Val)). AreNumbers fs)
+      (same-list w (cells_in c.args.self.queue.now).oldest asked.0 es asked.2.list is.list) asked.3 in
+      let part = rw c.in-Err-Part.field-0-is at (c.in-Err-Part.ensures.list c.requires.exact es second is) in
+      let built = part.3 in
+      let closed = c.close.ensures.list exact built.entries built.held built.fills.queue in
+      queue-uncloned place w mid es (cells_in c.args.self.queue.now) (cells_in c.in-Err-Part.part) second part.1 part.2 c.in-Err-Part.refused
+      (g.S.Caller.world c.close.new.s) numbers built part.4
+      (closed ∙ ap (λ (s : CallerId). queue_closed link_of mid s.place (cells_in c.in-Err-Part.part) built.entries built.held) seat)),
+)

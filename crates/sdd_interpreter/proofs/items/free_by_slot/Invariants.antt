@@ -1,0 +1,11 @@
+use Rattle.std.proofs.Common.{◌≡◌, ◌<◌, ◌≤◌, ℕ, false, is_some, length, slice_index_or, vec_capacity}
+use Rattle.std.specs.Prelude.{not}
+use Rattle.sdd_space.specs.World.{standing_at}
+use Rattle.sdd_interpreter.proofs.items.free_by_slot.Given as goal
+
+abbrev pub invariant-loop-slot : goal.invariant-loop-slot
+invariant-loop-slot l = record {
+  long : length l.found.items ≡ l.slot;
+  room : l.slots ≤ vec_capacity l.found;
+  each : (s : ℕ) → s < l.slot → slice_index_or l.found.items s false ≡ not (is_some (standing_at l.world s));
+}
