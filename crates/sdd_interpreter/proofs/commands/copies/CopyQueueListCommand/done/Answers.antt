@@ -1,4 +1,4 @@
-use Rattle.std.proofs.Common.{List, ap, ◌∙◌, subst, sym}
+use Rattle.std.proofs.Common.{List, inl, ap, ◌∙◌, subst, sym}
 use Rattle.sdd_space.specs.CallerId.{CallerId, IsExact}
 use Rattle.sdd_lists.specs.Lists.{Entry}
 use Rattle.sdd_lists.specs.Queue.{cells_in, queue_closed}
@@ -34,4 +34,15 @@ returns-in-Err-Part-clause-done g c = (
       queue-uncloned place w mid es (cells_in c.args.self.queue.now) (cells_in c.in-Err-Part.part) second part.1 part.2 c.in-Err-Part.refused
       (g.S.Caller.world c.close.new.s) numbers built part.4
       (closed ∙ ap (λ (s : CallerId). queue_closed link_of mid s.place (cells_in c.in-Err-Part.part) built.entries built.held) seat)),
+)
+
+pub ends_none-requires : goal.ends_none-requires
+ends_none-requires g c =
+    let asked = c.requires.asked.2 in
+    (rw c.in-Err-Part.field-0-is at (c.in-Err-Part.ensures.list c.requires.exact asked.0 asked.1 asked.2)).0
+
+pub returns-in-Err-NotBegun-clause-done : goal.returns-in-Err-NotBegun-clause-done
+returns-in-Err-NotBegun-clause-done g c = (
+  tt,
+  (λ es second is. inl (rw c.in-Err-NotBegun.field-0-is at (c.in-Err-NotBegun.ensures.list c.requires.exact es second is))),
 )
