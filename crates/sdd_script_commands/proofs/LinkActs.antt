@@ -1,6 +1,6 @@
 -- What a change of a link leaves in hand: it is sound, and it is what the call means
-use Rattle.std.proofs.Common.{◌≡◌, ◌≢◌, ◌<◌, ℕ, Bool, true, false, List, Option, None, Some, length, refl, sym, ap, ◌∙◌, subst}
-use Rattle.std.specs.Prelude.{IfSome}
+use Rattle.std.proofs.Common.{◌≡◌, ◌≢◌, ◌<◌, ℕ, Bool, true, false, List, Option, None, Some, length, slice_index_or, refl, sym, ap, ◌∙◌, subst}
+use Rattle.std.specs.Prelude.{IfSome, IsSome}
 use Rattle.std.specs.Option.{option_map}
 use Rattle.std.specs.Global.{Vec}
 use Rattle.sdd_core.specs.declared.tag.Tag.{Tag}
@@ -9,9 +9,7 @@ use Rattle.sdd_participants.specs.Slab.{entry_at}
 use Rattle.sdd_participants.specs.declared.standing.CellContents.{CellContents}
 use Rattle.sdd_space.specs.World.{World, value_at}
 use Rattle.sdd_space.specs.WorldInvariant.{IsWhole}
-use Rattle.sdd_space.proofs.Whole.{filled-there}
 use Rattle.sdd_lists.specs.Lists.{Entry, IsList, first_slot, left, trimmed}
-use Rattle.sdd_lists.proofs.Walking.{linked-left}
 use Rattle.sdd_world.specs.Place.{index_of}
 use Rattle.sdd_script_text.specs.declared.name.PlaceName.{PlaceName}
 use Rattle.sdd_script_text.specs.declared.name.ItemName.{ItemName}
@@ -26,9 +24,8 @@ use Rattle.sdd_script_model.specs.Link.{IsBehind, IsLink, may_change, retagged, 
 use Rattle.sdd_script_model.specs.Shown.{item_in}
 use Rattle.sdd_script_model.specs.ScriptState.{ScriptState, in_world, opening_at, slot_at}
 use Rattle.sdd_script_model.specs.Script.{Acts, CanPointTo, HasOpen, IsUnderGuard, IsValid, Meets}
-use Rattle.sdd_script_model.proofs.BehindGoing.{behind-there, first-there, next-leaves}
+use Rattle.sdd_script_model.proofs.BehindGoing.{behind-named, behind-there, next-leaves}
 use Rattle.sdd_script_model.proofs.CellGoing.{link-leaves}
-use Rattle.sdd_script_model.proofs.Stocked.{slot-inside}
 use Rattle.sdd_interpreter.specs.declared.participants.NamedParticipant.{NamedParticipant}
 use Rattle.sdd_interpreter.specs.declared.interpreter.Environment.{Environment}
 use Rattle.sdd_interpreter.specs.Environment.{attending}
@@ -98,12 +95,10 @@ module _ (h : Environment) (t : IsTied h) (whole : IsWhole h.world) (name : Plac
   abbrev next_one : Option ℕ
   next_one = first_slot (left behind.1)
 
-  -- its slot has a name
-  pub next-inside : (next : Option ℕ) → next ≡ next_one → IfSome next (λ s. s < length h.names.items)
-  next-inside None is = tt
-  next-inside (Some s) is =
-      let taken = first-there h.world (left behind.1) (linked-left link_of h.world behind.1 behind.2.list.linked) s (sym is) in
-      (slot-inside (desk_of h) t.sound.stocked s (sym (filled-there h.world s whole.filled) ∙ taken)).0
+  -- its item has a name
+  pub next-named : (next : Option ℕ) → next ≡ next_one → IfSome next (λ s. IsSome (slice_index_or h.names.items s None))
+  next-named None is = tt
+  next-named (Some s) is = behind-named (desk_of h) t.sound (link_of v) behind.0 behind.1 behind.2.list s (sym is)
 
   pub acts-next : (g : GuardName) (waited : List Bool) (w : World Val) (dates : Vec ℕ) (next : Option ℕ) (item : Option ItemName) →
       HasOpen (desk_of h) name.0 g.0 → CanPointTo (desk_of h) name.0 i.0 → AreTold h waited →

@@ -6,11 +6,13 @@ use Rattle.sdd_core.specs.declared.tag.Tag.{Tag}
 use Rattle.sdd_core.specs.declared.tag.Tag.TheVariants.{None as no_tag}
 use Rattle.sdd_participants.specs.Slab.{entry_at}
 use Rattle.sdd_participants.specs.declared.standing.CellContents.{CellContents}
+use Rattle.sdd_standings.specs.Slots.{is_waiting}
 use Rattle.sdd_space.specs.Ledger.{Claim, IsLedger, right_to}
 use Rattle.sdd_space.specs.World.{World, IsPlaceOf, value_at}
 use Rattle.sdd_space.specs.WorldChanges.{held_in}
 use Rattle.sdd_space.specs.WorldInvariant.{IsWhole}
 use Rattle.sdd_space.proofs.Entries.{once-waits}
+use Rattle.sdd_space.proofs.Ledger.{ledger-laws}
 use Rattle.sdd_lists.specs.Behind.{spliced}
 use Rattle.sdd_lists.specs.Ends.{EndsWith, IsAmong}
 use Rattle.sdd_lists.specs.Lists.{Apart, AreLinked, Entry, IsList, first_slot, is_deleted, left, trimmed}
@@ -23,13 +25,14 @@ use Rattle.sdd_lists.proofs.Pushing.{trim-other, trim-values}
 use Rattle.sdd_lists.proofs.Spliced.{among-spliced}
 use Rattle.sdd_script_model.specs.Link.{IsBehind}
 use Rattle.sdd_script_model.specs.Listed.{AreNumbers, Begins, HasLists, HoldsEntry, IsListed}
-use Rattle.sdd_script_model.specs.ScriptState.{ScriptState, IsListCell, IsSecondCell, in_world, slot_at}
+use Rattle.sdd_script_model.specs.ScriptState.{ScriptState, IsListCell, IsSecondCell, in_world, name_at, slot_at}
 use Rattle.sdd_script_model.specs.Sound.{IsSound, contained, named}
 use Rattle.sdd_script_model.specs.Val.{Val, holdings_of, link_of}
 use Rattle.sdd_script_model.proofs.Chains.{IsMidway, LeavesSound, finishes, own-midway, starts}
-use Rattle.sdd_script_model.proofs.Listed.{AreOwn, StaysGone, among-link, apart-item, apart-own, has-changed, link-apart, link-inside, links-apart, same-list, unique}
+use Rattle.sdd_script_model.proofs.Listed.{AreOwn, StaysGone, among-inside, among-link, apart-item, apart-own, has-changed, link-apart, link-inside, links-apart, same-list, unique}
 use Rattle.sdd_script_model.proofs.ListChanges.{among-or}
 use Rattle.sdd_script_model.proofs.QueuePushing.{linked-where}
+use Rattle.sdd_script_model.proofs.Stocked.{idle-named}
 use Rattle.sdd_script_model.proofs.StackChains.{between, front-goes, midway}
 use Rattle.sdd_script_model.proofs.StackGoing.{IsDatedWithin, dated-all}
 
@@ -234,10 +237,21 @@ module _ (d : ScriptState) (s : IsSound d) (i : ℕ) (v : Val) (there : value_at
         ))
   ]
 
--- the first of some entries is there
-pub first-there : (w : World Val) (es : List (Entry Val)) → AreLinked link_of w es → (s : ℕ) → first_slot es ≡ Some s → is_some (value_at w s) ≡ true
-first-there w [] linked s is = absurd (cc)
-first-there w (e ∷ es) linked s is = let same : e.slot ≡ s = cc in ap (λ (j : ℕ). is_some (value_at w j)) (sym same) ∙ ap is_some linked.0.there
+first-among : (es : List (Entry Val)) (j : ℕ) → first_slot es ≡ Some j → IsAmong j es
+first-among [] j is = absurd (cc)
+first-among (e ∷ es) j is = inl (let same : e.slot ≡ j = cc in same)
+
+-- the first entry behind a cell that isn't deleted has a name, since a link owns it
+pub behind-named : (d : ScriptState) (s : IsSound d) (c : ℕ) (t : Tag) (es : List (Entry Val)) → IsList link_of d.world c t es → (j : ℕ) →
+    first_slot (left es) ≡ Some j → is_some (name_at d j) ≡ true
+behind-named d s c t es list j is =
+    let among = left-was j es (first-among (left es) j is) in
+    let inner = among-inside d.world (λ u. named d u + contained d u) s.ledger c j es (ap held_in list.begins) list.linked among in
+    let stands = ((ledger-laws holdings_of d.world).tells _ s.ledger).stands j (omega (arith, inner)) in
+    elim stands [
+      | inl sole ↦ ap is_some (idle-named d s.stocked j (ap is_some sole.0) (ap is_waiting sole.0)).is
+      | inr several ↦ ap is_some (idle-named d s.stocked j (ap is_some several.1) (ap is_waiting several.1)).is
+    ]
 
 -- ---- the line
 

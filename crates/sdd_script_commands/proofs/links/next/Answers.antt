@@ -7,8 +7,9 @@ use Rattle.sdd_interpreter.specs.Interpreter.{desk_of}
 use Rattle.sdd_interpreter.proofs.Acts.{Does, stays-here}
 use Rattle.sdd_interpreter.proofs.Missing.{invalid, points, points-not}
 use Rattle.sdd_script_commands.proofs.ContainerActs.{reader-is}
-use Rattle.sdd_script_commands.proofs.LinkActs.{acts-next, behind, next-inside}
+use Rattle.sdd_script_commands.proofs.LinkActs.{acts-next, behind, next-named}
 use Rattle.sdd_script_commands.proofs.StackActs.{AreTold}
+use Rattle.sdd_script_model.proofs.Stocked.{name-given}
 use Rattle.sdd_script_commands.proofs.links.next.Goals as goal
 
 pub returns-in_default : goal.returns-in_default
@@ -18,7 +19,7 @@ returns-in_default c = record {
 
 pub slot_since-requires-clause-inside : goal.slot_since-requires-clause-inside
 slot_since-requires-clause-inside c s some =
-    rw (c.as_slice-slots.ensures.value, c.as_slice-names.ensures.value) (c.stage.invariant.sound.stocked.named s some).0
+    rw (c.as_slice-slots.ensures.value, c.as_slice-names.ensures.value) (name-given _ c.stage.invariant.sound.stocked s some)
 
 pub returns-in_default-slot_since : goal.returns-in_default-slot_since
 returns-in_default-slot_since c =
@@ -59,7 +60,7 @@ item_seen-item-requires c =
     let its = behind h c.stage.invariant c.is_whole.ensures c.args.name _ found.0 c.args.item value shown in
     let did = rw c.value_shown-entry.ensures.world at c.list_step_at-next.ensures.done in
     record {
-      inside = rw c.as_slice-2.ensures.value (next-inside h c.stage.invariant c.is_whole.ensures c.args.name _ found.0 c.args.item value shown
+      named = rw c.as_slice-2.ensures.value (next-named h c.stage.invariant c.is_whole.ensures c.args.name _ found.0 c.args.item value shown
           c.list_step_at-next.result (did its.0 its.1 its.2.list).0);
     }
 
