@@ -412,8 +412,8 @@ module _ (d : ScriptState) (s : IsSound d) (whole : IsWhole d.world) (p : ℕ) (
               (subst (λ (u : World Val). IsFilled u gs (Some k)) (sym adds.world) filled)),
           adds.queue,
           subst (λ (o : Option ℕ). IsNoneOrAmong o fs) (sym adds.newest)
-          (subst (λ (hs : List (Entry Val)). IsAmong k hs) (sym adds.entries)
-          (among-last k (through_last es) (record { slot = k; value = adds.pushes.entry; tag = no_tag }) refl)),
+              (subst (λ (hs : List (Entry Val)). IsAmong k hs) (sym adds.entries)
+              (among-last k (through_last es) (record { slot = k; value = adds.pushes.entry; tag = no_tag }) refl)),
         )
     one-behind v w es fs second held (Owned o) was queue near number adds = absurd number
     one-behind v w es fs second held (Shared o) was queue near number adds = absurd number
