@@ -1,3 +1,4 @@
+//! Clones of values that may hold owners.
 ghost use Rattle.std.specs.Prelude.{MatchResult};
 
 use std::alloc::AllocError;
@@ -10,6 +11,7 @@ pub trait CloneValue: Sized {
     /// Holds of a value of which one is made whenever it is asked.
     ghost is_infallible: { Self → Type 0 };
 
+    /// A second value like this one. Refused where memory is.
     fn clone_value(&self) -> Result<Self, AllocError>
         ensures cases { MatchResult result (is_clone self.now) (λ _. ¬ (is_infallible self.now)) };
 }

@@ -22,7 +22,7 @@ IsCalled d s (Some i) = (i < length d.slots) × (slot_at d i ≡ s)
 
 -- which item is in which slot
 pub record SlotsHaveNames (d : ScriptState) : Type 0 where
-  -- a slot that is not free is that of the item that it has: so what is out as raw is out under its item's name
+  -- a slot that is not free is that of the item that it has, which waits where it has no name: so what is out as raw is out under its item's name
   pub named : (s : ℕ) → IsSome (standing_at d.world s) → IsCalled d s (name_at d s)
   pub names : length d.names ≡ length d.world.standings
   pub dates : length d.dates ≡ length d.world.standings
