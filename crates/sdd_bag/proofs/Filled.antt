@@ -86,14 +86,15 @@ module _ {T : Type 0} (w : World T) (link : T → ℕ) where
       λ i. record { slot = slot i; value = value i; tag = (cell i).tag } ∷ rest i
 
 -- storages were added, and then one more may have been
-pub adds-next : {B : Type 0} (p c : ℕ) (w u new : World (LinkedEntry B)) (es fs gs : List (Entry (LinkedEntry B))) → AddsStorages p c w es u fs
-    → IsStack u c fs → IsStack new c gs → (Full : Type 0) → (new ≡ u) ⊎ Full × AddsStorage u p c fs new gs → AddsStorages p c w es new gs
-adds-next {B = B} p c w u new es fs gs were was now Full (inl same) =
-    let here = subst (λ (x : World (LinkedEntry B)). IsStack x c gs) same now in
+pub adds-next : {B : Type 0} (shown : B → Option StorageName) (p : ℕ) (stack : Stack B) (w u new : World (LinkedEntry B))
+    (es fs gs : List (Entry (LinkedEntry B))) → AddsStorages shown p stack w es u fs → IsStack u (cell_in stack) fs → IsStack new (cell_in stack) gs
+    → (Full : Type 0) → (new ≡ u) ⊎ Full × AddsStorage shown u p stack fs new gs → AddsStorages shown p stack w es new gs
+adds-next {B = B} shown p stack w u new es fs gs were was now Full (inl same) =
+    let here = subst (λ (x : World (LinkedEntry B)). IsStack x (cell_in stack) gs) same now in
     let first : first_slot fs ≡ first_slot gs = ap held_in (sym was.begins ∙ here.begins) in
-    subst (λ (x : World (LinkedEntry B)). AddsStorages p c w es x gs) (sym same)
-    (subst (λ (hs : List (Entry (LinkedEntry B))). AddsStorages p c w es u hs) (one-list u link_of fs gs was.linked here.linked first) were)
-adds-next p c w u new es fs gs were was now Full (inr one) = adds u new fs gs were one.1
+    subst (λ (x : World (LinkedEntry B)). AddsStorages shown p stack w es x gs) (sym same)
+    (subst (λ (hs : List (Entry (LinkedEntry B))). AddsStorages shown p stack w es u hs) (one-list u link_of fs gs was.linked here.linked first) were)
+adds-next shown p stack w u new es fs gs were was now Full (inr one) = adds u new fs gs were one.1
 
 -- a bag that was new, and is filled with what an iterator gave
 pub builds : {I T B : Type 0} (next : I → Option T → I → Type 0) (shown : B → Option StorageName) (len p : ℕ) (w u new : World (LinkedEntry B))
@@ -102,15 +103,14 @@ pub builds : {I T B : Type 0} (next : I → Option T → I → Type 0) (shown : 
     → u ≡ nulled (nulled w made.primary.storage.cell) (cell_in made.overflow.stack) → primary_of made ≡ [] → overflow_of made ≡ []
     → IsBag shown len u made → HasSameCells made bag
     → ((es : List (Entry (LinkedEntry B))) → LiesOn shown len u es made.overflow
-    → (fs : List (Entry (LinkedEntry B))) × LiesOn shown len new fs bag.overflow × AddsStorages p (cell_in made.overflow.stack) u es new fs)
+    → (fs : List (Entry (LinkedEntry B))) × LiesOn shown len new fs bag.overflow × AddsStorages shown p made.overflow.stack u es new fs)
     → (xs : List T) → ((vs : List T) → AreInSomeOrder vs (values_of made) → AreInSomeOrder (vs ++ xs) (values_of bag))
     → YieldsThen next start xs last end → BuildsBag next shown len p w bag start end last new
 builds {T = T} {B = B} next shown len p w u new made bag start end last own stack two is none none-behind there cells list xs values gives =
-    let c : ℕ = cell_in made.overflow.stack in
     let empty = all-removed shown len u made there.entries there none-behind there.lies in
     let lies = subst (λ (es : List (Entry (LinkedEntry B))). LiesOn shown len u es made.overflow) empty there.lies in
     let got = list [] lies in
-    let mine : cell_in bag.overflow.stack ≡ c = ap (λ (s : Stack B). cell_in s) cells.stack in
+    let mine : cell_in bag.overflow.stack ≡ cell_in made.overflow.stack = ap (λ (s : Stack B). cell_in s) cells.stack in
     let self : bag.primary.storage.cell ≡ made.primary.storage.cell = ap (λ (s : StorageName). s.cell) cells.storage in
     let nothing : values_of made ≡ [] = ap (λ (vs : List T). vs ++ overflow_of made) none ∙ none-behind in
     record {
@@ -122,8 +122,8 @@ builds {T = T} {B = B} next shown len p w u new made bag start end last own stac
       values = values [] nothing;
       entries = got.0;
       storages =
-          subst (λ (k : ℕ). AddsStorages p (cell_in bag.overflow.stack) (nulled (nulled w k) (cell_in bag.overflow.stack)) [] new got.0) (sym self)
-          (subst (λ (k : ℕ). AddsStorages p k (nulled (nulled w made.primary.storage.cell) k) [] new got.0) (sym mine)
-          (subst (λ (x : World (LinkedEntry B)). AddsStorages p c x [] new got.0) is got.2));
+          subst (λ (k : ℕ). AddsStorages shown p bag.overflow.stack (nulled (nulled w k) (cell_in bag.overflow.stack)) [] new got.0) (sym self)
+          (subst (λ (s : Stack B). AddsStorages shown p s (nulled (nulled w made.primary.storage.cell) (cell_in s)) [] new got.0) (sym cells.stack)
+          (subst (λ (x : World (LinkedEntry B)). AddsStorages shown p made.overflow.stack x [] new got.0) is got.2));
       lies = got.1;
     }

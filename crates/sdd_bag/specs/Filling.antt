@@ -7,6 +7,7 @@ use Rattle.sdd_participants.specs.Slab.{IsEmptyAt}
 use Rattle.sdd_space.specs.World.{World}
 use Rattle.sdd_space.specs.WorldChanges.{nulled}
 use Rattle.sdd_lists.specs.declared.linked_entry.LinkedEntry.{LinkedEntry}
+use Rattle.sdd_lists.specs.declared.stack.Stack.{Stack}
 use Rattle.sdd_lists.specs.declared.unfinished.Unfinished.{Unfinished}
 use Rattle.sdd_lists.specs.declared.unfinished.Unfinished.TheVariants.{NotBegun, Part}
 use Rattle.sdd_lists.specs.Lists.{Entry}
@@ -16,12 +17,12 @@ use Rattle.sdd_bag.specs.Storages.{StorageName}
 use Rattle.sdd_bag.specs.Overflow.{AddsStorage, LiesOn, RefusesStorage}
 use Rattle.sdd_bag.specs.Bag.{BagParts, primary_of, values_of}
 
--- p added storages in front of these entries, one after another
-pub data AddsStorages {B : Type 0} (p c : ℕ) (w : World (LinkedEntry B)) (es : List (Entry (LinkedEntry B))) : World (LinkedEntry B)
-    → List (Entry (LinkedEntry B)) → Type 0 where
-  begins : AddsStorages p c w es w es
-  adds : (v new : World (LinkedEntry B)) (fs gs : List (Entry (LinkedEntry B))) → AddsStorages p c w es v fs → AddsStorage v p c fs new gs
-      → AddsStorages p c w es new gs
+-- p added storages in front of these entries of the stack, one after another
+pub data AddsStorages {B : Type 0} (shown : B → Option StorageName) (p : ℕ) (stack : Stack B) (w : World (LinkedEntry B)) (es : List (Entry (LinkedEntry B)))
+    : World (LinkedEntry B) → List (Entry (LinkedEntry B)) → Type 0 where
+  begins : AddsStorages shown p stack w es w es
+  adds : (v new : World (LinkedEntry B)) (fs gs : List (Entry (LinkedEntry B))) → AddsStorages shown p stack w es v fs
+      → AddsStorage shown v p stack fs new gs → AddsStorages shown p stack w es new gs
 
 module _ {T B : Type 0} where
   -- what was built, all or in part
@@ -40,7 +41,7 @@ module _ {I T B : Type 0} (next : I → Option T → I → Type 0) (shown : B �
     pub gives : YieldsThen next start given last end
     pub values : AreInSomeOrder given (values_of bag)
     pub entries : List (Entry (LinkedEntry B))
-    pub storages : AddsStorages p (cell_in bag.overflow.stack) (nulled (nulled w bag.primary.storage.cell) (cell_in bag.overflow.stack)) [] new entries
+    pub storages : AddsStorages shown p bag.overflow.stack (nulled (nulled w bag.primary.storage.cell) (cell_in bag.overflow.stack)) [] new entries
     pub lies : LiesOn shown len new entries bag.overflow
 
   -- what is answered where a bag is built of what an iterator gives

@@ -40,13 +40,15 @@ abbrev pub RefusesStorage : {I : Type 0} → World I → Refused → Type 0
 RefusesStorage w why = IsFull w.standings × (why ≡ NoSlot) ⊎ ¬ (IsFull w.standings) × HasOneAtMost w.cells × (why ≡ NoCell)
 
 module _ {B : Type 0} where
-  -- a storage more is on a new entry in front of these, which has a cell that was free
-  pub record AddsStorage (w : World (LinkedEntry B)) (p c : ℕ) (es : List (Entry (LinkedEntry B))) (new : World (LinkedEntry B))
-      (fs : List (Entry (LinkedEntry B))) : Type 0 where
-    pub cell : ℕ
-    pub free : IsEmptyAt w.cells cell
+  -- a storage more is on a new entry of the stack, in front of these, and its cell, which was free, is of the stack's home
+  pub record AddsStorage (shown : B → Option StorageName) (w : World (LinkedEntry B)) (p : ℕ) (stack : Stack B) (es : List (Entry (LinkedEntry B)))
+      (new : World (LinkedEntry B)) (fs : List (Entry (LinkedEntry B))) : Type 0 where
+    pub storage : StorageName
+    pub free : IsEmptyAt w.cells storage.cell
+    pub home : storage.home ≡ home_in stack
     pub shelf : B
-    pub adds : AddsOnto (nulled w cell) p c es shelf new fs
+    pub shows : shown shelf ≡ Some storage
+    pub adds : AddsOnto (nulled w storage.cell) p (cell_in stack) es shelf new fs
 
   -- the first of these entries is taken out, and its item, which nobody else owns, is retired at once
   pub record RemovesStorage (w : World (LinkedEntry B)) (p c : ℕ) (es : List (Entry (LinkedEntry B))) (new : World (LinkedEntry B))

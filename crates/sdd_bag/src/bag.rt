@@ -1,6 +1,7 @@
 //! The bag.
 ghost use Rattle.std.specs.Prelude.{◌≡◌, ◌≢◌, ◌↔◌, ◌⊎◌, ◌+◌, ◌^◌, ◌<◌, ◌≤◌, ◌++◌, ℕ, All, IfErr, IfOk, IfSome, IsTrue, List, MatchOption, MatchResult, None, Some, [], drop, is_some, length, map};
 ghost use Rattle.sdd_bag.specs.KeyedPlaces.{PlaceName};
+ghost use Rattle.sdd_bag.specs.Storages.{StorageName};
 ghost use Rattle.sdd_bag.specs.Storage.{AreEmpty, AreFull, IsEmptyAt, IsFullWith, empty_place, names_of, value_at, with_value_at};
 ghost use Rattle.sdd_bag.specs.Values.{AreInSomeOrder, HasOneMore};
 ghost use Rattle.sdd_space.specs.CallerId.{IsSeated, IsExact};
@@ -158,7 +159,8 @@ impl<T, const ARRAY_LEN: usize, B: Shelf<T, ARRAY_LEN>> Bag<T, ARRAY_LEN, B> {
         ensures refused { IfErr result (λ e. (S.world s.new ≡ S.world s.old) × RefusesPush (S.world s.old) e.1) }
         ensures pushed { IfOk result (λ _. HasStorageMore ARRAY_LEN self.old self.new) }
         ensures list { (es : List (Entry (Linked B))) → LiesOn B.shown ARRAY_LEN (S.world s.old) es self.old.overflow → IfOk result (λ _.
-            (shelf : B) × (fs : List (Entry (Linked B))) ×
+            (shelf : B) × (storage : StorageName) × (B.shown shelf ≡ Some storage) × (storage.cell ≡ cell_of cell) × (storage.home ≡ cells_home cell) ×
+            (fs : List (Entry (Linked B))) ×
             AddsOnto (S.world s.old) (S.seat s.old).place (cell_in self.old.overflow.stack) es shelf (S.world s.new) fs ×
             LiesOn B.shown ARRAY_LEN (S.world s.new) fs self.new.overflow) }
     {
@@ -201,7 +203,7 @@ impl<T, const ARRAY_LEN: usize, B: Shelf<T, ARRAY_LEN>> Bag<T, ARRAY_LEN, B> {
         ensures added { IfOk result (λ _. HasStorageMore ARRAY_LEN self.old self.new) }
         ensures list { (es : List (Entry (Linked B))) → LiesOn B.shown ARRAY_LEN (S.world s.old) es self.old.overflow → IfOk result (λ _.
             (fs : List (Entry (Linked B))) ×
-            AddsStorage (S.world s.old) (S.seat s.old).place (cell_in self.old.overflow.stack) es (S.world s.new) fs ×
+            AddsStorage B.shown (S.world s.old) (S.seat s.old).place self.old.overflow.stack es (S.world s.new) fs ×
             LiesOn B.shown ARRAY_LEN (S.world s.new) fs self.new.overflow) }
     {
         // Once a field is looked at, what is always so of a bag is known: an array has 1 to 32 places.
@@ -243,11 +245,12 @@ impl<T, const ARRAY_LEN: usize, B: Shelf<T, ARRAY_LEN>> Bag<T, ARRAY_LEN, B> {
         ensures stack { self.new.overflow.stack ≡ self.old.overflow.stack }
         ensures pushed { MatchResult result
             (λ _. HasOneMore value (overflow_of self.old) (overflow_of self.new) × ¬ (AreEmpty ARRAY_LEN self.new.overflow.places))
-            (λ e. (e.0 ≡ value) × (self.new ≡ self.old) × (S.world s.new ≡ S.world s.old) × RefusesStorage (S.world s.old) e.1) }
+            (λ e. (e.0 ≡ value) × (self.new ≡ self.old) × (S.world s.new ≡ S.world s.old) × RefusesStorage (S.world s.old) e.1 ×
+            AreFull ARRAY_LEN self.old.overflow.places) }
         ensures list { (es : List (Entry (Linked B))) → LiesOn B.shown ARRAY_LEN (S.world s.old) es self.old.overflow → IfOk result (λ _.
             (fs : List (Entry (Linked B))) × LiesOn B.shown ARRAY_LEN (S.world s.new) fs self.new.overflow ×
             ((S.world s.new ≡ S.world s.old) ⊎ AreFull ARRAY_LEN self.old.overflow.places ×
-            AddsStorage (S.world s.old) (S.seat s.old).place (cell_in self.old.overflow.stack) es (S.world s.new) fs)) }
+            AddsStorage B.shown (S.world s.old) (S.seat s.old).place self.old.overflow.stack es (S.world s.new) fs)) }
     {
         // Once a field is looked at, what is always so of a bag is known: an array has 1 to 32 places.
         let _ = &self.primary;
@@ -565,11 +568,11 @@ impl<T, const ARRAY_LEN: usize, B: Shelf<T, ARRAY_LEN>> Bag<T, ARRAY_LEN, B> {
         ensures pushed { MatchResult result
             (λ _. PushesInside ARRAY_LEN value self.old self.new × (S.world s.new ≡ S.world s.old) ⊎ PushesBehind ARRAY_LEN value self.old self.new)
             (λ e. (length (primary_of self.old) ≡ ARRAY_LEN) × (e.0 ≡ value) × (self.new ≡ self.old) × (S.world s.new ≡ S.world s.old) ×
-            RefusesStorage (S.world s.old) e.1) }
+            RefusesStorage (S.world s.old) e.1 × AreFull ARRAY_LEN self.old.overflow.places) }
         ensures list { (es : List (Entry (Linked B))) → LiesOn B.shown ARRAY_LEN (S.world s.old) es self.old.overflow → IfOk result (λ _.
             (fs : List (Entry (Linked B))) × LiesOn B.shown ARRAY_LEN (S.world s.new) fs self.new.overflow ×
             ((S.world s.new ≡ S.world s.old) ⊎ AreFull ARRAY_LEN self.old.overflow.places ×
-            AddsStorage (S.world s.old) (S.seat s.old).place (cell_in self.old.overflow.stack) es (S.world s.new) fs)) }
+            AddsStorage B.shown (S.world s.old) (S.seat s.old).place self.old.overflow.stack es (S.world s.new) fs)) }
     {
         let value = match self.primary.push(value) {
             Ok(()) => return Ok(()),

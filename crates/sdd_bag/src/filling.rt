@@ -8,7 +8,7 @@ ghost use Rattle.sdd_space.specs.ParticipantChanges.{KeepsMoreWaiting};
 ghost use Rattle.sdd_space.specs.Undisturbed.{Unmoved};
 ghost use Rattle.sdd_lists.specs.declared.linked_entry.LinkedEntry.{LinkedEntry as Linked};
 ghost use Rattle.sdd_lists.specs.Lists.{Entry};
-ghost use Rattle.sdd_lists.specs.Stack.{cell_in, home_in};
+ghost use Rattle.sdd_lists.specs.Stack.{home_in};
 ghost use Rattle.sdd_bag.specs.Overflow.{LiesOn, RefusesStorage};
 ghost use Rattle.sdd_bag.specs.Bag.{HasSameCells, IsBag, IsOfCells, primary_of, values_of};
 ghost use Rattle.sdd_bag.specs.Filling.{AddsStorages, Builds, bag_of};
@@ -41,7 +41,7 @@ impl<T, const ARRAY_LEN: usize, B: Shelf<T, ARRAY_LEN>> Bag<T, ARRAY_LEN, B> {
         ensures bag { IsBag B.shown ARRAY_LEN (S.world s.new) self.new }
         ensures list { (es : List (Entry (Linked B))) → LiesOn B.shown ARRAY_LEN (S.world s.old) es self.old.overflow →
             (fs : List (Entry (Linked B))) × LiesOn B.shown ARRAY_LEN (S.world s.new) fs self.new.overflow ×
-            AddsStorages (S.seat s.old).place (cell_in self.old.overflow.stack) (S.world s.old) es (S.world s.new) fs }
+            AddsStorages B.shown (S.seat s.old).place self.old.overflow.stack (S.world s.old) es (S.world s.new) fs }
         ensures values { (xs : List T) × ((vs : List T) → AreInSomeOrder vs (values_of self.old) → AreInSomeOrder (vs ++ xs) (values_of self.new)) ×
             MatchResult result
             (λ _. YieldsThen I.next_gives items.old xs None items.new)

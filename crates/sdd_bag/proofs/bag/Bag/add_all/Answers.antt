@@ -1,4 +1,4 @@
-use Rattle.std.proofs.Common.{rules, ◌≡◌, ◌⊎◌, ℕ, ◌∷◌, ◌++◌, [], List, Some, length, refl, ap, ◌∙◌, sym, subst, append_assoc}
+use Rattle.std.proofs.Common.{rules, ◌≡◌, ◌⊎◌, ◌∷◌, ◌++◌, [], List, Some, length, refl, ap, ◌∙◌, sym, subst, append_assoc}
 use Rattle.std.proofs.lemmas.List.{append-nil}
 use Rattle.sdd_bag.specs.Storage.{AreFull}
 use Rattle.sdd_bag.specs.Values.{AreInSomeOrder}
@@ -46,7 +46,7 @@ loop-value-preserved g c =
     let inv = c.loop-value.invariant in let got = c.in-Ok.ensures in let x = c.in-Some.value in
     let old = c.loop-value.self in let new = c.push.new.self in
     let w = g.S.Caller.world c.args.s.now in let u = g.S.Caller.world c.loop-value.s in let then = g.S.Caller.world c.push.new.s in
-    let p = (g.S.Caller.seat c.args.s.now).place in let len = g.row.ARRAY_LEN in
+    let p = (g.S.Caller.seat c.args.s.now).place in let shown = g.B.Shelf.shown in let len = g.row.ARRAY_LEN in
     record {
       unmoved = moves-on g.S.Caller.seat g.S.Caller.known g.S.Shows.shows c.args.s.now c.loop-value.s c.push.new.s inv.unmoved got.unmoved;
       own = λ start grown. got.own start (inv.own start grown);
@@ -55,15 +55,14 @@ loop-value-preserved g c =
       list = λ es lies.
           let was = inv.list es lies in let more = got.list was.0 was.1 in
           let Full : Type 0 = AreFull len old.overflow.places in
-          let step = subst (λ (s : CallerId). (then ≡ u) ⊎ Full × AddsStorage u s.place (cell_in old.overflow.stack) was.0 then more.0)
+          let step = subst (λ (s : CallerId). (then ≡ u) ⊎ Full × AddsStorage shown u s.place old.overflow.stack was.0 then more.0)
           inv.unmoved.seat more.2 in
-          let cell : cell_in old.overflow.stack ≡ cell_in c.args.self.now.overflow.stack = ap (λ (s : Stack _). cell_in s) inv.cells.stack in
-          let were = subst (λ (k : ℕ). AddsStorages p k w es u was.0) (sym cell) was.2 in
+          let were = subst (λ (s : Stack _). AddsStorages shown p s w es u was.0) (sym inv.cells.stack) was.2 in
           let now = subst (λ (s : Stack _). IsStack then (cell_in s) more.0) got.cells.stack more.1.stack in (
             more.0,
             more.1,
-            subst (λ (k : ℕ). AddsStorages p k w es then more.0) cell
-                (adds-next p (cell_in old.overflow.stack) w u then es was.0 more.0 were was.1.stack now Full step),
+            subst (λ (s : Stack _). AddsStorages shown p s w es then more.0) inv.cells.stack
+                (adds-next shown p old.overflow.stack w u then es was.0 more.0 were was.1.stack now Full step),
           );
       values =
           let was = inv.values in
@@ -110,7 +109,7 @@ returns-in-Err-clause-list g c = λ es lies.
       was.0,
       subst (λ (b : Bag). LiesOn shown len new was.0 b.overflow) (sym not.2)
           (subst (λ (y : World _). LiesOn shown len y was.0 c.loop-value.self.overflow) (sym not.3) was.1),
-      subst (λ (y : World _). AddsStorages p (cell_in c.args.self.now.overflow.stack) w es y was.0) (sym not.3) was.2,
+      subst (λ (y : World _). AddsStorages shown p c.args.self.now.overflow.stack w es y was.0) (sym not.3) was.2,
     )
 
 pub returns-clause-values : goal.returns-clause-values

@@ -4,7 +4,6 @@ use Rattle.sdd_bag.specs.Values.{AreInSomeOrder}
 use Rattle.sdd_space.specs.ParticipantChanges.{KeepsMoreWaiting}
 use Rattle.sdd_space.specs.Undisturbed.{Unmoved}
 use Rattle.sdd_lists.specs.Lists.{Entry}
-use Rattle.sdd_lists.specs.Stack.{cell_in}
 use Rattle.sdd_bag.specs.Overflow.{LiesOn}
 use Rattle.sdd_bag.specs.Bag.{HasSameCells, IsBag, values_of}
 use Rattle.sdd_bag.specs.Filling.{AddsStorages}
@@ -19,7 +18,8 @@ invariant-loop-value g l = record {
   bag : IsBag g.B.Shelf.shown g.row.ARRAY_LEN (g.S.Caller.world l.s) l.self;
   list : (es : List (Entry _)) → LiesOn g.B.Shelf.shown g.row.ARRAY_LEN (g.S.Caller.world l.initial.s) es l.initial.self.overflow
       → (fs : List (Entry _)) × LiesOn g.B.Shelf.shown g.row.ARRAY_LEN (g.S.Caller.world l.s) fs l.self.overflow
-      × AddsStorages (g.S.Caller.seat l.initial.s).place (cell_in l.initial.self.overflow.stack) (g.S.Caller.world l.initial.s) es (g.S.Caller.world l.s) fs;
+      × AddsStorages g.B.Shelf.shown (g.S.Caller.seat l.initial.s).place l.initial.self.overflow.stack (g.S.Caller.world l.initial.s) es
+      (g.S.Caller.world l.s) fs;
   values : (xs : List _) × Yields g.I.Iterator.next_gives l.initial.items xs l.items
       × ((vs : List _) → AreInSomeOrder vs (values_of l.initial.self) → AreInSomeOrder (vs ++ xs) (values_of l.self));
 }

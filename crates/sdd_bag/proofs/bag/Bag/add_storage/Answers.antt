@@ -12,6 +12,7 @@ use Rattle.sdd_lists.specs.Stack.{cell_in}
 use Rattle.sdd_lists.proofs.Fresh.{freed-again, only-one}
 use Rattle.sdd_lists.proofs.Grows.{grows-not, grows-spilled}
 use Rattle.sdd_lists.proofs.Refusals.{full-of}
+use Rattle.sdd_bag.specs.Storages.{StorageName}
 use Rattle.sdd_bag.specs.Overflow.{LiesOn, RefusesStorage}
 use Rattle.sdd_bag.proofs.Standing.{few-kept, lies-beside}
 use Rattle.sdd_bag.proofs.Still.{full-one, moves-on, still}
@@ -87,24 +88,28 @@ returns-in-Ok-push_storage-clause-own g c = λ start grown.
 pub returns-in-Ok-push_storage-clause-list : goal.returns-in-Ok-push_storage-clause-list
 returns-in-Ok-push_storage-clause-list g c = λ es lies.
     let shown = g.B.Shelf.shown in let len = g.row.ARRAY_LEN in let w = g.S.Caller.world c.args.s.now in
-    let l : ℕ = cell_of c.in-Ok.cell in let new = g.S.Caller.world c.push_storage.new.s in let stack = cell_in c.args.self.now.overflow.stack in
+    let l : ℕ = cell_of c.in-Ok.cell in let new = g.S.Caller.world c.push_storage.new.s in let stack = c.args.self.now.overflow.stack in
     let at0 = c.has_slot-free.ensures.undisturbed.seat in let at1 = c.in-Ok.ensures.undisturbed.seat ∙ at0 in
-    let same = (c.has_slot-free.ensures.exact c.requires.exact).1 in
+    let same = (c.has_slot-free.ensures.exact c.requires.exact).1 in let p = (g.S.Caller.seat c.args.s.now).place in
     let made = c.in-Ok.ensures.exact (subst (λ (s : CallerId). IsExact s) (sym at0) c.requires.exact) in
     let free : IsEmptyAt w.cells l = subst (λ (x : World _). IsEmptyAt x.cells l) same made.0 in
     let world1 : g.S.Caller.world c.null.new.s ≡ nulled w l = made.1 ∙ ap (λ (x : World _). nulled x l) same in
     let here = subst (λ (x : World _). LiesOn shown len x es c.args.self.now.overflow) (sym world1)
     (lies-beside shown len w l es c.args.self.now.overflow free lies) in
-    let got = c.in-Ok-push_storage.ensures.list es here in (
-      got.1,
+    let got = c.in-Ok-push_storage.ensures.list es here in
+    let shelf = got.0 in let storage : StorageName = got.1 in let own : storage.cell ≡ l = got.3 in let fs = got.5 in (
+      fs,
       record {
-        cell = l;
-        free = free;
-        shelf = got.0;
-        adds = subst (λ (x : World _). AddsOnto x (g.S.Caller.seat c.args.s.now).place stack es got.0 new got.1) world1
-            (subst (λ (s : CallerId). AddsOnto (g.S.Caller.world c.null.new.s) s.place stack es got.0 new got.1) at1 got.2);
+        storage = storage;
+        free = subst (λ (k : ℕ). IsEmptyAt w.cells k) (sym own) free;
+        home = got.4 ∙ c.in-Ok.ensures.home ∙ ap (λ (s : CallerId). s.home.cells) at0 ∙ sym c.requires.home;
+        shelf = shelf;
+        shows = got.2;
+        adds = subst (λ (k : ℕ). AddsOnto (nulled w k) p (cell_in stack) es shelf new fs) (sym own)
+            (subst (λ (x : World _). AddsOnto x p (cell_in stack) es shelf new fs) world1
+            (subst (λ (s : CallerId). AddsOnto (g.S.Caller.world c.null.new.s) s.place (cell_in stack) es shelf new fs) at1 got.6));
       },
-      got.3,
+      got.7,
     )
 
 pub returns-in-Err-push_storage-clause-unmoved : goal.returns-in-Err-push_storage-clause-unmoved

@@ -1,7 +1,6 @@
 use Rattle.std.proofs.Common.{rules, List, None, Some, refl, ap, ◌∙◌, sym, subst}
 use Rattle.sdd_space.specs.CallerId.{CallerId, IsExact, IsSeated}
 use Rattle.sdd_lists.specs.Lists.{Entry}
-use Rattle.sdd_lists.specs.Stack.{cell_in}
 use Rattle.sdd_bag.specs.Overflow.{LiesOn}
 use Rattle.sdd_bag.specs.Filling.{AddsStorages}
 use Rattle.sdd_bag.proofs.Filled.{builds}
@@ -46,7 +45,7 @@ returns-in-Ok-add_all-clause-list g c =
     builds g.I.Iterator.next_gives g.B.Shelf.shown g.row.ARRAY_LEN p w u new bag c.add_all.new.self c.args.items.now c.add_all.new.items None made.0 made.1
     made.2 made.3 c.in-Ok.ensures.empty.0 c.in-Ok.ensures.empty.1 (c.in-Ok.ensures.bag c.requires.exact) got.cells
     (λ es lies. subst (λ (s : CallerId). (fs : List (Entry _)) × LiesOn g.B.Shelf.shown g.row.ARRAY_LEN new fs c.add_all.new.self.overflow ×
-    AddsStorages s.place (cell_in bag.overflow.stack) u es new fs) c.in-Ok.ensures.unmoved.seat (got.list es lies)) values.0 values.1
+    AddsStorages g.B.Shelf.shown s.place bag.overflow.stack u es new fs) c.in-Ok.ensures.unmoved.seat (got.list es lies)) values.0 values.1
     values.2
 
 pub returns-in-Err-add_all-clause-unmoved : goal.returns-in-Err-add_all-clause-unmoved
@@ -66,7 +65,7 @@ returns-in-Err-add_all-clause-list g c =
           (Some c.in-Err-add_all.item) made.0 made.1 made.2 made.3 c.in-Ok.ensures.empty.0 c.in-Ok.ensures.empty.1
           (c.in-Ok.ensures.bag c.requires.exact) got.cells
           (λ es lies. subst (λ (s : CallerId). (fs : List (Entry _)) × LiesOn g.B.Shelf.shown g.row.ARRAY_LEN new fs c.add_all.new.self.overflow ×
-          AddsStorages s.place (cell_in bag.overflow.stack) u es new fs) c.in-Ok.ensures.unmoved.seat (got.list es lies)) values.0 values.1 values.2.0,
+          AddsStorages g.B.Shelf.shown s.place bag.overflow.stack u es new fs) c.in-Ok.ensures.unmoved.seat (got.list es lies)) values.0 values.1 values.2.0,
       values.2.1,
       values.2.2,
     )

@@ -1,10 +1,11 @@
-use Rattle.std.proofs.Common.{rules, ◌≡◌, ◌⊎◌, List, ap, ◌∙◌, sym, subst}
+use Rattle.std.proofs.Common.{rules, ◌≡◌, ◌⊎◌, List, length, ap, ◌∙◌, sym, subst}
 use Rattle.sdd_bag.specs.Storage.{AreEmpty, AreFull}
 use Rattle.sdd_lists.specs.declared.linked_entry.LinkedEntry.{LinkedEntry}
 use Rattle.sdd_lists.specs.Lists.{Entry}
-use Rattle.sdd_lists.specs.Stack.{cell_in, home_in}
+use Rattle.sdd_lists.specs.Stack.{home_in}
 use Rattle.sdd_bag.specs.Overflow.{AddsStorage, LiesOn, OverflowParts}
-use Rattle.sdd_bag.specs.Bag.{BagParts}
+use Rattle.sdd_bag.specs.Bag.{BagParts, primary_of}
+use Rattle.sdd_bag.specs.Primary.{PrimaryParts}
 use Rattle.sdd_bag.proofs.bag.Bag.push.Goals as goal
 
 pub returns-in-Ok-clause-bag : goal.returns-in-Ok-clause-bag
@@ -44,5 +45,21 @@ returns-in-Ok-push_behind-clause-list g c = λ es lies.
     let w = g.S.Caller.world c.args.s.now in let new = g.S.Caller.world c.push_behind.new.s in
     let here = subst (λ (o : Parts). LiesOn g.B.Shelf.shown len w es o) (sym view) lies in
     subst (λ (o : Parts). (fs : List (Entry (LinkedEntry g.row.B.Denot))) × LiesOn g.B.Shelf.shown len new fs c.push_behind.new.self.overflow ×
-    ((new ≡ w) ⊎ AreFull len o.places × AddsStorage w (g.S.Caller.seat c.args.s.now).place (cell_in o.stack) es new fs)) view
+    ((new ≡ w) ⊎ AreFull len o.places × AddsStorage g.B.Shelf.shown w (g.S.Caller.seat c.args.s.now).place o.stack es new fs)) view
     (c.in-Ok-push_behind.ensures.list es here)
+
+pub returns-in-Err-push_behind-clause-pushed : goal.returns-in-Err-push_behind-clause-pushed
+returns-in-Err-push_behind-clause-pushed g c =
+    let Parts : Type 0 = OverflowParts g.row.T.Denot g.row.B.Denot in let len = g.row.ARRAY_LEN in
+    let view = ap (λ (b : BagParts g.row.T.Denot g.row.B.Denot). b.overflow) c.self.view_is in
+    let first = c.in-Err.ensures.pushed in let in-it = c.in-Err-push_behind.ensures.pushed in (
+      ap (λ (b : BagParts g.row.T.Denot g.row.B.Denot). length (primary_of b)) (sym c.self.view_is) ∙ first.1,
+      in-it.0 ∙ first.0,
+      in-it.1 ∙ ap (λ (p : PrimaryParts g.row.T.Denot). record {
+        primary = p;
+        overflow = record { stack = c.self.inside.stack; places = c.self.inside.keys };
+      }) first.2 ∙ c.self.view_is,
+      in-it.2,
+      in-it.3,
+      subst (λ (o : Parts). AreFull len o.places) view in-it.4,
+    )

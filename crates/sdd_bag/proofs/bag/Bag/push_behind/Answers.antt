@@ -3,7 +3,7 @@ use Rattle.sdd_bag.specs.Storage.{AreFull, KeptPlace, values_in}
 use Rattle.sdd_bag.specs.Values.{HasOneMore}
 use Rattle.sdd_space.specs.CallerId.{CallerId, IsExact, IsSeated}
 use Rattle.sdd_space.specs.World.{World}
-use Rattle.sdd_lists.specs.Stack.{cell_in, home_in}
+use Rattle.sdd_lists.specs.Stack.{home_in}
 use Rattle.sdd_lists.proofs.Grows.{grows-not}
 use Rattle.sdd_bag.specs.Overflow.{AddsStorage, LiesOn, RefusesStorage}
 use Rattle.sdd_bag.specs.Bag.{BagParts, overflow_of}
@@ -71,6 +71,7 @@ returns-in-Err-add_storage-clause-pushed g c =
       c.in-Err-add_storage.ensures.same ∙ c.in-Err.ensures.pushed.2,
       c.in-Err-add_storage.ensures.refused.0 ∙ c.in-Err.ensures.world,
       subst (λ (w : World _). RefusesStorage w why) c.in-Err.ensures.world c.in-Err-add_storage.ensures.refused.1,
+      c.in-Err.ensures.pushed.1,
     )
 
 pub push_front-requires-2 : goal.push_front-requires-2
@@ -139,16 +140,16 @@ returns-clause-list g c = λ es lies.
     let got = c.in-Ok-add_storage.ensures.list es
     (subst (λ (b : Bag). LiesOn shown len (g.S.Caller.world c.push_front.new.s) es b.overflow) (sym same) here) in
     let fs = got.0 in let in-it = c.in-Ok-push_front.ensures.pushed.0 in
-    let adds = subst (λ (b : Bag). AddsStorage (g.S.Caller.world c.push_front.new.s) (g.S.Caller.seat c.push_front.new.s).place
-    (cell_in b.overflow.stack) es w2 fs) same got.1 in
-    let stack = cell_in c.args.self.now.overflow.stack in (
+    let adds = subst (λ (b : Bag). AddsStorage shown (g.S.Caller.world c.push_front.new.s) (g.S.Caller.seat c.push_front.new.s).place
+    b.overflow.stack es w2 fs) same got.1 in
+    let stack = c.args.self.now.overflow.stack in (
       fs,
       lies-kept shown len w2 w3 fs c.add_storage.new.self.overflow c.push_front-2.new.self.overflow c.in-Ok-push_front.ensures.world
           c.in-Ok-push_front.ensures.keeps.overflow in-it.0 (Some c.in-Err.value) in-it.1 in-it.3 got.2,
       inr (
         c.in-Err.ensures.pushed.1,
-        subst (λ (x : World _). AddsStorage w (g.S.Caller.seat c.args.s.now).place stack es x fs) (sym c.in-Ok-push_front.ensures.world)
-            (subst (λ (s : CallerId). AddsStorage w s.place stack es w2 fs) at
-            (subst (λ (x : World _). AddsStorage x (g.S.Caller.seat c.push_front.new.s).place stack es w2 fs) c.in-Err.ensures.world adds)),
+        subst (λ (x : World _). AddsStorage shown w (g.S.Caller.seat c.args.s.now).place stack es x fs) (sym c.in-Ok-push_front.ensures.world)
+            (subst (λ (s : CallerId). AddsStorage shown w s.place stack es w2 fs) at
+            (subst (λ (x : World _). AddsStorage shown x (g.S.Caller.seat c.push_front.new.s).place stack es w2 fs) c.in-Err.ensures.world adds)),
       ),
     )

@@ -2,7 +2,7 @@ use Rattle.std.proofs.Common.{rules, ◌≡◌, ◌<◌, ◌++◌, ◌^◌, List
 use Rattle.sdd_bag.specs.KeyedPlaces.{PlaceName}
 use Rattle.sdd_bag.specs.Storage.{AreEmpty, AreFull, KeptPlace, empty_place}
 use Rattle.sdd_bag.proofs.Prefixes.{value-new}
-use Rattle.sdd_rights.specs.Right.{home_of}
+use Rattle.sdd_rights.specs.Right.{home_of, number_of}
 use Rattle.sdd_rights.specs.declared.right.Right.{Right}
 use Rattle.sdd_space.specs.CallerId.{CallerId, IsExact}
 use Rattle.sdd_space.specs.OwnerOrCell.{SpaceId}
@@ -72,8 +72,13 @@ returns-in-Ok-clause-list g c = λ es lies.
     released ∙ ap (λ (s : CallerId). owner_given between s.place (slot_of owner) (standing_at between (slot_of owner))) at in
     let add = added w between new p (cell_in c.self.inside.stack) es shelf owner pushes is in
     let names : List PlaceName = c.add_places-places.result in
-    let on : places_shown (shown shelf) ≡ names = ap places_shown c.with_storage.ensures.shown ∙ ap (λ (s : StorageName). s.places) c.new-storage.ensures in (
+    let on : places_shown (shown shelf) ≡ names = ap places_shown c.with_storage.ensures.shown ∙ ap (λ (s : StorageName). s.places) c.new-storage.ensures in
+    let right = c.right_of_shared_cell.ensures.right in (
       shelf,
+      c.new-storage.result,
+      c.with_storage.ensures.shown,
+      ap (λ (s : StorageName). s.cell) c.new-storage.ensures ∙ ap (λ (r : Right). number_of r) right,
+      ap (λ (s : StorageName). s.home) c.new-storage.ensures ∙ ap (λ (r : Right). home_of r) right,
       add.0,
       subst (λ (x : Parts). AddsOnto w p (cell_in x.stack) es shelf new add.0) view add.1,
       subst (λ (ps : Places). LiesOn shown len new add.0 (record { stack = c.self.inside.stack; places = ps })) (sym c.add_places-places.ensures.places)
