@@ -33,6 +33,7 @@ use Rattle.sdd_script_model.specs.ScriptState.{ScriptState, OpenSince, opening_a
 use Rattle.sdd_script_model.specs.Script.{Acts, Answers, IsReclaimed, IsRunBy, Meets, HasOpen, IsParticipant, CanPointTo}
 use Rattle.sdd_script_model.specs.Script as script
 use Rattle.sdd_script_model.specs.Script.AreCalls.{none as no_call}
+use Rattle.sdd_script_model.specs.Bags.{IsStored}
 use Rattle.sdd_script_model.specs.Sound.{IsSound}
 use Rattle.sdd_interpreter.specs.Environment.{attending, guarding}
 use Rattle.sdd_interpreter.specs.Owners.{owner_holding, cell_holding, collector_holding, newest_holding, oldest_holding, stack_holding}
@@ -145,10 +146,12 @@ module _ (h : Environment) (t : IsTied h) (whole : IsWhole h.world) where
       abbrev more : ScriptState
       more = with_owner (in_world d (with_standing h.world k (standing.Shared (count + 1)))) (holding.shared k h.world.home.slots)
 
-      pub adds-owner : (call : Call) (given : Reply) → Meets d call given more → Does d call given (record h { world = w; owners = record { entries = owners } })
-      adds-owner call given meets =
+      -- which is no storage of a bag
+      pub adds-owner : (IsStored d.bags h.world k → ⊥) → (call : Call) (given : Reply) → Meets d call given more →
+          Does d call given (record h { world = w; owners = record { entries = owners } })
+      adds-owner off call given meets =
           let told = owner-more owners (Share x) pushed ∙ ap (λ home. d.owners ++ Some (holding.shared k home) ∷ []) home in
-          leads h t call given refl (cc (world, told)) (shared-leaves d t.sound whole p k count in_range stands) meets
+          leads h t call given refl (cc (world, told)) (shared-leaves d t.sound whole p k count in_range stands off) meets
 
     -- an item that this participant can point to can't go while its guard is open
     pub stays-here : (g i : ℕ) (held : NamedGuard) → slice_index_or h.guards.entries.items g None ≡ Some held → held.place ≡ p →
@@ -171,10 +174,11 @@ same-owners h w owners world same = let named = ap (map (option_map owner_holdin
 -- nothing is in hand at the start
 pub tied-start : (h : Environment) (l : Limits) → IsNew l 0 h.world → h.moment ≡ 0 → h.places.entries.items ≡ [] → h.guards.entries.items ≡ [] →
     h.owners.entries.items ≡ [] → h.cells.entries.items ≡ [] → h.collectors.entries.items ≡ [] → h.queues.entries.items ≡ [] → h.stacks.entries.items ≡ [] →
+    h.bags.entries.items ≡ [] →
     h.slots.items ≡ [] → length h.names.items ≡ l.slots →
     h.dates.items ≡ replicate l.slots 0 → h.jobs ≡ 0 → h.deferred.items ≡ replicate l.jobs 0 → h.job_dates.items ≡ replicate l.jobs 0 →
     AreInRange l → IsTied h
-tied-start h l new start places guards owners cells collectors queues stacks slots names dates jobs deferred job_dates ranges = record {
+tied-start h l new start places guards owners cells collectors queues stacks bags slots names dates jobs deferred job_dates ranges = record {
   sound = sound-start l (desk_of h) (record {
     world = new;
     moment = start;
@@ -186,6 +190,7 @@ tied-start h l new start places guards owners cells collectors queues stacks slo
     queues = ap (map (option_map oldest_holding)) queues;
     newest = ap (map (option_map newest_holding)) queues;
     stacks = ap (map (option_map stack_holding)) stacks;
+    bags = bags;
     slots = slots;
     dates = dates;
     jobs = jobs;

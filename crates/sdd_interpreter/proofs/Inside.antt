@@ -1,17 +1,22 @@
 -- What values hold owners of has a name
-use Rattle.std.proofs.Common.{◌≡◌, ℕ, [], ◌∷◌, None, Some, IsSome, slice_index_or, refl, ap}
+use Rattle.std.proofs.Common.{◌≡◌, ℕ, ◌+◌, ◌≤◌, [], ◌∷◌, None, Some, IsSome, count_by, slice_index_or, refl, ap, ◌∙◌, eq-eqb, arith}
+use Rattle.std.specs.Prelude.{◌==◌}
 use Rattle.sdd_space.specs.Owned as owned
 use Rattle.sdd_space.specs.Shared as shared
 use Rattle.sdd_space.specs.OwnerOrCell.{OwnerOrCell}
 use Rattle.sdd_space.specs.World.{value_at}
 use Rattle.sdd_script_model.specs.declared.val.Body.{Body}
-use Rattle.sdd_script_model.specs.Val.{Val, body_of, owner_in}
+use Rattle.sdd_script_model.specs.Val.{Val, body_of, holdings_of, owner_in}
 use Rattle.sdd_script_model.specs.declared.val.Body.TheVariants as body
 use Rattle.sdd_script_model.specs.ScriptState.{slot_of}
 use Rattle.sdd_interpreter.specs.declared.interpreter.Environment.{Environment}
 use Rattle.sdd_interpreter.specs.Interpreter.{desk_of, IsTied}
 use Rattle.sdd_interpreter.specs.Environment.{IsOfNamed}
-use Rattle.sdd_script_model.proofs.Counting.{accounts, value-owner-out}
+use Rattle.sdd_space.specs.OwnerCounts.{is_owner_of, times_held}
+use Rattle.sdd_space.proofs.Whole.{count-cons, one_where}
+use Rattle.sdd_script_model.specs.Sound.{named}
+use Rattle.sdd_script_model.proofs.Counting.{accounts, owner-where, times-held, times_in, value-owner-out}
+use Rattle.sdd_script_model.proofs.Storing.{off-valued}
 use Rattle.sdd_script_model.proofs.Stocked.{name-some}
 
 module _ (h : Environment) (t : IsTied h) where
@@ -19,9 +24,18 @@ module _ (h : Environment) (t : IsTied h) where
   pub value-named : (j : ℕ) (v : Val) → value_at h.world j ≡ Some v → IsOfNamed h.names.items (body_of v)
   value-named j v here = by (body_of v) refl where
     its : (x : OwnerOrCell) (k : ℕ) → owner_in (body_of v) ≡ x ∷ [] → slot_of (Some x) ≡ Some k → IsSome (slice_index_or h.names.items k None)
-    its x k is slot = name-some (desk_of h) t.sound.stocked k (value-owner-out (desk_of h) (accounts (desk_of h) t.sound) j v x k here is slot)
+    its x k is slot =
+        name-some (desk_of h) t.sound.stocked k (value-owner-out (desk_of h) (accounts (desk_of h) t.sound) j v x k here is slot)
+        (off-valued (desk_of h) h.world (named (desk_of h)) t.sound.ledger (λ n b es at stands. stands) j k (holds x k is slot)) where
+          holds : (x : OwnerOrCell) (k : ℕ) → owner_in (body_of v) ≡ x ∷ [] → slot_of (Some x) ≡ Some k → 1 ≤ times_held holdings_of k (value_at h.world j)
+          holds x k is slot =
+              let one_owner : times_in k (body_of v) ≡ one_where (is_owner_of k x) =
+              ap (count_by (is_owner_of k)) is ∙ count-cons (is_owner_of k) x [] ∙ omega arith in
+              let itself : one_where (k == k) ≡ 1 = ap one_where (eq-eqb k k refl) in
+              omega (arith, ap (times_held holdings_of k) here, times-held v k, one_owner, owner-where x k slot k, itself)
 
     by : (b : Body) → body_of v ≡ b → IsOfNamed h.names.items b
     by (body.Number n) e = tt
     by (body.Owned o) e = its (owned.holding_of o) (owned.slot_of o) (ap owner_in e) refl
+    by (body.Storage st) e = tt
     by (body.Shared o) e = its (shared.holding_of o) (shared.slot_of o) (ap owner_in e) refl

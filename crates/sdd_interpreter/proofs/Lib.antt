@@ -15,3 +15,4 @@ pub mod Guarded
 pub mod Shown
 pub mod Asked
 pub mod Copied
+pub mod Bags

@@ -93,6 +93,7 @@ abbrev pub IsOfNamed : List (Option ℕ) → Body → Type 0
 IsOfNamed names (body.Number n) = Unit {0}
 IsOfNamed names (body.Owned o) = IsSome (slice_index_or names (owned.slot_of o) None)
 IsOfNamed names (body.Shared o) = IsSome (slice_index_or names (shared.slot_of o) None)
+IsOfNamed names (body.Storage s) = Unit {0}
 
 -- what a value takes of these owners is not there
 abbrev pub IsMissing : List (Option AnyOwner) → Value → Type 0

@@ -23,6 +23,7 @@ desk_of s =
       queues = map (option_map oldest_holding) s.queues.entries.items;
       newest = map (option_map newest_holding) s.queues.entries.items;
       stacks = map (option_map stack_holding) s.stacks.entries.items;
+      bags = s.bags.entries.items;
       slots = s.slots.items;
       names = s.names.items;
       dates = s.dates.items;

@@ -4,6 +4,7 @@ ghost use Rattle.std.specs.Prelude.{◌≡◌, ◌<◌, ◌⊎◌, [], IfOk, Mat
 use crate::holding::{AnyCell, AnyOwner};
 use crate::name_table::NameTable;
 use crate::participants::{NamedGuard, NamedParticipant};
+use sdd_bag::Bag;
 use sdd_core::{Limits, Refused};
 use sdd_lists::{Queue, Stack};
 use sdd_script_model::{Body, Val};
@@ -26,6 +27,7 @@ pub struct Environment {
     pub collectors: NameTable<PrivateCollector<Val>>,
     pub queues: NameTable<Queue<Body>>,
     pub stacks: NameTable<Stack<Body>>,
+    pub bags: NameTable<Bag<u64, 32, Body>>,
     /// Of each item its slot.
     pub slots: Vec<u32>,
     /// Of each slot the name of the item that it had last, if that had one.
@@ -91,6 +93,7 @@ impl Interpreter {
                 collectors: NameTable::new(alloc),
                 queues: NameTable::new(alloc),
                 stacks: NameTable::new(alloc),
+                bags: NameTable::new(alloc),
                 slots: Vec::new(alloc),
                 names,
                 dates,

@@ -36,6 +36,7 @@ pub fn told(value: &Val, names: &[Option<u64>]) -> Reply
         Body::Number(number) => Reply::Value(*number),
         Body::Owned(owner) => Reply::Holding(item_at(names, slot_of_sole(owner))),
         Body::Shared(owner) => Reply::Holding(item_at(names, slot_of_share(owner))),
+        Body::Storage(_) => Reply::Done,
     }
 }
 
@@ -148,6 +149,7 @@ pub fn slot_given(value: &Val) -> Option<u32>
         Body::Number(_) => None,
         Body::Owned(owner) => Some(slot_of_sole(owner)),
         Body::Shared(owner) => Some(slot_of_share(owner)),
+        Body::Storage(_) => None,
     }
 }
 
@@ -242,6 +244,7 @@ fn owners_in(alloc: Global, world: &World<Val>, slots: &[u32]) -> Result<Vec<u32
             Body::Number(_) => {}
             Body::Owned(owner) => found.push_reserved(slot_of_sole(owner)),
             Body::Shared(owner) => found.push_reserved(slot_of_share(owner)),
+            Body::Storage(_) => {}
         }
     }
     Ok(found)

@@ -1,5 +1,6 @@
 //! What a participant of a script does at its place of a world, when it is its turn.
 
+pub mod bags;
 pub mod cells;
 pub mod collectors;
 pub mod containers;

@@ -13,6 +13,7 @@ pub use scene::Scene;
 pub use schedules::play_steps;
 pub use sdd_script_model::Val;
 pub use sdd_script_text::{
-    Action, Answer, Call, CellName, CollectorName, Ended, Fault, GuardName, ItemName, JobName,
-    ListName, Names, Numbers, OwnerName, PlaceName, Reader, Reply, Sink, Source, Value, Writer,
+    Action, Answer, BagName, Call, CellName, CollectorName, Ended, Fault, GuardName, ItemName,
+    JobName, ListName, Names, Numbers, OwnerName, PlaceName, QueueName, Reader, Reply, Sink,
+    Source, StackName, Value, Writer,
 };

@@ -90,6 +90,9 @@ fn act(stage: &mut Interpreter, name: PlaceName, action: Action) -> Result<Reply
     if let Some(reply) = sdd_script_commands::act_on_copy(stage, name, action)? {
         return Ok(reply);
     }
+    if let Some(reply) = sdd_script_commands::act_on_bag(stage, name, action)? {
+        return Ok(reply);
+    }
     let Some(reply) = sdd_script_commands::act_on_held(stage, name, action)? else {
         unreachable!()
     };

@@ -31,6 +31,7 @@ use Rattle.sdd_interpreter.proofs.Stacks.{no-stack, stack-home}
 use Rattle.sdd_script_model.proofs.Listed.{same-list}
 use Rattle.sdd_script_commands.proofs.QueueActs.{is-queue, queue-entries}
 use Rattle.sdd_script_commands.proofs.StackActs.{is-stack, stack-entries}
+use Rattle.sdd_script_model.specs.ScriptState.{IsListCell}
 
 -- the name stands for this container
 abbrev pub Names : Environment → ListName → AnyList → Type 0
@@ -79,6 +80,12 @@ module _ (h : Environment) (t : IsTied h) where
       }
   entries-of l x never = absurd never
 
+  -- it begins in a list's cell
+  pub list-begins : (l : ListName) (x : AnyList) → Names h l x → IsListCell (desk_of h) (list_cell x)
+  list-begins (list.Queue q) (any.Queue x) mine = inl (q.0, (queue-entries h t q.0 x.now mine).2.oldest)
+  list-begins (list.Stack s) (any.Stack x) mine = inr (s.0, (stack-entries h t s.0 x.now mine).1.named)
+  list-begins l x never = absurd never
+
   pub of-numbers : (l : ListName) (x : AnyList) → Names h l x → IsOfNumbers h.world x
   of-numbers l x mine = let its = entries-of l x mine in (its.entries, its.second, its.has, its.numbers)
 
@@ -93,7 +100,8 @@ module _ (h : Environment) (t : IsTied h) where
   is-list l x never = absurd never
 
   module _ (name : PlaceName) (g : GuardName) (valid : HasOpen (desk_of h) name.0 g.0) (l : ListName) (x : AnyList) (mine : Names h l x) where
-    pub acts-peeked : (given : Reply) → ((es : List (Entry Val)) (second : Option ℕ) → HasEntries h.world x es second → TellsNumber given (first_value (left es))) →
+    pub acts-peeked : (given : Reply) → ((es : List (Entry Val)) (second : Option ℕ) → HasEntries h.world x es second →
+        TellsNumber given (first_value (left es))) →
         Acts (desk_of h) (At name (call.Peek l g)) given (desk_of h)
     acts-peeked reply.Nothing tells =
         let its = entries-of l x mine in

@@ -67,6 +67,20 @@ AreForgotten h w free names =
 past-end : {X : Type 0} (xs : List X) (k : ℕ) (x : X) → length xs ≤ k → slice_index_or xs k x ≡ x
 past-end xs k x past = get_or_past xs k x past
 
+-- where the world is as before, so are the dates
+module _ (h : Environment) (t : IsTied h) where
+  either : (b : Bool) (x y : ℕ) → (if b then (if b then x else y) else x) ≡ x
+  either true x y = refl
+  either false x y = refl
+
+  pub as-dated : (w : World Val) (dates : Vec ℕ) → AreDatedSo h w dates → w ≡ h.world → dates.items ≡ h.dates.items
+  as-dated w dates now same =
+      ext_get_or 0 dates.items h.dates.items now.1 (λ s lt.
+      now.0 s (omega (arith, lt, now.1))
+      ∙ ap (λ (u : World Val). if is_waiting (standing_at u s) then (if is_waiting (standing_at h.world s) then slice_index h.dates.items s else h.moment)
+      else slice_index h.dates.items s) same
+      ∙ either (is_waiting (standing_at h.world s)) (slice_index h.dates.items s) h.moment)
+
 module _ (h : Environment) (t : IsTied h) (whole : IsWhole h.world) (name : PlaceName) (a : NamedParticipant)
     (there : attending (Some a) ≡ opening_at (desk_of h).places name.0) (line : BeginsLine (desk_of h)) where
   abbrev d : ScriptState
@@ -85,7 +99,7 @@ module _ (h : Environment) (t : IsTied h) (whole : IsWhole h.world) (name : Plac
   place-is = acts.is h t whole name a there
 
   -- what was told of the slots says which items lose their names
-  loses : (w : World Val) (free : List Bool) → AreFreeSo h free → (names : Vec (Option ℕ)) → AreForgotten h w free names →
+  pub loses : (w : World Val) (free : List Bool) → AreFreeSo h free → (names : Vec (Option ℕ)) → AreForgotten h w free names →
       length w.standings ≡ length h.world.standings → (new : ScriptState) → new.names ≡ names.items → new.world ≡ w → LosesNames d new
   loses w free told names now long new names_are world = record {
     names = λ s. elim (cases_lt s (length h.names.items)) [
@@ -127,7 +141,7 @@ module _ (h : Environment) (t : IsTied h) (whole : IsWhole h.world) (name : Plac
   neither false x = refl
 
   -- where the world is as before, so are the names and the dates
-  as-named : (w : World Val) (free : List Bool) → AreFreeSo h free → (names : Vec (Option ℕ)) → AreForgotten h w free names → w ≡ h.world →
+  pub as-named : (w : World Val) (free : List Bool) → AreFreeSo h free → (names : Vec (Option ℕ)) → AreForgotten h w free names → w ≡ h.world →
       names.items ≡ h.names.items
   as-named w free told names now same =
       ext_get_or None names.items h.names.items now.1 (λ s lt.
@@ -136,18 +150,6 @@ module _ (h : Environment) (t : IsTied h) (whole : IsWhole h.world) (name : Plac
       ∙ ap (λ (b : Bool). if is_some (standing_at w s) && b then None else slice_index_or h.names.items s None)
       (told s lt ∙ ap (λ (u : World Val). not (is_some (standing_at u s))) (sym same))
       ∙ neither (is_some (standing_at w s)) (slice_index_or h.names.items s None)))
-
-  either : (b : Bool) (x y : ℕ) → (if b then (if b then x else y) else x) ≡ x
-  either true x y = refl
-  either false x y = refl
-
-  as-dated : (w : World Val) (dates : Vec ℕ) → AreDatedSo h w dates → w ≡ h.world → dates.items ≡ h.dates.items
-  as-dated w dates now same =
-      ext_get_or 0 dates.items h.dates.items now.1 (λ s lt.
-      now.0 s (omega (arith, lt, now.1))
-      ∙ ap (λ (u : World Val). if is_waiting (standing_at u s) then (if is_waiting (standing_at h.world s) then slice_index h.dates.items s else h.moment)
-      else slice_index h.dates.items s) same
-      ∙ either (is_waiting (standing_at h.world s)) (slice_index h.dates.items s) h.moment)
 
   module _ (q : QueueName) (x : Queue Body) (mine : Some x ≡ slice_index_or h.queues.entries.items q.0 None) (g : GuardName)
       (valid : HasOpen (desk_of h) n g.0) where
@@ -228,12 +230,14 @@ module _ (h : Environment) (t : IsTied h) (whole : IsWhole h.world) (name : Plac
     pub acts-queue_refused : (queues : Vec (Option (Queue Body))) (slots : Vec ℕ) → queues.items ≡ h.queues.entries.items → slots.items ≡ h.slots.items →
         (w : World Val) (why : Refused) (free waited : List Bool) → AreFreeSo h free → AreTold h waited → (names : Vec (Option ℕ)) (dates : Vec ℕ) →
         AreForgotten h w free names → AreDatedNow h w waited dates → QueueIsCopied p h.world es (Err why) w →
-        Does (desk_of h) (At name (call.CloneList (list.Queue q) g)) (reply.Refused why) (record h { world = w; queues = record { entries = queues }; slots = slots; names = names; dates = dates })
+        Does (desk_of h) (At name (call.CloneList (list.Queue q) g)) (reply.Refused why)
+        (record h { world = w; queues = record { entries = queues }; slots = slots; names = names; dates = dates })
     acts-queue_refused queues slots same_queues same_slots w why free waited free_so told names dates forgotten now (inl (none, is_cell, same)) =
         let kept_names : names.items ≡ h.names.items = as-named w free free_so names forgotten same in
-        let kept_dates : dates.items ≡ h.dates.items = as-dated w dates (dated-within h t waited told w dates now) same in
+        let kept_dates : dates.items ≡ h.dates.items = as-dated h t w dates (dated-within h t waited told w dates now) same in
         does d (At name (call.CloneList (list.Queue q) g)) (reply.Refused why)
-        (goes (as-refused (map (option_map oldest_holding) queues.items) (map (option_map newest_holding) queues.items) d.stacks w h.world slots.items names.items
+        (goes (as-refused (map (option_map oldest_holding) queues.items) (map (option_map newest_holding) queues.items) d.stacks w h.world slots.items
+        names.items
         dates.items (ap (map (option_map oldest_holding)) same_queues) (ap (map (option_map newest_holding)) same_queues) refl same same_slots
         ∙ as-before names.items dates.items kept_names kept_dates)
         t.sound t.guards)
@@ -247,7 +251,8 @@ module _ (h : Environment) (t : IsTied h) (whole : IsWhole h.world) (name : Plac
         (record d { world = last; names = names.items; dates = dates.items }) refl refl in
         let makes_so = subst (λ (i : ℕ). MakesQueueOf h.world i first c fs held v) (sym place-is) makes in
         leads h t (At name (call.CloneList (list.Queue q) g)) (reply.Refused why) refl
-        (as-refused (map (option_map oldest_holding) queues.items) (map (option_map newest_holding) queues.items) d.stacks w last slots.items names.items dates.items
+        (as-refused (map (option_map oldest_holding) queues.items) (map (option_map newest_holding) queues.items) d.stacks w last slots.items names.items
+        dates.items
         (ap (map (option_map oldest_holding)) same_queues) (ap (map (option_map newest_holding)) same_queues) refl closed same_slots)
         (queue-refused d t.sound whole p live first numbers c fs held v makes (both-long h) line names.items dates.items lost
         (dated-within h t waited told last dates (subst (λ (u : World Val). AreDatedNow h u waited dates) closed now))) (
@@ -335,10 +340,11 @@ module _ (h : Environment) (t : IsTied h) (whole : IsWhole h.world) (name : Plac
     pub acts-stack_refused : (stacks : Vec (Option (Stack Body))) (slots : Vec ℕ) → stacks.items ≡ h.stacks.entries.items → slots.items ≡ h.slots.items →
         (w : World Val) (why : Refused) (free waited : List Bool) → AreFreeSo h free → AreTold h waited → (names : Vec (Option ℕ)) (dates : Vec ℕ) →
         AreForgotten h w free names → AreDatedNow h w waited dates → StackIsCopied p h.world fills (Err why) w →
-        Does (desk_of h) (At name (call.CloneList (list.Stack s) g)) (reply.Refused why) (record h { world = w; stacks = record { entries = stacks }; slots = slots; names = names; dates = dates })
+        Does (desk_of h) (At name (call.CloneList (list.Stack s) g)) (reply.Refused why)
+        (record h { world = w; stacks = record { entries = stacks }; slots = slots; names = names; dates = dates })
     acts-stack_refused stacks slots same_stacks same_slots w why free waited free_so told names dates forgotten now (inl (none, is_cell, same)) =
         let kept_names : names.items ≡ h.names.items = as-named w free free_so names forgotten same in
-        let kept_dates : dates.items ≡ h.dates.items = as-dated w dates (dated-within h t waited told w dates now) same in
+        let kept_dates : dates.items ≡ h.dates.items = as-dated h t w dates (dated-within h t waited told w dates now) same in
         does d (At name (call.CloneList (list.Stack s) g)) (reply.Refused why)
         (goes (as-refused d.queues d.newest (map (option_map stack_holding) stacks.items) w h.world slots.items names.items dates.items
         refl refl (ap (map (option_map stack_holding)) same_stacks) same same_slots

@@ -30,8 +30,10 @@ use Rattle.sdd_space.proofs.Whole.{one_where}
 use Rattle.sdd_world.specs.Closing.{AllGo, cell_held, held_by}
 use Rattle.sdd_world.proofs.AllGo.{all-go}
 use Rattle.sdd_world.proofs.Sweeping.{all-uncounted}
-use Rattle.sdd_script_model.specs.Val.{Val, body_of, owner_in, link_of, link_holding, holdings_of}
-use Rattle.sdd_script_model.specs.ScriptState.{ScriptState, OpenSince, IsListCell, IsSecondCell, holding_at, shared_cell, opening_at, place_in, slot_at, slot_of, cell_of, collector_of, name_at, in_world, without_owner}
+use Rattle.sdd_script_model.specs.Val.{Val, body_of, owner_in, link_of, link_holding, holdings_of, storage_in}
+use Rattle.sdd_bag.specs.Storages.{StorageName}
+use Rattle.sdd_script_model.specs.Bags.{AreBags, IsStored, is_own_cell, is_stack_cell}
+use Rattle.sdd_script_model.specs.ScriptState.{NumberBag, ScriptState, OpenSince, IsListCell, IsSecondCell, bag_at, holding_at, shared_cell, opening_at, place_in, slot_at, slot_of, cell_of, collector_of, name_at, in_world, without_owner}
 use Rattle.sdd_script_model.specs.Shown.{number_in}
 use Rattle.sdd_script_model.specs.Sound.{IsSound, SlotsHaveNames, NamesAreAtHome, has_right, is_of, named, named_owners, owns, contained}
 use Rattle.sdd_script_model.specs.Script.{Acts, HasOpen, Meets}
@@ -50,7 +52,8 @@ use Rattle.sdd_script_text.specs.declared.call.Action.TheVariants as call
 use Rattle.sdd_script_text.specs.declared.answer.Reply.{Reply}
 use Rattle.sdd_script_text.specs.declared.answer.Reply.TheVariants as reply
 use Rattle.sdd_script_model.proofs.Entry.{at-same, as-each, inside, set-either, spent_twice}
-use Rattle.sdd_script_model.proofs.Stocked.{out-named, stocked-as, slots-cell_closed, slots-given, slots-same, slots-set}
+use Rattle.sdd_script_model.proofs.Storing.{owned-cell, spare-as}
+use Rattle.sdd_script_model.proofs.Stocked.{KeepsStored, out-named, stocked-as, slots-cell_closed, slots-given, slots-same, slots-set}
 use Rattle.sdd_script_model.proofs.SmallSteps.{keeps-closed, keeps-given}
 use Rattle.sdd_script_model.proofs.Attending.{KeepsGuards, attended-same, placed-still}
 use Rattle.sdd_script_model.proofs.Chains.{are-own, at_home-spent}
@@ -58,7 +61,8 @@ use Rattle.sdd_script_model.proofs.JobDates.{job_dates-shut}
 use Rattle.sdd_script_model.proofs.Counting.{accounts, cell-spent, collector-spent, linked, out-there, owned-out, owner-spent, some-holding}
 use Rattle.sdd_interpreter.proofs.Collectors.{collectors-spent, number-is}
 use Rattle.sdd_script_model.proofs.Layers.{layered-less}
-use Rattle.sdd_script_model.proofs.Links.{less-shed}
+use Rattle.sdd_script_model.proofs.Links.{less-same, less-shed}
+use Rattle.sdd_script_model.proofs.Listed.{has-stored}
 use Rattle.sdd_script_model.proofs.ListChanges.{has-freed}
 use Rattle.sdd_script_model.specs.Listed.{HasLists}
 
@@ -102,6 +106,17 @@ module _ (w : World Val) where
   pub lets-closed : (p c : ℕ) → LetsGo w (cell_closed w p c)
   lets-closed p c = keeps-closed (LetsGo w) lets-retired lets-cell lets-shared w p c lets-start
 
+-- ---- there is no bag any more
+
+pub no-bag : {X : Type 0} (bags : List (Option NumberBag)) → ((b : ℕ) → bag_at bags b ≡ None) → (n : ℕ) (b : NumberBag) → bag_at bags n ≡ Some b → X
+no-bag bags none n b is = absurd (let never : None ≡ Some b = sym (none n) ∙ is in cc)
+
+pub no-stored : {X : Type 0} (bags : List (Option NumberBag)) → ((b : ℕ) → bag_at bags b ≡ None) → (w : World Val) (k : ℕ) → IsStored bags w k → X
+no-stored bags none w k x = no-bag bags none x.storages.name x.storages.bag x.storages.is
+
+pub no-bags : (d : ScriptState) → ((b : ℕ) → bag_at d.bags b ≡ None) → AreBags d
+no-bags d none n b is = no-bag d.bags none n b is
+
 -- ---- no guard is open
 
 module _ (d : ScriptState) (s : IsSound d) (shut : (g : ℕ) → opening_at d.guards g ≡ None) where
@@ -115,13 +130,17 @@ module _ (d : ScriptState) (s : IsSound d) (shut : (g : ℕ) → opening_at d.gu
   pub unguarded : AnyGuardOpen d.world → ⊥
   unguarded (p, x, lt, here, o) = all-shut p (subst (λ y. IsTrue (is_open y)) (sym (get_or_default d.world.time.places p nobody x lt ∙ here)) o)
 
+module _ (d : ScriptState) (s : IsSound d) (shut : (g : ℕ) → opening_at d.guards g ≡ None) (none : (b : ℕ) → bag_at d.bags b ≡ None) where
+  keeps-none : (new : ScriptState) → KeepsStored d new
+  keeps-none new k x = no-stored d.bags none d.world k x
+
   -- what lets go of something is sound after it, where these parts are
   module _ (new : ScriptState) (l : LetsGo d.world new.world) (moment : new.moment ≡ d.moment) (places : new.places ≡ d.places) (guards : new.guards ≡ d.guards)
       (slots : new.slots ≡ d.slots) (dates : new.dates ≡ d.dates) (cells : length new.cells ≡ length d.cells)
-      (queues : length new.queues ≡ length d.queues) (stacks : length new.stacks ≡ length d.stacks) (deferred : new.deferred ≡ d.deferred)
-      (jobs : new.jobs ≡ d.jobs) (job_dates : new.job_dates ≡ d.job_dates) where
+      (queues : length new.queues ≡ length d.queues) (stacks : length new.stacks ≡ length d.stacks) (bags : new.bags ≡ d.bags)
+      (deferred : new.deferred ≡ d.deferred) (jobs : new.jobs ≡ d.jobs) (job_dates : new.job_dates ≡ d.job_dates) where
     still-shut : (p : ℕ) → IsTrue (is_open (place_at new.world p)) → ⊥
-    still-shut p o = omega (arith, ltb-true 0 (place_at new.world p).guards o, l.guards p, no-guards p)
+    still-shut p o = omega (arith, ltb-true 0 (place_at new.world p).guards o, l.guards p, no-guards d s shut p)
 
     still-guards : KeepsGuards d.world new.world
     still-guards = record { phases = l.phases; places = l.places; guards = l.guards }
@@ -129,17 +148,21 @@ module _ (d : ScriptState) (s : IsSound d) (shut : (g : ℕ) → opening_at d.gu
     abbrev left : Claim → ℕ
     left u = named new u + contained new u
 
-    pub sound-let : HasLists (IsListCell new) (IsSecondCell new) d.world → SlotsHaveNames new → IsLedger holdings_of left new.world →
+    pub sound-let : HasLists (IsListCell new) (IsSecondCell new) (IsStored d.bags d.world) d.world → SlotsHaveNames new → IsLedger holdings_of left new.world →
         Sheds d.world new.world → new.world.values ≡ d.world.values → NamesAreAtHome new → new.names ≡ d.names → IsSound new
     sound-let lists stocked ledger shed values home names = record {
       stocked = stocked;
       ledger = ledger;
-      lists = has-freed (IsListCell new) (IsSecondCell new) d.world new.world left ledger
-          (are-own new new.world left left ledger (λ u. omega arith) (λ u. omega arith)) lists values (λ i. shed.cells i);
+      lists = has-freed (IsListCell new) (IsSecondCell new) (IsStored new.bags new.world) d.world new.world left ledger
+          (are-own new new.world left left ledger (λ u. omega arith) (λ u. omega arith))
+          (has-stored (keeps-none new) lists) values (λ i. shed.cells i);
+      bags = no-bags new (λ b. ap (λ bs. bag_at bs b) bags ∙ none b);
+      spare = spare-as d.world new.world (less-same d.world new.world values)
+          (λ c x. elim (shed.cells c) [ inl same ↦ ap held_in same | inr gone ↦ ap held_in gone ∙ sym (s.spare c x) ]) s.spare;
       layered = layered-less d new s.layered (less-shed shed) names;
       home = home;
       attended = attended-same d new s.attended still-guards places guards (omega (arith, moment))
-          (placed-still d new s.attended still-guards (ap (λ (xs : List ℕ). length xs) slots) cells queues stacks);
+          (placed-still d new s.attended still-guards (ap (λ (xs : List ℕ). length xs) slots) cells queues stacks (ap length bags));
       kept = λ n k x e o waits since. absurd (still-shut x.place o);
       early = rw (dates, moment) s.early;
       made = omega (
@@ -173,9 +196,9 @@ module _ (d : ScriptState) (s : IsSound d) (shut : (g : ℕ) → opening_at d.gu
     pub sound-spent_owner : IsSound without
     sound-spent_owner =
         let l = lets-given d.world p k stands is in
-        sound-let without l refl refl refl refl refl refl refl refl refl refl refl s.lists
-        (stocked-as d without s.stocked refl refl refl (slots-given d.world p k stands is)) ledger-spent_owner (sheds-owner_given d.world p k stands is)
-        (given-same d.world p k stands is).0
+        sound-let without l refl refl refl refl refl refl refl refl refl refl refl refl s.lists
+        (stocked-as d without s.stocked refl refl refl (slots-given d.world p k stands is) (keeps-none without)) ledger-spent_owner
+        (sheds-owner_given d.world p k stands is) (given-same d.world p k stands is).0
         (record {
           owners = rw l.home (at_home-spent d.world.home d.owners o s.home.owners);
           cells = rw l.home s.home.cells;
@@ -202,8 +225,8 @@ module _ (d : ScriptState) (s : IsSound d) (shut : (g : ℕ) → opening_at d.gu
     sound-spent_cell =
         let l = lets-closed d.world p c in
         let e = without_the_cell in
-        sound-let e l refl refl refl refl refl (length-set d.cells n None) refl refl refl refl refl s.lists
-        (stocked-as d e s.stocked refl refl refl (slots-cell_closed d.world p c)) ledger-spent_cell (sheds-cell_closed d.world p c)
+        sound-let e l refl refl refl refl refl (length-set d.cells n None) refl refl refl refl refl refl s.lists
+        (stocked-as d e s.stocked refl refl refl (slots-cell_closed d.world p c) (keeps-none e)) ledger-spent_cell (sheds-cell_closed d.world p c)
         (spilled-same (record d.world { cells = without_entry d.world.cells c }) p (held_in (entry_at d.world.cells c))).0
         (record {
           owners = rw l.home s.home.owners;
@@ -235,8 +258,8 @@ module _ (d : ScriptState) (s : IsSound d) (shut : (g : ℕ) → opening_at d.gu
     pub sound-spent_collector : IsSound without_the_collector
     sound-spent_collector =
         let e = without_the_collector in
-        sound-let e (lets-cell d.world d.world c (lets-start d.world)) refl refl refl refl refl refl refl refl refl refl refl s.lists
-        (stocked-as d e s.stocked refl refl refl (slots-same d.world e.world refl refl refl)) ledger-spent_collector (sheds-cell d.world c) refl
+        sound-let e (lets-cell d.world d.world c (lets-start d.world)) refl refl refl refl refl refl refl refl refl refl refl refl s.lists
+        (stocked-as d e s.stocked refl refl refl (slots-same d.world e.world refl refl refl) (keeps-none e)) ledger-spent_collector (sheds-cell d.world c) refl
         (record {
           owners = s.home.owners;
           cells = s.home.cells;
@@ -262,8 +285,8 @@ module _ (d : ScriptState) (s : IsSound d) (shut : (g : ℕ) → opening_at d.gu
     pub sound-left : IsSound with_it_left
     sound-left =
         let e = with_it_left in
-        sound-let e lets-left refl refl refl refl refl refl refl refl refl refl refl s.lists
-        (stocked-as d e s.stocked refl refl refl (slots-set d.world e.world k Retired (ap is_some raw) (λ was. refl) refl refl refl)) ledger-left
+        sound-let e lets-left refl refl refl refl refl refl refl refl refl refl refl refl s.lists
+        (stocked-as d e s.stocked refl refl refl (slots-set d.world e.world k Retired (ap is_some raw) (λ was. refl) refl refl refl) (keeps-none e)) ledger-left
         (sheds-same d.world e.world refl refl) refl
         (record {
           owners = s.home.owners;
@@ -293,10 +316,11 @@ module _ (w : World Val) (p k : ℕ) where
       cc
 
 -- where no item with a name is out as raw any more, none is: one without a name waits
-pub none-raw : (d : ScriptState) → IsSound d → (w : World Val) → ((k : ℕ) → standing_at w k ≡ Some Raw → standing_at d.world k ≡ Some Raw) →
-    ((i : ℕ) → i < length d.slots → standing_at w (slot_at d i) ≢ Some Raw) → (k : ℕ) → standing_at w k ≢ Some Raw
-none-raw d s w was none k raw =
-    let named = out-named d s.stocked k (ap is_out (was k raw)) in
+pub none-raw : (d : ScriptState) → IsSound d → ((b : ℕ) → bag_at d.bags b ≡ None) → (w : World Val) →
+    ((k : ℕ) → standing_at w k ≡ Some Raw → standing_at d.world k ≡ Some Raw) → ((i : ℕ) → i < length d.slots → standing_at w (slot_at d i) ≢ Some Raw) →
+    (k : ℕ) → standing_at w k ≢ Some Raw
+none-raw d s no_bags w was none k raw =
+    let named = out-named d s.stocked k (ap is_out (was k raw)) (no-stored d.bags no_bags d.world k) in
     none named.name named.given (ap (λ (j : ℕ). standing_at w j) named.slot ∙ raw)
 
 -- ---- nothing is left
@@ -308,10 +332,15 @@ link-held v = by (owner_in (body_of v)) where
   by [] = refl
   by (h ∷ hs) = by hs
 
+-- a storage holds its own cell first
+own-held : (v : Val) (st : StorageName) → storage_in (body_of v) ≡ Some st → cell_held (slice_get (holdings_of v) 0) ≡ Some st.cell
+own-held v st is =
+    ap (λ (hs : List OwnerOrCell). cell_held (slice_get (hs ++ link_holding v ∷ []) 0)) (owned-cell (body_of v) st is)
+
 module _ (d : ScriptState) (s : IsSound d) (whole : IsWhole d.world) (owners : (o : ℕ) → holding_at d.owners o ≡ None)
     (cells : (c : ℕ) → holding_at d.cells c ≡ None) (collectors : (k : ℕ) → holding_at d.collectors k ≡ None)
     (queues : (n : ℕ) → holding_at d.queues n ≡ None) (newest : (n : ℕ) → holding_at d.newest n ≡ None)
-    (stacks : (n : ℕ) → holding_at d.stacks n ≡ None) where
+    (stacks : (n : ℕ) → holding_at d.stacks n ≡ None) (none : (n : ℕ) → bag_at d.bags n ≡ None) where
   no-owners : IsAccounted holdings_of (λ _. 0) d.world
   no-owners = accounted-as holdings_of (named_owners d) (λ _. 0) d.world
       (λ k. sym (all-uncounted (owns k) d.owners (λ o. ap (owns k) (owners o)))) (accounts d s)
@@ -325,6 +354,8 @@ module _ (d : ScriptState) (s : IsSound d) (whole : IsWhole d.world) (owners : (
         all-uncounted (has_right c) d.queues (λ n. ap (has_right c) (queues n)),
         all-uncounted (has_right c) d.newest (λ n. ap (has_right c) (newest n)),
         all-uncounted (has_right c) d.stacks (λ n. ap (has_right c) (stacks n)),
+        all-uncounted (is_own_cell c) d.bags (λ n. ap (is_own_cell c) (none n)),
+        all-uncounted (is_stack_cell c) d.bags (λ n. ap (is_stack_cell c) (none n)),
       )
 
   -- there is no list any more
@@ -333,25 +364,37 @@ module _ (d : ScriptState) (s : IsSound d) (whole : IsWhole d.world) (owners : (
   no-list c (inr (n, is)) = let never : None ≡ Some c = sym (ap shared_cell (stacks n)) ∙ is in cc
 
   bare : (k : ℕ) (v : Val) → value_at d.world k ≡ Some v → held_in (entry_at d.world.cells (link_of v)) ≡ None
-  bare k v there = elim (s.lists.linked k v there) [ inl none ↦ none | inr at ↦ absurd (no-list at.cell at.begun) ]
+  bare k v there = elim (s.lists.linked k v there (no-stored d.bags none d.world k)) [ inl none ↦ none | inr at ↦ absurd (no-list at.cell at.begun) ]
 
   idle : (c : ℕ) → held_in (entry_at d.world.cells c) ≡ None
   idle c = by (entry_at d.world.cells c) refl where
     by : (e : Option CellContents) → entry_at d.world.cells c ≡ e → held_in e ≡ None
     by None is = refl
     by (Some cell) is =
-        let at = linked d s c (no-rights c) (ap is_some is) in sym (ap held_in is) ∙ ap (λ b. held_in (entry_at d.world.cells b)) (sym at.3) ∙ bare at.0 at.1 at.2
+        sym (ap held_in is) ∙ elim (linked d s c (no-rights c) (ap is_some is)) [
+          | inl at ↦ ap (λ b. held_in (entry_at d.world.cells b)) (sym at.3) ∙ bare at.0 at.1 at.2
+          | inr own ↦ s.spare c own
+        ]
+
+  -- a cell that is taken is a value's
+  stands : (c : ℕ) → IsSome (entry_at d.world.cells c) → (j : ℕ) × (i : ℕ) × (cell_held (held_by holdings_of (value_at d.world j) i) ≡ Some c)
+  stands c some = elim (linked d s c (no-rights c) some) [
+    | inl at ↦ (
+      at.0,
+      length (owner_in (body_of at.1)),
+      ap (λ (v : Option Val). cell_held (held_by holdings_of v (length (owner_in (body_of at.1))))) at.2 ∙ link-held at.1 ∙ ap Some at.3,
+    )
+    | inr own ↦ (
+      own.slot,
+      0,
+      ap (λ (v : Option Val). cell_held (held_by holdings_of v 0)) own.there ∙ own-held own.value own.storage own.is ∙ ap Some own.cell,
+    )
+  ]
 
   -- all that is out goes with what waits, where no item is out as raw
   pub goes-all : ((k : ℕ) → standing_at d.world k ≢ Some Raw) → AllGo holdings_of d.world
   goes-all none_raw =
-      all-go holdings_of d.world whole.filled (λ k. number_in (name_at d k)) no-owners idle none_raw s.layered
-      (λ c some. let at = linked d s c (no-rights c) some in (
-        at.0,
-        length (owner_in (body_of at.1)),
-        ap (λ (v : Option Val). cell_held (held_by holdings_of v (length (owner_in (body_of at.1))))) at.2
-            ∙ link-held at.1 ∙ ap Some at.3,
-      ))
+      all-go holdings_of d.world whole.filled (λ k. number_in (name_at d k)) no-owners idle none_raw s.layered stands
 
 -- where nothing stands for a name, nothing is in hand
 pub none-in : {X Y : Type 0} (f : Option X → Option Y) → ((x : X) → f (Some x) ≡ f None → ⊥) → (xs : List (Option X)) →
@@ -365,10 +408,11 @@ none-in {X} {Y} f some xs none k = by (slice_index_or xs k None) (sym (get_or-ma
 
 -- a name of an owner: its item was made, so that some place is not free
 module _ (d : ScriptState) (s : IsSound d) where
-  pub placed-owner : (o : ℕ) (h : OwnerOrCell) (k : ℕ) → holding_at d.owners o ≡ Some h → slot_of (Some h) ≡ Some k → (p : ℕ) × IsSome (phase_at d.world.time p)
-  placed-owner o h k there slot =
+  pub placed-owner : ((b : ℕ) → bag_at d.bags b ≡ None) → (o : ℕ) (h : OwnerOrCell) (k : ℕ) → holding_at d.owners o ≡ Some h →
+      slot_of (Some h) ≡ Some k → (p : ℕ) × IsSome (phase_at d.world.time p)
+  placed-owner none o h k there slot =
       let out = owned-out d (accounts d s) o h k there slot in
-      s.attended.placed (omega (arith, (out-named d s.stocked k out).given))
+      s.attended.placed (omega (arith, (out-named d s.stocked k out (no-stored d.bags none d.world k)).given))
 
   pub placed-cell : (n : ℕ) → IsSome (holding_at d.cells n) → (p : ℕ) × IsSome (phase_at d.world.time p)
   placed-cell n some = s.attended.placed (omega (arith, inside d.cells n some))
@@ -383,9 +427,9 @@ module _ (h : Environment) (t : IsTied h) where
   pub cell-named : (n : ℕ) (x : AnyCell) → slice_index_or h.cells.entries.items n None ≡ Some x → holding_at d.cells n ≡ Some (cell_holding x)
   cell-named n x e = get_or-map (option_map cell_holding) h.cells.entries.items n None ∙ ap (option_map cell_holding) e
 
-  pub owner-placed : (o k : ℕ) (x : AnyOwner) → slice_index_or h.owners.entries.items o None ≡ Some x → slot_of (Some (owner_holding x)) ≡ Some k →
-      (p : ℕ) × IsSome (phase_at h.world.time p)
-  owner-placed o k x e slot = placed-owner d t.sound o (owner_holding x) k (owner-named o x e) slot
+  pub owner-placed : ((b : ℕ) → bag_at d.bags b ≡ None) → (o k : ℕ) (x : AnyOwner) → slice_index_or h.owners.entries.items o None ≡ Some x →
+      slot_of (Some (owner_holding x)) ≡ Some k → (p : ℕ) × IsSome (phase_at h.world.time p)
+  owner-placed none o k x e slot = placed-owner d t.sound none o (owner_holding x) k (owner-named o x e) slot
 
   pub cell-placed : (n : ℕ) (x : AnyCell) → slice_index_or h.cells.entries.items n None ≡ Some x → (p : ℕ) × IsSome (phase_at h.world.time p)
   cell-placed n x e = placed-cell d t.sound n (ap is_some (cell-named n x e))
@@ -404,7 +448,7 @@ module _ (h : Environment) (t : IsTied h) where
       map (option_map cell_holding) cells.items ≡ slice_set d.cells n None
   cells-spent cells n taken = ap (map (option_map cell_holding)) taken ∙ map-set (option_map cell_holding) h.cells.entries.items n None
 
-  module _ (shut : (g : ℕ) → opening_at d.guards g ≡ None) where
+  module _ (shut : (g : ℕ) → opening_at d.guards g ≡ None) (none : (b : ℕ) → bag_at d.bags b ≡ None) where
     none-held : (g : ℕ) → slice_index_or h.guards.entries.items g None ≡ None
     none-held = none-in guarding (λ x e. cc) h.guards.entries.items shut
 
@@ -421,7 +465,7 @@ module _ (h : Environment) (t : IsTied h) where
       pub tied-spent_owner : IsTied (record h { world = w; owners = record { entries = owners } })
       tied-spent_owner = record {
         sound = subst (λ (e : ScriptState). IsSound e) (sym owner-gone)
-            (sound-spent_owner d t.sound shut p o k (owner_holding x) (owner-named o x mine) slot stands is);
+            (sound-spent_owner d t.sound shut none p o k (owner_holding x) (owner-named o x mine) slot stands is);
         guards = λ g. rw (none-held g) tt;
       }
 
@@ -430,6 +474,7 @@ module _ (h : Environment) (t : IsTied h) where
         owners = owners-spent owners o taken;
         cells = refl;
         guards = refl;
+        bags = refl;
         tally = ap (λ (u : World Val). u.tally) world ∙ (lets-given h.world p k stands is).tally;
       }
 
@@ -445,7 +490,8 @@ module _ (h : Environment) (t : IsTied h) where
 
       pub tied-spent_cell : IsTied (record h { world = w; cells = record { entries = cells } })
       tied-spent_cell = record {
-        sound = subst (λ (e : ScriptState). IsSound e) (sym cell-gone) (sound-spent_cell d t.sound shut p n c (ap cell_of (cell-named n x mine) ∙ number));
+        sound = subst (λ (e : ScriptState). IsSound e) (sym cell-gone)
+            (sound-spent_cell d t.sound shut none p n c (ap cell_of (cell-named n x mine) ∙ number));
         guards = λ g. rw (none-held g) tt;
       }
 
@@ -455,6 +501,7 @@ module _ (h : Environment) (t : IsTied h) where
         owners = refl;
         collectors = refl;
         guards = refl;
+        bags = refl;
         tally = ap (λ (u : World Val). u.tally) world ∙ (lets-closed h.world p c).tally;
       }
 
@@ -472,7 +519,7 @@ module _ (h : Environment) (t : IsTied h) where
       pub tied-spent_collector : IsTied (record h { world = w; collectors = record { entries = collectors } })
       tied-spent_collector = record {
         sound = subst (λ (e : ScriptState). IsSound e) (sym collector-gone)
-            (sound-spent_collector d t.sound shut n (collector.collector_of x) (number-is h t n x mine) (ap held_in null.1 ∙ null.2));
+            (sound-spent_collector d t.sound shut none n (collector.collector_of x) (number-is h t n x mine) (ap held_in null.1 ∙ null.2));
         guards = λ g. rw (none-held g) tt;
       }
 
@@ -482,6 +529,7 @@ module _ (h : Environment) (t : IsTied h) where
         owners = refl;
         cells = refl;
         guards = refl;
+        bags = refl;
         tally = ap (λ (u : World Val). u.tally) world;
       }
 
@@ -492,7 +540,7 @@ module _ (h : Environment) (t : IsTied h) where
 
       pub tied-left : IsTied (record h { world = w })
       tied-left = record {
-        sound = subst (λ (e : ScriptState). IsSound e) (sym item-left) (sound-left d t.sound shut p k raw);
+        sound = subst (λ (e : ScriptState). IsSound e) (sym item-left) (sound-left d t.sound shut none p k raw);
         guards = λ g. rw (none-held g) tt;
       }
 
@@ -501,11 +549,12 @@ module _ (h : Environment) (t : IsTied h) where
         gone = not-raw-there h.world p k raw;
         others = was-raw h.world p k;
         rest = refl;
-        tally = (lets-left d t.sound shut p k raw).tally;
+        tally = (lets-left d t.sound shut none p k raw).tally;
       })
 
-  pub raw-placed : (k : ℕ) → standing_at h.world k ≡ Some Raw → (p : ℕ) × IsSome (phase_at h.world.time p)
-  raw-placed k raw = t.sound.attended.placed (omega (arith, (out-named d t.sound.stocked k (ap is_out raw)).given))
+  pub raw-placed : ((b : ℕ) → bag_at d.bags b ≡ None) → (k : ℕ) → standing_at h.world k ≡ Some Raw → (p : ℕ) × IsSome (phase_at h.world.time p)
+  raw-placed none k raw =
+      t.sound.attended.placed (omega (arith, (out-named d t.sound.stocked k (ap is_out raw) (no-stored d.bags none d.world k)).given))
 
   pub leaves-nothing : (k : ℕ) → standing_at h.world k ≢ Some Raw → LeavesRaw k d d
   leaves-nothing k other = record { gone = other; others = λ j o. o; rest = refl; tally = refl }

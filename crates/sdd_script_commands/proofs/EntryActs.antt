@@ -37,7 +37,7 @@ use Rattle.sdd_script_model.specs.ScriptState.{ScriptState, in_world, opening_at
 use Rattle.sdd_script_model.specs.Stacks.{RefusesEntry}
 use Rattle.sdd_script_model.specs.Val.{Val, body_of, link_of}
 use Rattle.sdd_script_model.proofs.Listed.{same-list}
-use Rattle.sdd_script_model.proofs.Chains.{LeavesSound}
+use Rattle.sdd_script_model.proofs.Chains.{LeavesSound, left-apart, list-apart-from, starts}
 use Rattle.sdd_script_model.proofs.QueueGoing.{queue_drained-leaves, taken-home, taken-leaves, taken-number, taken-value}
 use Rattle.sdd_script_model.proofs.QueuePushing.{enqueued-leaves}
 use Rattle.sdd_script_model.proofs.StackGoing.{IsDatedWithin, drained-leaves, popped-home, popped-leaves, popped-number, popped-value}
@@ -57,9 +57,10 @@ use Rattle.sdd_interpreter.proofs.Acts.{Does, adds-owner, in_range, leads, owner
 use Rattle.sdd_interpreter.proofs.Missing.{invalid}
 use Rattle.sdd_interpreter.proofs.Shown.{begun-list, first-number}
 use Rattle.sdd_script_commands.specs.ItemLines.{popping, pushing}
-use Rattle.sdd_script_commands.proofs.ContainerActs.{Names, entries-of, is-list}
+use Rattle.sdd_script_commands.proofs.ContainerActs.{Names, entries-of, is-list, list-begins}
 use Rattle.sdd_script_commands.proofs.QueueActs.{queue-entries}
 use Rattle.sdd_script_commands.proofs.StackActs.{AreDatedNow, AreTold, dated-within, stack-entries}
+use Rattle.sdd_core.specs.declared.tag.Tag.TheVariants.{None as no_tag}
 
 -- ---- the lines, with a number that they ask for or without
 
@@ -427,7 +428,12 @@ module _ (h : Environment) (t : IsTied h) where
             subst (λ (k : ℕ). IsSharedBy count (standing_at h.world k)) (sym slot) did.2.4.1 in
             let now = with_owner (in_world (desk_of h) (with_standing h.world (slot_of owner) (standing.Shared (count + 1))))
             (holding.shared (slot_of owner) h.world.home.slots) in
-            adds-owner h t whole name a there w owners owner count pushed did.1 stands world (At name (popping l m g)) (reply.KeptEntry o number)
+            let start = starts (desk_of h) t.sound whole in
+            let list = begun-list h.world x es second (entries-of h t l x mine).has in
+            let off = left-apart start (list_cell x) (slot_of owner) no_tag es (list-apart-from start (list_cell x) (list-begins h t l x mine)) list kept rest
+            first
+            (sym slot) in
+            adds-owner h t whole name a there w owners owner count pushed did.1 stands world off (At name (popping l m g)) (reply.KeptEntry o number)
             (stays-meets (desk_of h) name l g number m o now (list_cell x) es kept rest both-valid
             (λ same. did.0 (so-asked (first_value (left es)) kept.value number m (ap first_value first) told same))
             (entries-of h t l x mine).is first told

@@ -50,7 +50,7 @@ use Rattle.sdd_interpreter.specs.Environment.{attending, named_owner, Fills, Fit
 use Rattle.sdd_interpreter.specs.Owners.{owner_holding, cell_holding, cell_kind, cell_number, filling_holding, held_as}
 use Rattle.sdd_interpreter.specs.Interpreter.{desk_of, IsTied}
 use Rattle.sdd_script_model.specs.Held.{holding_first}
-use Rattle.sdd_script_model.proofs.CellGoing.{put-fits, held-named, swapped-leaves, taken-leaves, copied-leaves}
+use Rattle.sdd_script_model.proofs.CellGoing.{put-fits, held-named, swapped-leaves, taken-leaves, copied-leaves, held-apart}
 use Rattle.sdd_script_model.proofs.Entry.{at-default, inside}
 use Rattle.sdd_interpreter.proofs.Missing.{points, points-not}
 use Rattle.sdd_script_commands.proofs.CellActs.{numbered, slot-of-put}
@@ -201,7 +201,8 @@ module _ (h : Environment) (t : IsTied h) (whole : IsWhole h.world) where
           w ≡ with_standing h.world (shared.slot_of y) (standing.Shared (count + 1)) → r.0 ≡ length h.owners.entries.items →
           Does d (At name (call.Share c g)) (reply.Owner r) (record h { world = w; owners = record { entries = owners } })
       acts-shared_out w owners r y count pushed home out stands few world named =
-          adds-owner h t whole name a there w owners y count pushed home stands world (At name (call.Share c g)) (reply.Owner r) (
+          adds-owner h t whole name a there w owners y count pushed home stands world
+          (held-apart d t.sound c.0 (shared.cell_of x) (shared.slot_of y) held is out) (At name (call.Share c g)) (reply.Owner r) (
             (valid, is-shared h c.0 x mine),
             (
               shared.cell_of x,
@@ -321,7 +322,8 @@ module _ (h : Environment) (t : IsTied h) (whole : IsWhole h.world) where
               (subst (λ z. IsGiven between z (map (option_map owner_holding) owners.items) r) out given))
 
           -- by any call
-          leads-swapped : (line : Call) (given : Reply) → Meets d line given after_swapped → Does d line given (record h { world = w; owners = record { entries = owners } })
+          leads-swapped : (line : Call) (given : Reply) → Meets d line given after_swapped →
+              Does d line given (record h { world = w; owners = record { entries = owners } })
           leads-swapped line given meets =
               let told = all.0 in
               let into : w ≡ with_cell h.world (cell_number x) (record { held = slot_put d y; tag = tag }) =

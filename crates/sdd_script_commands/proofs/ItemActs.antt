@@ -1,5 +1,5 @@
 -- What the making of an item leaves in hand, and what an item shows: it is sound, and it is what the call means
-use Rattle.std.proofs.Common.{◌≡◌, ℕ, ◌+◌, ◌^◌, ◌<◌, List, [], ◌∷◌, ◌++◌, Option, Some, None, is_some, map, length, slice_index_or, slice_set, refl, sym, ap, ◌∙◌, subst}
+use Rattle.std.proofs.Common.{◌≡◌, ℕ, ◌+◌, ◌^◌, ◌<◌, List, [], ◌∷◌, ◌++◌, Option, Some, None, is_some, map, length, slice_index_or, slice_set, refl, sym, ap, ◌∙◌, subst, IsSome}
 use Rattle.std.specs.Option.{option_map}
 use Rattle.std.specs.Global.{Vec}
 use Rattle.std.proofs.lemmas.List.{length-map, length-set, map-set, map_push}
@@ -69,6 +69,7 @@ module _ (h : Environment) (t : IsTied h) (whole : IsWhole h.world) where
     told-meets a (body.Number m) meets = meets
     told-meets a (body.Owned x) meets = meets
     told-meets a (body.Shared x) meets = meets
+    told-meets a (body.Storage x) meets = meets
 
     read-does : (o : OwnerName) (b : Body) → ((k : ℕ) × (slot_of (holding_at d.owners o.0) ≡ Some k) × RepliesValue d k (told_of h.names.items b))
         × (d ≡ d) →
@@ -76,12 +77,14 @@ module _ (h : Environment) (t : IsTied h) (whole : IsWhole h.world) where
     read-does o (body.Number m) does = does
     read-does o (body.Owned x) does = does
     read-does o (body.Shared x) does = does
+    read-does o (body.Storage x) does = does
 
     look-does : (i : ItemName) (g : GuardName) (b : Body) → RepliesValue d (slot_at d i.0) (told_of h.names.items b) × (d ≡ d) →
         script.Does d n (place_of d n) (call.Look i g) (told_of h.names.items b) d
     look-does i g (body.Number m) does = does
     look-does i g (body.Owned x) does = does
     look-does i g (body.Shared x) does = does
+    look-does i g (body.Storage x) does = does
 
     -- what an owner or an item shows
     pub acts-read : (o : OwnerName) (x : AnyOwner) (k : ℕ) (v : Val) → Some x ≡ slice_index_or h.owners.entries.items o.0 None →
@@ -105,10 +108,14 @@ module _ (h : Environment) (t : IsTied h) (whole : IsWhole h.world) where
         IsPutIn d value b × IsThereToPut d value × (map (option_map owner_holding) between ≡ owners_left d.owners value)
     put-is (Number m) b between becomes = (becomes.0, tt, ap (map (option_map owner_holding)) becomes.1)
     put-is (Of o) b between (x, entry, is_body, taken) = (
-      (owner_holding x, stage.named-owner h t whole o.0 x entry, is_body),
+      (owner_holding x, stage.named-owner h t whole o.0 x entry, has-slot x, is_body),
       is-owner x (stage.named-owner h t whole o.0 x entry),
       ap (map (option_map owner_holding)) taken ∙ map-set (option_map owner_holding) h.owners.entries.items o.0 None,
     ) where
+      has-slot : (x : AnyOwner) → IsSome (slot_of (Some (owner_holding x)))
+      has-slot (Sole x) = refl
+      has-slot (Share x) = refl
+
       is-owner : (x : AnyOwner) → holding_at d.owners o.0 ≡ Some (owner_holding x) → script.IsOwnerName d o.0
       is-owner (Sole x) e = ap (λ s. is_some (slot_of s)) e
       is-owner (Share x) e = ap (λ s. is_some (slot_of s)) e

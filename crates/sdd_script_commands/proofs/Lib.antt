@@ -10,11 +10,13 @@ pub mod LinkActs
 pub mod StackActs
 pub mod QueueActs
 pub mod CopyActs
+pub mod BagActs
 pub mod GuardActs
 pub mod Ending
 pub mod ListEnding
 pub mod StackEnding
 pub mod QueueEnding
 pub mod StackLeaving
+pub mod BagEnding
 pub mod ContainerActs
 pub mod EntryActs

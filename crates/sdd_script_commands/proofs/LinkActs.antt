@@ -33,6 +33,8 @@ use Rattle.sdd_interpreter.specs.Interpreter.{desk_of, IsTied}
 use Rattle.sdd_interpreter.proofs.Acts.{Does, does, goes, in_range, is, leads, still}
 use Rattle.sdd_script_commands.specs.ItemLines.{changing}
 use Rattle.sdd_script_commands.proofs.StackActs.{AreDatedNow, AreTold, dated-within}
+use Rattle.sdd_script_model.proofs.Storing.{IsReserved, there-apart}
+use Rattle.sdd_script_model.proofs.Chains.{link-apart-from, starts}
 
 -- no line gives both tags
 no-both : (how : LinkChange) → tag_after how ≢ Both
@@ -75,7 +77,8 @@ module _ (h : Environment) (t : IsTied h) (i : ItemName) (name : PlaceName) (v :
       Does d (At name (changing how i)) (reply.Truth b) (record h { world = w })
   acts-changed whole a there how true w may world =
       leads h t (At name (changing how i)) (reply.Truth true) refl (ap (in_world d) world)
-      (link-leaves d t.sound whole (index_of a.place) (link_of v) cell (in_range h t whole name a there) holds (tag_after how) (slot_at d i.0) v shown refl
+      (link-leaves d t.sound whole (index_of a.place) (link_of v) cell (in_range h t whole name a there) holds (tag_after how) (slot_at d i.0) v
+      (there-apart d t.sound.bags i.0 valid.1.0) shown refl
       (no-both how) (λ same. absurd (let never : true ≡ false = may ∙ ap (may_change how) same ∙ no-deleted how in cc))) (meets how true may)
   acts-changed whole a there how false w may world =
       does d (At name (changing how i)) (reply.Truth false) (goes (ap (in_world d) world) t.sound t.guards)
@@ -85,12 +88,16 @@ module _ (h : Environment) (t : IsTied h) (i : ItemName) (name : PlaceName) (v :
 
 module _ (h : Environment) (t : IsTied h) (whole : IsWhole h.world) (name : PlaceName) (a : NamedParticipant)
     (there : attending (Some a) ≡ opening_at (desk_of h).places name.0) (i : ItemName) (v : Val)
-    (shown : value_at h.world (slot_at (desk_of h) i.0) ≡ Some v) where
+    (shown : value_at h.world (slot_at (desk_of h) i.0) ≡ Some v) (can : CanPointTo (desk_of h) name.0 i.0) where
   abbrev p : ℕ
   p = index_of a.place
 
   pub behind : (u : Tag) × (es : List (Entry Val)) × IsBehind (desk_of h) i.0 (link_of v) u es
-  behind = behind-there (desk_of h) t.sound i.0 v shown
+  behind = behind-there (desk_of h) t.sound i.0 v shown can.0
+
+  -- its link is none of a bag's storages
+  link-off : IsReserved (desk_of h) h.world (link_of v) → ⊥
+  link-off = link-apart-from (starts (desk_of h) t.sound whole) (slot_at (desk_of h) i.0) v shown (there-apart (desk_of h) t.sound.bags i.0 can.0)
 
   abbrev next_one : Option ℕ
   next_one = first_slot (left behind.1)
@@ -98,22 +105,22 @@ module _ (h : Environment) (t : IsTied h) (whole : IsWhole h.world) (name : Plac
   -- its item has a name
   pub next-named : (next : Option ℕ) → next ≡ next_one → IfSome next (λ s. IsSome (slice_index_or h.names.items s None))
   next-named None is = tt
-  next-named (Some s) is = behind-named (desk_of h) t.sound (link_of v) behind.0 behind.1 behind.2.list s (sym is)
+  next-named (Some s) is = behind-named (desk_of h) t.sound (link_of v) behind.0 behind.1 behind.2.list link-off s (sym is)
 
   pub acts-next : (g : GuardName) (waited : List Bool) (w : World Val) (dates : Vec ℕ) (next : Option ℕ) (item : Option ItemName) →
-      HasOpen (desk_of h) name.0 g.0 → CanPointTo (desk_of h) name.0 i.0 → AreTold h waited →
+      HasOpen (desk_of h) name.0 g.0 → AreTold h waited →
       ((u : Tag) (es : List (Entry Val)) → IsList link_of h.world (link_of v) u es →
       (next ≡ first_slot (left es)) × (w ≡ trimmed link_of h.world p (link_of v) u es)) →
       item ≡ option_map (item_in h.names.items) next → AreDatedNow h w waited dates →
       Does (desk_of h) (At name (call.Next i g)) (reply.Pointer item no_tag) (record h { world = w; dates = dates })
-  acts-next g waited w dates next item under can told did seen now =
+  acts-next g waited w dates next item under told did seen now =
       let u : Tag = behind.0 in
       let es : List (Entry Val) = behind.1 in
       let done = did u es behind.2.list in
       let after : World Val = trimmed link_of h.world p (link_of v) u es in
       leads h t (At name (call.Next i g)) (reply.Pointer item no_tag) refl
       (ap (λ (x : World Val). record (in_world (desk_of h) x) { dates = dates.items }) done.1)
-      (next-leaves (desk_of h) t.sound whole p (in_range h t whole name a there) i.0 (link_of v) u es behind.2 dates.items
+      (next-leaves (desk_of h) t.sound whole p (in_range h t whole name a there) i.0 (link_of v) u es behind.2 can.0 dates.items
       (dated-within h t waited told after dates (subst (λ (x : World Val). AreDatedNow h x waited dates) done.1 now))) (
         (under, can),
         (

@@ -1,5 +1,5 @@
 -- How a script lets go of a queue or a stack, where no guard is open: its entries are let go of, at whatever place is there, and its cell is free
-use Rattle.std.proofs.Common.{◌≡◌, ◌≢◌, ◌+◌, ◌-◌, ◌<◌, Bool, ltb-true, inl, inr, ℕ, List, [], ◌∷◌, Option, Some, None, is_some, slice_index_or, slice_set, refl, sym, ap, ◌∙◌, subst, arith}
+use Rattle.std.proofs.Common.{◌≡◌, ◌≢◌, ◌+◌, ◌-◌, ◌<◌, ◌≤◌, Bool, ltb-true, inl, inr, ℕ, List, [], ◌∷◌, Option, Some, None, is_some, slice_index_or, slice_set, refl, sym, ap, ◌∙◌, subst, arith}
 use Rattle.std.specs.Prelude.{◌==◌, IsTrue}
 use Rattle.sdd_core.specs.declared.tag.Tag.TheVariants.{None as no_tag, Second}
 use Rattle.sdd_participants.specs.EpochState.{is_open, phase_at}
@@ -23,15 +23,16 @@ use Rattle.sdd_space.specs.OwnerCounts.{holds_slot, is_of as is_of_slot}
 use Rattle.sdd_space.specs.OwnerOrCell.{OwnerOrCell}
 use Rattle.sdd_space.specs.World.{World, IsPlaceOf, place_at, standing_at}
 use Rattle.sdd_space.specs.WorldInvariant.{IsWhole}
-use Rattle.sdd_space.specs.WorldChanges.{closed, opened, owner_given, spilled, with_cell, without_cell}
+use Rattle.sdd_space.specs.WorldChanges.{closed, held_in, opened, owner_given, spilled, with_cell, without_cell}
 use Rattle.sdd_space.proofs.Accounts.{accounted-owner_given, accounted-with_cell, accounted-without_cell}
 use Rattle.sdd_space.proofs.Rights.{given-same, held-cell_changed, held-cell_spent, held-owner_given}
 use Rattle.sdd_space.proofs.Standings.{owner-given}
 use Rattle.sdd_space.proofs.Whole.{one_where}
 use Rattle.sdd_lists.specs.Lists.{Entry, emptied, first_slot, let_go_first}
 use Rattle.sdd_lists.proofs.Lists.{behind}
+use Rattle.sdd_script_model.specs.Bags.{AreSpare, IsSpare, IsStored}
 use Rattle.sdd_script_model.specs.Listed.{AreNumbers, Begins, HasLists}
-use Rattle.sdd_script_model.specs.ScriptState.{ScriptState, IsListCell, IsSecondCell, opening_at}
+use Rattle.sdd_script_model.specs.ScriptState.{ScriptState, IsListCell, IsSecondCell, bag_at, opening_at}
 use Rattle.sdd_script_model.specs.Sound.{AreDeferred, IsSound, contained, named}
 use Rattle.sdd_script_model.specs.Val.{Val, holdings_of, link_of}
 use Rattle.sdd_script_model.proofs.Attending.{OpensOne, live-by, opens-one}
@@ -41,12 +42,13 @@ use Rattle.sdd_script_model.proofs.Chains.{AtHome, are-own}
 use Rattle.sdd_script_model.proofs.Entry.{at-other, inside, set-either}
 use Rattle.sdd_script_model.proofs.Layers.{layered-less}
 use Rattle.sdd_script_model.proofs.Links.{HoldsLess, less-same, less-shed, less-then}
-use Rattle.sdd_script_model.proofs.Listed.{AreOwn, has-still, link-apart}
+use Rattle.sdd_script_model.proofs.Listed.{AreOwn, has-still, has-stored, link-apart}
+use Rattle.sdd_script_model.proofs.Storing.{claim-apart, spare-as, spare-claimed, spare-on, spare-was}
 use Rattle.sdd_script_model.proofs.ListChanges.{has-ended, has-let_go, has-same, has-seconds}
 use Rattle.sdd_script_model.proofs.Stocked.{KeepsSlots, slots-given, slots-opened, slots-same, slots-then, stocked-as}
 use Rattle.sdd_script_model.proofs.StackChains.{IsSingle}
 use Rattle.sdd_script_commands.specs.Leaving.{revived}
-use Rattle.sdd_script_commands.proofs.Ending.{LetsGo, lets-given, no-guards}
+use Rattle.sdd_script_commands.proofs.Ending.{LetsGo, lets-given, no-bags, no-guards, no-stored}
 
 -- ---- one after another
 
@@ -61,7 +63,8 @@ lets-then a b = record {
 }
 
 -- entries that are let go of change slots and cells alone
-lets-first : (w : World Val) (p c : ℕ) (e : Entry Val) (fs : List (Entry Val)) → LetsGo w (let_go_first w p c no_tag e.slot (link_of e.value) (first_slot fs))
+pub lets-first : (w : World Val) (p c : ℕ) (e : Entry Val) (fs : List (Entry Val)) →
+    LetsGo w (let_go_first w p c no_tag e.slot (link_of e.value) (first_slot fs))
 lets-first w p c e fs =
     let first : World Val = with_cell w (link_of e.value) (record { held = None; tag = Second }) in
     let second : World Val = with_cell first c (record { held = first_slot fs; tag = no_tag }) in
@@ -79,7 +82,8 @@ lets-spilled w p None = record { home = refl; tally = refl; phases = refl; place
 lets-spilled w p (Some k) = lets-given w p k (standing_at w k) refl
 
 -- an owner that is given up puts no item out as raw
-pub raw-given : (w : World Val) (p k j : ℕ) (s : Option Standing) → standing_at w k ≡ s → standing_at (owner_given w p k s) j ≡ Some Raw → standing_at w j ≡ Some Raw
+pub raw-given : (w : World Val) (p k j : ℕ) (s : Option Standing) → standing_at w k ≡ s → standing_at (owner_given w p k s) j ≡ Some Raw →
+    standing_at w j ≡ Some Raw
 raw-given w p k j s is =
     owner-given (λ u. standing_at u j ≡ Some Raw → standing_at w j ≡ Some Raw) w p k s is (λ raw. raw)
     (λ out raw. elim (set-either w.standings k j (Some Retired) None) [
@@ -93,15 +97,16 @@ raw-given w p k j s is =
 
 -- ---- the entries of a list are let go of, at whatever place is there
 
-module _ (begins : ℕ → Type 0) (seconds : (c b : ℕ) → Type 0) (outside : Claim → ℕ) (own : AreOwn begins seconds outside) (v : World Val) (p c : ℕ)
-    (its : begins c) (single : (b : ℕ) → seconds c b → ⊥) where
+module _ (begins : ℕ → Type 0) (seconds : (c b : ℕ) → Type 0) (stored : ℕ → Type 0) (outside : Claim → ℕ) (own : AreOwn begins seconds outside)
+    (v : World Val) (p c : ℕ) (its : begins c) (single : (b : ℕ) → seconds c b → ⊥) where
   -- the world goes on so, and the list has these entries
   pub record IsLetting (w : World Val) (fs : List (Entry Val)) : Type 0 where
     pub lets : LetsGo v w
     pub slots : KeepsSlots v w
     pub values : w.values ≡ v.values
     pub ledger : IsLedger holdings_of outside w
-    pub lists : HasLists begins seconds w
+    pub lists : HasLists begins seconds stored w
+    pub spare : AreSpare w
     pub list : Begins w c fs
     pub numbers : AreNumbers fs
     pub raw : (j : ℕ) → standing_at w j ≡ Some Raw → standing_at v j ≡ Some Raw
@@ -134,6 +139,21 @@ module _ (begins : ℕ → Type 0) (seconds : (c b : ℕ) → Type 0) (outside :
         (link-apart w outside l.ledger c e.slot e.value (own.first c its) l.list.linked.0.there)
         ∙ l.list.begins
 
+    -- the own cells of storages hold nothing still
+    spare-rest : AreSpare rest
+    spare-rest b x =
+        let same = given-same second p e.slot (standing_at w e.slot) refl in
+        let was = spare-was w rest b (less-same w rest same.0) x in
+        let far : b ≢ c =
+        λ at. claim-apart w outside l.ledger b was.slot was.value was.there (spare-claimed w b was)
+        (subst (λ (i : ℕ). 1 ≤ outside (right_to i)) (sym at) (own.first c its)) in
+        ap (λ cs. held_in (entry_at cs b)) same.1
+        ∙ ap held_in (at-other first.cells c b (Some next) None far)
+        ∙ elim (set-either w.cells (link_of e.value) b (Some gone) None) [
+          | inl now ↦ ap held_in now
+          | inr as_it_was ↦ ap held_in as_it_was ∙ l.spare b was
+        ]
+
     ledger-rest : IsLedger holdings_of outside rest
     ledger-rest (owner_of j) =
         accounted-owner_given holdings_of second p e.slot (λ i. owners i + one_where (is_of_slot i (Some e.slot))) owners (λ i. omega arith)
@@ -155,7 +175,8 @@ module _ (begins : ℕ → Type 0) (seconds : (c b : ℕ) → Type 0) (outside :
       slots = slots-then l.slots (slots-then (slots-same w second refl refl refl) (slots-given second p e.slot (standing_at w e.slot) refl));
       values = (given-same second p e.slot (standing_at w e.slot) refl).0 ∙ l.values;
       ledger = ledger-rest;
-      lists = has-let_go begins seconds w outside l.ledger own l.lists c its single p e fs l.list l.numbers;
+      spare = spare-rest;
+      lists = has-let_go begins seconds stored w outside l.ledger own l.lists c its single p e fs l.list l.numbers;
       list = behind link_of w p c no_tag e fs l.list;
       numbers = l.numbers.1;
       raw = λ j now. l.raw j (raw-given second p e.slot j (standing_at w e.slot) refl now);
@@ -217,20 +238,26 @@ module _ (d : ScriptState) (s : IsSound d) (shut : (g : ℕ) → opening_at d.gu
   pub ledger-open : IsLedger holdings_of outside open_world
   ledger-open u = omega (arith, opening.ledger outside before u)
 
-  pub lists-open : HasLists (IsListCell d) (IsSecondCell d) open_world
+  pub lists-open : HasLists (IsListCell d) (IsSecondCell d) (IsStored d.bags d.world) open_world
   lists-open =
-      has-still (opens back p live) whole outside before (λ u never. absurd never) (IsListCell d) (IsSecondCell d) own-all (λ b x never. never)
-      (λ c b x never. never) (has-same (IsListCell d) (IsSecondCell d) d.world back refl refl s.lists) (less-shed (sheds-opened holdings_of p back))
+      has-still (opens back p live) whole outside before (λ u never. absurd never) (IsListCell d) (IsSecondCell d) (IsStored d.bags d.world) own-all
+      (λ b x never. never) (λ c b x never. never)
+      (has-same (IsListCell d) (IsSecondCell d) (IsStored d.bags d.world) d.world back refl refl s.lists) (less-shed (sheds-opened holdings_of p back))
+
+  pub spare-open : AreSpare open_world
+  spare-open =
+      spare-on d (opens back p live) whole (named d) before tt (spare-as d.world back (less-same d.world back refl) (λ c x. refl) s.spare)
+      (less-shed (sheds-opened holdings_of p back))
 
   -- ---- who is there, and that no guard is open
 
-  opens-it : OpensOne p back open_world
+  pub opens-it : OpensOne p back open_world
   opens-it = opens-one back p live.0
 
   pub live-open : IsPlaceOf open_world p
   live-open = live-by back.time open_world.time opens-it.phases opens-it.places p live
 
-  live-back : (q : ℕ) → IsPlaceOf d.world q → IsPlaceOf back q
+  pub live-back : (q : ℕ) → IsPlaceOf d.world q → IsPlaceOf back q
   live-back q was = elim (cases_eq q p) [
     | inl same ↦ subst (λ (i : ℕ). IsPlaceOf back i) (sym same) live
     | inr far ↦ (
@@ -241,9 +268,10 @@ module _ (d : ScriptState) (s : IsSound d) (shut : (g : ℕ) → opening_at d.gu
     )
   ]
 
-  -- ---- these are its queues and stacks meanwhile, one of which is in cell c, and these afterwards
+  -- ---- there is no bag, and these are its queues and stacks meanwhile, one of which is in cell c, and these afterwards
 
-  module _ (meanwhile : List (Option OwnerOrCell)) (queues newest stacks : List (Option OwnerOrCell)) (c : ℕ) where
+  module _ (none : (b : ℕ) → bag_at d.bags b ≡ None) (meanwhile : List (Option OwnerOrCell)) (queues newest stacks : List (Option OwnerOrCell))
+      (c : ℕ) where
     abbrev pub base : ScriptState
     base = record d { newest = meanwhile }
 
@@ -254,7 +282,7 @@ module _ (d : ScriptState) (s : IsSound d) (shut : (g : ℕ) → opening_at d.gu
     meanwhile_outside u = named d u + contained base u
 
     module _ (its : IsSingle base c) (own : AreOwn (IsListCell base) (IsSecondCell base) meanwhile_outside) (u : World Val) (es : List (Entry Val))
-        (letting : IsLetting (IsListCell base) (IsSecondCell base) meanwhile_outside own open_world p c its.begins its.single u es)
+        (letting : IsLetting (IsListCell base) (IsSecondCell base) (IsStored d.bags d.world) meanwhile_outside own open_world p c its.begins its.single u es)
         (less_by : (x : Claim) → contained base x ≡ contained (without_it u) x + one (right_to c) x)
         (was : (b : ℕ) → IsListCell (without_it u) b → IsListCell base b × (b ≢ c))
         (keeps : (b : ℕ) → IsListCell base b → b ≢ c → IsListCell (without_it u) b)
@@ -263,8 +291,9 @@ module _ (d : ScriptState) (s : IsSound d) (shut : (g : ℕ) → opening_at d.gu
       abbrev drained : World Val
       drained = emptied link_of u p c no_tag es
 
-      all-gone : IsLetting (IsListCell base) (IsSecondCell base) meanwhile_outside own open_world p c its.begins its.single drained []
-      all-gone = lets-all (IsListCell base) (IsSecondCell base) meanwhile_outside own open_world p c its.begins its.single u es letting
+      all-gone : IsLetting (IsListCell base) (IsSecondCell base) (IsStored d.bags d.world) meanwhile_outside own open_world p c its.begins its.single drained []
+      all-gone =
+          lets-all (IsListCell base) (IsSecondCell base) (IsStored d.bags d.world) meanwhile_outside own open_world p c its.begins its.single u es letting
 
       abbrev freed_world : World Val
       freed_world = without_cell drained c
@@ -274,6 +303,12 @@ module _ (d : ScriptState) (s : IsSound d) (shut : (g : ℕ) → opening_at d.gu
 
       abbrev after : ScriptState
       after = without_it last
+
+      spare-freed : (b : ℕ) → IsSpare drained b → held_in (entry_at last.cells b) ≡ held_in (entry_at drained.cells b)
+      spare-freed b x = elim (set-either drained.cells c b None None) [
+        | inl gone ↦ ap held_in gone ∙ sym (all-gone.spare b x)
+        | inr same ↦ ap held_in same
+      ]
 
       ledger-left : IsLedger holdings_of (λ x. named d x + contained after x) last
       ledger-left (owner_of j) =
@@ -319,13 +354,16 @@ module _ (d : ScriptState) (s : IsSound d) (shut : (g : ℕ) → opening_at d.gu
 
       pub sound-left : IsSound after
       sound-left = record {
-        stocked = stocked-as d after s.stocked refl refl refl slots;
+        stocked = stocked-as d after s.stocked refl refl refl slots (λ j x. no-stored d.bags none d.world j x);
         ledger = ledger-left;
-        lists = has-same (IsListCell after) (IsSecondCell after) freed_world last refl refl
-            (has-seconds (IsListCell after) (IsSecondCell base) (IsSecondCell after) freed_world
-            (has-ended (IsListCell base) (IsListCell after) (IsSecondCell base) drained meanwhile_outside all-gone.ledger own all-gone.lists c its.begins
-            its.single all-gone.list was keeps)
-            (λ a b y. inl (seconds a b y)));
+        bags = no-bags after none;
+        spare = spare-as drained last (less-same drained last refl) spare-freed all-gone.spare;
+        lists = has-same (IsListCell after) (IsSecondCell after) (IsStored after.bags after.world) freed_world last refl refl
+            (has-stored (λ j x. no-stored d.bags none d.world j x)
+            (has-seconds (IsListCell after) (IsSecondCell base) (IsSecondCell after) (IsStored d.bags d.world) freed_world
+            (has-ended (IsListCell base) (IsListCell after) (IsSecondCell base) (IsStored d.bags d.world) drained meanwhile_outside
+            all-gone.ledger own all-gone.lists c its.begins its.single all-gone.list was keeps)
+            (λ a b y. inl (seconds a b y))));
         layered = layered-less d after s.layered less refl;
         home = record {
           owners = rw slots.home s.home.owners;

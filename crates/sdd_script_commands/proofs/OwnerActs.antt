@@ -1,5 +1,5 @@
 -- What each action of an owner leaves in hand: it is sound, and it is what the call means
-use Rattle.std.proofs.Common.{◌≡◌, ℕ, ◌+◌, ◌^◌, ◌<◌, Bool, if◌then◌else◌, [], ◌∷◌, ◌++◌, Option, Some, None, is_some, length, slice_index_or, slice_set, refl, sym, ap, ◌∙◌}
+use Rattle.std.proofs.Common.{◌≡◌, ℕ, ◌+◌, ◌^◌, ◌<◌, Bool, if◌then◌else◌, [], ◌∷◌, ◌++◌, Option, Some, None, is_some, length, slice_index_or, slice_set, refl, sym, ap, ◌∙◌, subst}
 use Rattle.std.specs.Prelude.{IsTrue, ◌↔◌}
 use Rattle.std.specs.Option.{option_map}
 use Rattle.std.specs.Global.{Vec}
@@ -26,7 +26,7 @@ use Rattle.sdd_interpreter.specs.declared.holding.AnyOwner.{AnyOwner}
 use Rattle.sdd_interpreter.specs.declared.holding.AnyOwner.TheVariants.{Sole, Share}
 use Rattle.sdd_interpreter.specs.declared.participants.NamedParticipant.{NamedParticipant}
 use Rattle.sdd_interpreter.specs.declared.interpreter.Environment.{Environment}
-use Rattle.sdd_script_model.specs.ScriptState.{ScriptState, opening_at, place_of, slot_at, sole_slot, shared_slot}
+use Rattle.sdd_script_model.specs.ScriptState.{ScriptState, opening_at, place_of, slot_at, sole_slot, shared_slot, slot_of}
 use Rattle.sdd_script_model.specs.Script.{HasOpen, IsParticipant, CanPointTo}
 use Rattle.sdd_interpreter.specs.Environment.{attending}
 use Rattle.sdd_interpreter.specs.Owners.{owner_holding}
@@ -34,6 +34,10 @@ use Rattle.sdd_interpreter.specs.Interpreter.{desk_of, IsTied}
 use Rattle.sdd_script_model.proofs.Going.{retired-leaves, released-leaves}
 use Rattle.sdd_interpreter.proofs.Acts as stage
 use Rattle.sdd_interpreter.proofs.Acts.{Does, leads}
+use Rattle.sdd_script_model.specs.Bags.{IsStored}
+use Rattle.sdd_script_model.proofs.Chains.{owned-apart, starts}
+use Rattle.sdd_script_model.proofs.InPlaceGoing.{owner-outside}
+use Rattle.sdd_script_model.proofs.Storing.{there-apart}
 
 module _ (h : Environment) (t : IsTied h) (whole : IsWhole h.world) where
   abbrev d : ScriptState
@@ -97,12 +101,15 @@ module _ (h : Environment) (t : IsTied h) (whole : IsWhole h.world) where
       acts-cloned o r y mine same few named =
           let entry = stage.named-owner h t whole o.0 (Share y) mine in
           let given : r.0 ≡ length d.owners = named ∙ sym (length-map h.owners.entries.items (option_map owner_holding)) in
-          stage.adds-owner h t whole name a there w owners x count pushed home stands world (At name (call.Clone o)) (reply.Owner r)
+          stage.adds-owner h t whole name a there w owners x count pushed home stands world
+          (owned-apart (starts d t.sound whole) k (owner-outside d o.0 k (ap slot_of entry ∙ ap Some same))) (At name (call.Clone o)) (reply.Owner r)
           ((is-there, ap (λ s. is_some (shared_slot s)) entry), (k, ap shared_slot entry ∙ ap Some same, (count, stands, few, (given, refl))))
 
       pub acts-upgraded : (i : ItemName) (g : GuardName) (r : OwnerName) → HasOpen d n g.0 → CanPointTo d n i.0 → k ≡ slot_at d i.0 →
           count < 2 ^ 62 → r.0 ≡ length h.owners.entries.items →
           Does d (At name (call.Upgrade i g)) (reply.Owner r) (record h { world = w; owners = record { entries = owners } })
       acts-upgraded i g r valid can slot few named =
-          stage.adds-owner h t whole name a there w owners x count pushed home stands world (At name (call.Upgrade i g)) (reply.Owner r)
+          stage.adds-owner h t whole name a there w owners x count pushed home stands world
+          (λ stored. there-apart d t.sound.bags i.0 can.0 (subst (λ (j : ℕ). IsStored d.bags d.world j) slot stored)) (At name (call.Upgrade i g))
+          (reply.Owner r)
           ((valid, can), rw (← slot) (count, stands, few, (named ∙ sym (length-map h.owners.entries.items (option_map owner_holding)), refl)))

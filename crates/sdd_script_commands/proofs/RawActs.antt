@@ -150,6 +150,7 @@ module _ (h : Environment) (t : IsTied h) (whole : IsWhole h.world) (name : Plac
     by (body.Number m) e = ((valid, is_there), (raw, (v, shown, ap (told_of h.names.items) (sym e)), refl))
     by (body.Owned x) e = ((valid, is_there), (raw, (v, shown, ap (told_of h.names.items) (sym e)), refl))
     by (body.Shared x) e = ((valid, is_there), (raw, (v, shown, ap (told_of h.names.items) (sym e)), refl))
+    by (body.Storage x) e = ((valid, is_there), (raw, (v, shown, ap (told_of h.names.items) (sym e)), refl))
 
   pub acts-unseen : (i : ItemName) (g : GuardName) → HasOpen d name.0 g.0 → IsThere d i.0 → ¬ (IsRaw d i.0) →
       Acts d (At name (call.See i g)) reply.Nothing d

@@ -97,6 +97,17 @@ abbrev pub IsCopyAct : Action → Type 0
 IsCopyAct (call.CloneList container guard) = Unit {0}
 IsCopyAct other = ⊥
 
+-- an action on a bag
+abbrev pub IsBagAct : Action → Type 0
+IsBagAct call.Bag = Unit {0}
+IsBagAct (call.Add bag number guard) = Unit {0}
+IsBagAct (call.Try bag number) = Unit {0}
+IsBagAct (call.Take bag guard) = Unit {0}
+IsBagAct (call.Drain bag guard) = Unit {0}
+IsBagAct (call.LenBag bag guard) = Unit {0}
+IsBagAct (call.CloseBag bag) = Unit {0}
+IsBagAct other = ⊥
+
 -- the line that puts a number among a container's entries, and the one that takes the first out: if a number is what is asked, where one is
 abbrev pub pushing : ListName → ℕ → Option ℕ → GuardName → Action
 pushing l number None guard = call.Push l number guard

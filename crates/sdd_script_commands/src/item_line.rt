@@ -1,12 +1,12 @@
-//! What participants do with items, owners, cells, links, queues and stacks: the actions, and what each answers.
+//! What participants do with items, owners, cells, links, queues, stacks and bags: the actions, and what each answers.
 ghost use Rattle.std.specs.Prelude.{◌≡◌, MatchOption, MatchResult};
 ghost use Rattle.sdd_script_model.specs.Script.{Acts};
-ghost use Rattle.sdd_script_commands.specs.ItemLines.{IsItemAct, IsRawAct, IsCellAct, IsHeldAct, IsLinkAct, IsQueueAct, IsStackAct, IsListAct, IsCopyAct};
+ghost use Rattle.sdd_script_commands.specs.ItemLines.{IsItemAct, IsRawAct, IsCellAct, IsHeldAct, IsLinkAct, IsQueueAct, IsStackAct, IsListAct, IsCopyAct, IsBagAct};
 ghost use Rattle.sdd_script_model.specs.ScriptState.{BeginsLine};
 
 use crate::{
-    cells, collectors, containers, copies, entries, exchanges, items, links, owners, queues, raw,
-    stacks,
+    bags, cells, collectors, containers, copies, entries, exchanges, items, links, owners, queues,
+    raw, stacks,
 };
 use sdd_core::Refused;
 use sdd_interpreter::Interpreter;
@@ -211,6 +211,30 @@ pub fn act_on_copy(
         Action::CloneList(ListName::Stack(stack), guard) => {
             copies::copy_stack(stage, name, stack, guard)?
         }
+        _ => return Ok(None),
+    }))
+}
+
+/// An action on a bag. None where the action is another.
+pub fn act_on_bag(
+    stage: &mut Interpreter,
+    name: PlaceName,
+    action: Action,
+) -> Result<Option<Reply>, Refused>
+    requires line { BeginsLine stage.old }
+    ensures acts { MatchResult result
+        (λ o. MatchOption o (¬ (IsBagAct action) × (stage.new ≡ stage.old))
+        (λ reply. IsBagAct action × Acts stage.old (Call.At name action) reply stage.new))
+        (λ refused. (refused ≡ Refused.NoMemory) × (stage.new ≡ stage.old)) }
+{
+    Ok(Some(match action {
+        Action::Bag => bags::make_bag(stage, name)?,
+        Action::Add(bag, number, guard) => bags::add(stage, name, bag, number, guard)?,
+        Action::Try(bag, number) => bags::try_add(stage, name, bag, number),
+        Action::Take(bag, guard) => bags::take(stage, name, bag, guard)?,
+        Action::Drain(bag, guard) => bags::drain(stage, name, bag, guard)?,
+        Action::LenBag(bag, guard) => bags::len(stage, name, bag, guard),
+        Action::CloseBag(bag) => bags::close_bag(stage, name, bag)?,
         _ => return Ok(None),
     }))
 }

@@ -175,18 +175,19 @@ module _ (w : World Val) (p : ℕ) (l : p < length w.time.places) where
 
 -- ---- a desk after each step
 
--- an item, a cell, a queue or a stack was made: some place is not free
+-- an item, a cell, a queue, a stack or a bag was made: some place is not free
 abbrev pub IsPlaced : ScriptState → Type 0
-IsPlaced d = 0 < length d.slots + length d.cells + length d.queues + length d.stacks → (p : ℕ) × IsSome (phase_at d.world.time p)
+IsPlaced d = 0 < length d.slots + length d.cells + length d.queues + length d.stacks + length d.bags → (p : ℕ) × IsSome (phase_at d.world.time p)
 
 -- the participant that acts is inside
 pub placed-inside : (d : ScriptState) (p : ℕ) → IsPlaceOf d.world p → IsPlaced d
 placed-inside d p live = λ some. (p, ap is_some (live-is d.world.time p live))
 
--- no item, cell, queue or stack more
-pub placed-still : (d new : ScriptState) → ParticipantsMatch d → KeepsGuards d.world new.world → length new.slots ≡ length d.slots → length new.cells ≡ length d.cells →
-    length new.queues ≡ length d.queues → length new.stacks ≡ length d.stacks → IsPlaced new
-placed-still d new a k slots cells queues stacks = λ some. keeps-phase k (a.placed (omega (arith, some, slots, cells, queues, stacks)))
+-- no item, cell, queue, stack or bag more
+pub placed-still : (d new : ScriptState) → ParticipantsMatch d → KeepsGuards d.world new.world → length new.slots ≡ length d.slots →
+    length new.cells ≡ length d.cells →
+    length new.queues ≡ length d.queues → length new.stacks ≡ length d.stacks → length new.bags ≡ length d.bags → IsPlaced new
+placed-still d new a k slots cells queues stacks bags = λ some. keeps-phase k (a.placed (omega (arith, some, slots, cells, queues, stacks, bags)))
 
 module _ (d new : ScriptState) (a : ParticipantsMatch d) where
   attended-by : new.places ≡ d.places → new.guards ≡ d.guards → d.moment ≤ new.moment → ((q : ℕ) → IsPlaceOf d.world q → IsPlaceOf new.world q) →
@@ -206,7 +207,8 @@ module _ (d new : ScriptState) (a : ParticipantsMatch d) where
       }
 
   -- no guard is opened or closed, and nobody comes or goes
-  pub attended-same : KeepsGuards d.world new.world → new.places ≡ d.places → new.guards ≡ d.guards → d.moment ≤ new.moment → IsPlaced new → ParticipantsMatch new
+  pub attended-same : KeepsGuards d.world new.world → new.places ≡ d.places → new.guards ≡ d.guards → d.moment ≤ new.moment → IsPlaced new →
+      ParticipantsMatch new
   attended-same k places guards moment placed = attended-by places guards moment (keeps-live k) k.guards placed
 
   -- and a participant acts
@@ -231,7 +233,16 @@ attended-start d start =
       opened = λ p. ap (λ (t : EpochState). (time.place_at t p).guards) start.world.time ∙ sym (ap (count_by (is_of p)) start.guards);
       since = λ g y e. absurd (no_guard g y e);
       early = λ n x e. absurd (nobody_there n x e);
-      placed = λ some. absurd (omega (arith, some, ap length start.slots, ap length start.cells, ap length start.queues, ap length start.stacks));
+      placed = λ some.
+          absurd (omega (
+            arith,
+            some,
+            ap length start.slots,
+            ap length start.cells,
+            ap length start.queues,
+            ap length start.stacks,
+            ap length start.bags,
+          ));
     }
 
 module _ (d : ScriptState) (a : ParticipantsMatch d) where
@@ -383,7 +394,8 @@ module _ (d : ScriptState) (a : ParticipantsMatch d) where
       placed = λ some. (p, ap is_some (live-is (time.closed d.world.time p) p (lives-closed p closer-live)));
     }
 
-    pub attended-closed : (new : ScriptState) → new.world.time ≡ time.closed d.world.time p → new.places ≡ d.places → new.guards ≡ (desk.without_guard d g).guards →
+    pub attended-closed : (new : ScriptState) → new.world.time ≡ time.closed d.world.time p → new.places ≡ d.places →
+        new.guards ≡ (desk.without_guard d g).guards →
         d.moment ≤ new.moment → ParticipantsMatch new
     attended-closed new time places guards moment =
         attended-as without_guard new closed-attended time places guards moment

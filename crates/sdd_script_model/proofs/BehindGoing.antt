@@ -1,7 +1,6 @@
 -- The deleted entries behind an item are let go of, and what the script's desk is then
 use Rattle.std.proofs.Common.{◌≡◌, ◌≢◌, ◌⊎◌, ◌+◌, ◌≤◌, inl, inr, ℕ, Bool, true, false, List, [], ◌∷◌, Option, Some, None, is_some, slice_index_or, refl, sym, ap, ◌∙◌, subst, arith}
 use Rattle.std.specs.Prelude.{◌==◌, if◌then◌else◌}
-use Rattle.std.proofs.lemmas.Bool.{cases_eq}
 use Rattle.sdd_core.specs.declared.tag.Tag.{Tag}
 use Rattle.sdd_core.specs.declared.tag.Tag.TheVariants.{None as no_tag}
 use Rattle.sdd_participants.specs.Slab.{entry_at}
@@ -15,7 +14,7 @@ use Rattle.sdd_space.proofs.Entries.{once-waits}
 use Rattle.sdd_space.proofs.Ledger.{ledger-laws}
 use Rattle.sdd_lists.specs.Behind.{spliced}
 use Rattle.sdd_lists.specs.Ends.{EndsWith, IsAmong}
-use Rattle.sdd_lists.specs.Lists.{Apart, AreLinked, Entry, IsList, first_slot, is_deleted, left, trimmed}
+use Rattle.sdd_lists.specs.Lists.{AreLinked, Entry, IsList, first_slot, is_deleted, left, trimmed}
 use Rattle.sdd_lists.specs.Queue.{IsLetGo, QueueCells}
 use Rattle.sdd_lists.proofs.Ending.{linked-ends, list-ends, trimmed-list}
 use Rattle.sdd_lists.proofs.Fronts.{tag_in}
@@ -24,16 +23,18 @@ use Rattle.sdd_lists.proofs.Linking.{tail-cut, trimmed-around, trimmed-queue}
 use Rattle.sdd_lists.proofs.Pushing.{trim-other, trim-values}
 use Rattle.sdd_lists.proofs.Spliced.{among-spliced}
 use Rattle.sdd_script_model.specs.Link.{IsBehind}
+use Rattle.sdd_script_model.specs.Bags.{IsStored}
 use Rattle.sdd_script_model.specs.Listed.{AreNumbers, Begins, HasLists, HoldsEntry, IsListed}
-use Rattle.sdd_script_model.specs.ScriptState.{ScriptState, IsListCell, IsSecondCell, in_world, name_at, slot_at}
+use Rattle.sdd_script_model.specs.ScriptState.{ScriptState, IsListCell, IsSecondCell, in_world, name_at, slot_at, IsThere}
 use Rattle.sdd_script_model.specs.Sound.{IsSound, contained, named}
 use Rattle.sdd_script_model.specs.Val.{Val, holdings_of, link_of}
-use Rattle.sdd_script_model.proofs.Chains.{IsMidway, LeavesSound, finishes, own-midway, starts}
+use Rattle.sdd_script_model.proofs.Chains.{IsMidway, LeavesSound, finishes, link-apart-from, own-midway, starts}
 use Rattle.sdd_script_model.proofs.Listed.{AreOwn, StaysGone, among-inside, among-link, apart-item, apart-own, has-changed, link-apart, link-inside, links-apart, same-list, unique}
 use Rattle.sdd_script_model.proofs.ListChanges.{among-or}
 use Rattle.sdd_script_model.proofs.QueuePushing.{linked-where}
 use Rattle.sdd_script_model.proofs.Stocked.{idle-named}
 use Rattle.sdd_script_model.proofs.StackChains.{between, front-goes, midway}
+use Rattle.sdd_script_model.proofs.Storing.{IsReserved, off-among, there-apart}
 use Rattle.sdd_script_model.proofs.StackGoing.{IsDatedWithin, dated-all}
 
 -- ---- what is left of a list from an entry on
@@ -90,8 +91,9 @@ module _ (k : ℕ) (others : List (Entry Val)) where
 
 -- ---- of a list the deleted entries behind one of its entries are let go of
 
-module _ (begins : ℕ → Type 0) (seconds : (c b : ℕ) → Type 0) (v : World Val) (outside : Claim → ℕ) (ledger : IsLedger holdings_of outside v)
-    (own : AreOwn begins seconds outside) (had : HasLists begins seconds v) (p c : ℕ) (its : begins c) (full : List (Entry Val)) (list : Begins v c full)
+module _ (begins : ℕ → Type 0) (seconds : (c b : ℕ) → Type 0) (stored : ℕ → Type 0) (v : World Val) (outside : Claim →
+    ℕ) (ledger : IsLedger holdings_of outside v)
+    (own : AreOwn begins seconds outside) (had : HasLists begins seconds stored v) (p c : ℕ) (its : begins c) (full : List (Entry Val)) (list : Begins v c full)
     (numbers : AreNumbers full) (e : Entry Val) (rest : List (Entry Val)) (at : EndsWith full e rest) where
   abbrev k : ℕ
   k = link_of e.value
@@ -156,9 +158,9 @@ module _ (begins : ℕ → Type 0) (seconds : (c b : ℕ) → Type 0) (v : World
       among-spliced link_of v w e rest e (left rest) refl values (trim-other link_of v p k e.tag rest)
       (tail-cut link_of v p e rest full list.linked at after) s full list.linked at (keeps s) among
 
-  links : (s : ℕ) (z : Val) → value_at w s ≡ Some z → (held_in (entry_at w.cells (link_of z)) ≡ None) ⊎ (IsAmong s now
+  links : (s : ℕ) (z : Val) → value_at w s ≡ Some z → (stored s → ⊥) → (held_in (entry_at w.cells (link_of z)) ≡ None) ⊎ (IsAmong s now
       ⊎ ((other : IsListed begins v s) × (other.cell ≢ c)))
-  links s z is = elim (among-or s full) [
+  links s z is kept = elim (among-or s full) [
     | inl among ↦ elim (there-or-gone s among) [
       | inl stays ↦ inr (inl stays)
       | inr gone ↦
@@ -167,7 +169,7 @@ module _ (begins : ℕ → Type 0) (seconds : (c b : ℕ) → Type 0) (v : World
           inl (ap (λ (x : Val). held_in (entry_at w.cells (link_of x))) (sym same) ∙ ap held_in gone.bare))
     ]
     | inr not ↦
-        (let was = value-was s z is in elim (had.linked s z was) [
+        (let was = value-was s z is in elim (had.linked s z was kept) [
           | inl none ↦ inl (ap held_in (link-still s z was not) ∙ none)
           | inr other ↦
               inr (inr (
@@ -195,15 +197,15 @@ module _ (begins : ℕ → Type 0) (seconds : (c b : ℕ) → Type 0) (v : World
       }) at after in
       record { second = held.second; holds = queue.newest; among = queue.among }
 
-  pub has-cut : HasLists begins seconds w
+  pub has-cut : HasLists begins seconds stored w
   has-cut =
-      has-changed begins seconds v w had c its (λ a b y. own-still b (own.second a b y)) gone full now list new
+      has-changed begins seconds stored v w had c its (λ a b y. own-still b (own.second a b y)) gone full now list new
       (numbers-spliced e.slot (e ∷ left rest) full
       (let tail = numbers-ends full e rest at numbers in (tail.0, numbers-left rest tail.1)) numbers) of-it forward from links
 
 -- ---- what is behind an item
 
-module _ (d : ScriptState) (s : IsSound d) (i : ℕ) (v : Val) (there : value_at d.world (slot_at d i) ≡ Some v) where
+module _ (d : ScriptState) (s : IsSound d) (i : ℕ) (v : Val) (there : value_at d.world (slot_at d i) ≡ Some v) (named_so : IsThere d i) where
   taken-is : (x : Option CellContents) → is_some x ≡ true → (cell : CellContents) × (x ≡ Some cell)
   taken-is None never = absurd (let wrong : false ≡ true = never in cc)
   taken-is (Some cell) taken = (cell, refl)
@@ -216,7 +218,7 @@ module _ (d : ScriptState) (s : IsSound d) (i : ℕ) (v : Val) (there : value_at
 
   -- there is such a list, which may be empty
   pub behind-there : (t : Tag) × (es : List (Entry Val)) × IsBehind d i (link_of v) t es
-  behind-there = elim (s.lists.linked (slot_at d i) v there) [
+  behind-there = elim (s.lists.linked (slot_at d i) v there (there-apart d s.bags i named_so)) [
     | inl none ↦
         (let cell = link-there in
         let bare : cell.0.held ≡ None = sym (ap held_in cell.1) ∙ none in
@@ -242,21 +244,22 @@ first-among [] j is = absurd (cc)
 first-among (e ∷ es) j is = inl (let same : e.slot ≡ j = cc in same)
 
 -- the first entry behind a cell that isn't deleted has a name, since a link owns it
-pub behind-named : (d : ScriptState) (s : IsSound d) (c : ℕ) (t : Tag) (es : List (Entry Val)) → IsList link_of d.world c t es → (j : ℕ) →
-    first_slot (left es) ≡ Some j → is_some (name_at d j) ≡ true
-behind-named d s c t es list j is =
+pub behind-named : (d : ScriptState) (s : IsSound d) (c : ℕ) (t : Tag) (es : List (Entry Val)) → IsList link_of d.world c t es →
+    (IsReserved d d.world c → ⊥) → (j : ℕ) → first_slot (left es) ≡ Some j → is_some (name_at d j) ≡ true
+behind-named d s c t es list off j is =
     let among = left-was j es (first-among (left es) j is) in
+    let no_storage = off-among d d.world (named d) s.ledger (λ n b fs at stands. stands) c j es off (ap held_in list.begins) list.linked among in
     let inner = among-inside d.world (λ u. named d u + contained d u) s.ledger c j es (ap held_in list.begins) list.linked among in
     let stands = ((ledger-laws holdings_of d.world).tells _ s.ledger).stands j (omega (arith, inner)) in
     elim stands [
-      | inl sole ↦ ap is_some (idle-named d s.stocked j (ap is_some sole.0) (ap is_waiting sole.0)).is
-      | inr several ↦ ap is_some (idle-named d s.stocked j (ap is_some several.1) (ap is_waiting several.1)).is
+      | inl sole ↦ ap is_some (idle-named d s.stocked j (ap is_some sole.0) (ap is_waiting sole.0) no_storage).is
+      | inr several ↦ ap is_some (idle-named d s.stocked j (ap is_some several.1) (ap is_waiting several.1) no_storage).is
     ]
 
 -- ---- the line
 
 module _ (d : ScriptState) (s : IsSound d) (whole : IsWhole d.world) (p : ℕ) (live : IsPlaceOf d.world p) (i k : ℕ) (t : Tag) (es : List (Entry Val))
-    (is : IsBehind d i k t es) where
+    (is : IsBehind d i k t es) (named_so : IsThere d i) where
   abbrev w_after : World Val
   w_after = trimmed link_of d.world p k t es
 
@@ -267,11 +270,12 @@ module _ (d : ScriptState) (s : IsSound d) (whole : IsWhole d.world) (p : ℕ) (
   no-entry [] none = refl
   no-entry (x ∷ xs) none = absurd (cc)
 
-  lists-after : HasLists (IsListCell d) (IsSecondCell d) w_after
-  lists-after = elim (s.lists.linked (slot_at d i) is.entry is.there) [
+  lists-after : HasLists (IsListCell d) (IsSecondCell d) (IsStored d.bags d.world) w_after
+  lists-after = elim (s.lists.linked (slot_at d i) is.entry is.there (there-apart d s.bags i named_so)) [
     | inl none ↦
         (let bare : first_slot es ≡ None = sym (ap held_in (ap (λ (j : ℕ). entry_at d.world.cells j) is.link ∙ is.list.begins)) ∙ none in
-        subst (λ (xs : List (Entry Val)). HasLists (IsListCell d) (IsSecondCell d) (trimmed link_of d.world p k t xs)) (sym (no-entry es bare)) s.lists)
+        subst (λ (xs : List (Entry Val)). HasLists (IsListCell d) (IsSecondCell d) (IsStored d.bags d.world) (trimmed link_of d.world p k t xs))
+        (sym (no-entry es bare)) s.lists)
     | inr listed ↦
         (let found = among-link d.world (slot_at d i) is.entry listed.entries listed.list.linked listed.among is.there in
         let e : Entry Val = found.0 in
@@ -284,12 +288,13 @@ module _ (d : ScriptState) (s : IsSound d) (whole : IsWhole d.world) (p : ℕ) (
         let first = s.lists.lists listed.cell listed.begun in
         let numbers : AreNumbers listed.entries =
         subst (λ (fs : List (Entry Val)). AreNumbers fs) (same-list d.world listed.cell first.0 listed.entries first.1 listed.list) first.2 in
-        let cut = has-cut (IsListCell d) (IsSecondCell d) d.world (λ u. named d u + contained d u) start.ledger (own-midway start) s.lists p listed.cell
+        let cut = has-cut (IsListCell d) (IsSecondCell d) (IsStored d.bags d.world) d.world (λ u. named d u + contained d u) start.ledger (own-midway start)
+        s.lists p listed.cell
         listed.begun listed.entries listed.list numbers e rest found.2 in
         let same : trimmed link_of d.world p (link_of e.value) e.tag rest ≡ w_after =
         ap (λ (j : ℕ). trimmed link_of d.world p j e.tag rest) link ∙ ap (λ (u : Tag). trimmed link_of d.world p k u rest) (ap tag_in cells)
         ∙ ap (λ (xs : List (Entry Val)). trimmed link_of d.world p k t xs) tails in
-        subst (λ (u : World Val). HasLists (IsListCell d) (IsSecondCell d) u) same cut)
+        subst (λ (u : World Val). HasLists (IsListCell d) (IsSecondCell d) (IsStored d.bags d.world) u) same cut)
   ]
 
   abbrev pub after_next : List ℕ → ScriptState
@@ -297,6 +302,9 @@ module _ (d : ScriptState) (s : IsSound d) (whole : IsWhole d.world) (p : ℕ) (
 
   pub next-leaves : (dates : List ℕ) → IsDatedWithin d (after_next dates) → LeavesSound d (after_next dates)
   next-leaves dates within =
-      let m = midway (front-goes d.world (between start) p k t live es is.list) lists-after in
+      let off : IsReserved d d.world k → ⊥ =
+      subst (λ (l : ℕ). IsReserved d d.world l → ⊥) is.link
+      (link-apart-from start (slot_at d i) is.entry is.there (there-apart d s.bags i named_so)) in
+      let m = midway (front-goes d.world (between start) p k t off live es is.list) lists-after in
       finishes d w_after d.owners d.cells d.collectors dates s m
       (λ u. refl) (s.home.owners, s.home.cells, s.home.collectors) (dated-all d (after_next dates) s.stocked m.frames.slots.slots within) p live

@@ -1,5 +1,5 @@
 -- What is always true of a desk is true after each call of a cell
-use Rattle.std.proofs.Common.{◌≡◌, ◌≢◌, subst, ℕ, ◌+◌, ◌<◌, ◌≤◌, true, if◌then◌else◌, List, [], ◌∷◌, ◌++◌, Option, Some, None, IsSome, length, slice_set, refl, sym, ap, ◌∙◌, arith}
+use Rattle.std.proofs.Common.{◌≡◌, ◌≢◌, subst, ℕ, ◌+◌, ◌<◌, ◌≤◌, true, if◌then◌else◌, List, [], ◌∷◌, ◌++◌, Option, Some, None, IsSome, length, slice_set, refl, sym, ap, ◌∙◌, arith, inl}
 use Rattle.sdd_core.specs.declared.tag.Tag.{Tag}
 use Rattle.sdd_core.specs.declared.tag.Tag.TheVariants.{None as no_tag, Both, Second}
 use Rattle.sdd_participants.specs.Slab.{IsEmptyAt, entry_at}
@@ -7,7 +7,7 @@ use Rattle.sdd_participants.specs.declared.standing.CellContents.{CellContents}
 use Rattle.sdd_participants.specs.declared.standing.Standing.TheVariants.{Shared}
 use Rattle.sdd_standings.specs.Slots.{is_waiting}
 use Rattle.sdd_space.specs.Ledger.{Claim, right_to, one, owner_held}
-use Rattle.sdd_space.specs.Ledger.Moves.{makes_cell, changes_cell, spends_cell, closes_cell, shares}
+use Rattle.sdd_space.specs.Ledger.Moves.{makes_cell, changes_cell, spends_cell, closes_cell}
 use Rattle.sdd_space.specs.OwnerOrCell.{OwnerOrCell, IsOf}
 use Rattle.sdd_space.specs.OwnerOrCell as holding
 use Rattle.sdd_space.specs.Out.{is_out}
@@ -25,7 +25,9 @@ use Rattle.sdd_script_model.proofs.Stocked.{name-some, slot-inside}
 use Rattle.sdd_script_model.proofs.Dates.{closed-other, dated-same, dated-stands, dated-either}
 use Rattle.sdd_script_model.proofs.Counting.{IsPut, accounts, cell-given, cell-out, cell-spent, put-spent, some-holding, taken-given, tells}
 use Rattle.sdd_script_model.proofs.Links.{closed-bare, same-once}
-use Rattle.sdd_script_model.proofs.Chains.{AtHome, IsMidway, LeavesSound, at_home-given, at_home-spent, finishes, midway-as, moves, retags, retags-link, starts}
+use Rattle.sdd_script_model.proofs.Chains.{AtHome, IsMidway, LeavesSound, at_home-given, at_home-spent, finishes, midway-as, moves, retags, retags-link, shares-one, starts}
+use Rattle.sdd_script_model.proofs.Storing.{BagsStay, off-held, off-other}
+use Rattle.sdd_script_model.specs.Bags.{IsStored}
 
 -- ---- what goes into a cell
 
@@ -130,34 +132,45 @@ module _ (d : ScriptState) (s : IsSound d) where
   pub held-out : (n c k : ℕ) (cell : CellContents) → IsCell d n c cell → cell.held ≡ Some k → is_out (standing_at d.world k) ≡ true
   held-out n c k cell is held = cell-out d (accounts d s) c k (ap held_in is.holds ∙ held)
 
+  -- it is no storage of a bag
+  pub held-apart : (n c k : ℕ) (cell : CellContents) → IsCell d n c cell → cell.held ≡ Some k → IsStored d.bags d.world k → ⊥
+  held-apart n c k cell is held =
+      let h = some-holding cell_of refl (holding_at d.cells n) c is.named in
+      let stays : BagsStay d.bags d.world d.world = λ m b es at stands. stands in
+      let off =
+      off-other d d.world (named d) s.ledger stays c
+      (omega (arith, cell-spent d.owners d.cells d.collectors n c h.0 h.1 h.2 (right_to c), same-once c)) in
+      off-held d d.world (named d) s.ledger stays c k (λ x. off (inl x)) (ap held_in is.holds ∙ held)
+
   pub held-named : (n c k : ℕ) (cell : CellContents) → IsCell d n c cell → cell.held ≡ Some k → IsSome (name_at d k)
-  held-named n c k cell is held = name-some d s.stocked k (held-out n c k cell is held)
+  held-named n c k cell is held = name-some d s.stocked k (held-out n c k cell is held) (held-apart n c k cell is held)
 
   pub held-dated : (n c k : ℕ) (cell : CellContents) → IsCell d n c cell → cell.held ≡ Some k → k < length d.dates
   held-dated n c k cell is held = (slot-inside d s.stocked k (out-some (standing_at d.world k) (held-out n c k cell is held))).1
 
   module _ (whole : IsWhole d.world) where
     -- ---- a cell is made, for owners of the kind of another one
-    module _ (p c : ℕ) (like : Option OwnerOrCell) (x : Option OwnerName) (live : IsPlaceOf d.world p) (free : IsEmptyAt d.world.cells c) (put : IsPut d x) where
-      abbrev pub new_cell : CellContents
-      new_cell = record { held = slot_put d x; tag = no_tag }
+    module _ (p c : ℕ) (like : Option OwnerOrCell) (x : Option OwnerName) (live : IsPlaceOf d.world p) (free : IsEmptyAt d.world.cells c) (put : IsPut d x)
+      where
+        abbrev pub new_cell : CellContents
+        new_cell = record { held = slot_put d x; tag = no_tag }
 
-      abbrev pub after_celled : ScriptState
-      after_celled = record d {
-        world = with_cell d.world c new_cell;
-        owners = owners_put d.owners x;
-        cells = d.cells ++ Some (cell_as like c d) ∷ [];
-      }
+        abbrev pub after_celled : ScriptState
+        after_celled = record d {
+          world = with_cell d.world c new_cell;
+          owners = owners_put d.owners x;
+          cells = d.cells ++ Some (cell_as like c d) ∷ [];
+        }
 
-      pub celled-leaves : LeavesSound d after_celled
-      celled-leaves =
-          let left = owners_put d.owners x in
-          finishes d after_celled.world left after_celled.cells d.collectors d.dates s
-          (moves (starts d s whole) (makes_cell d.world c new_cell free) tt (named_among left d.cells d.collectors)
-          (put-spent d d.cells d.collectors x put) (λ u never. absurd never))
-          (cell-given left d.cells d.collectors (cell_as like c d) c (cell_as-number like c d))
-          (put-home d x s.home.owners, at_home-given d.world.home d.cells (cell_as like c d) (cell_as-home like c d) s.home.cells, s.home.collectors)
-          (dated-same d after_celled refl refl) p live
+        pub celled-leaves : LeavesSound d after_celled
+        celled-leaves =
+            let left = owners_put d.owners x in
+            finishes d after_celled.world left after_celled.cells d.collectors d.dates s
+            (moves (starts d s whole) (makes_cell d.world c new_cell free) tt (named_among left d.cells d.collectors)
+            (put-spent d d.cells d.collectors x put) (λ u never. absurd never))
+            (cell-given left d.cells d.collectors (cell_as like c d) c (cell_as-number like c d))
+            (put-home d x s.home.owners, at_home-given d.world.home d.cells (cell_as like c d) (cell_as-home like c d) s.home.cells, s.home.collectors)
+            (dated-same d after_celled refl refl) p live
 
     -- ---- the tag of a cell changes alone: what it holds goes out, and in again
     module _ (p c : ℕ) (cell : CellContents) (live : IsPlaceOf d.world p) (holds : entry_at d.world.cells c ≡ Some cell) (tag : Tag) where
@@ -177,12 +190,12 @@ module _ (d : ScriptState) (s : IsSound d) where
           (omega (arith, cell-spent d.owners d.cells d.collectors n c h.0 h.1 h.2 (right_to c), same-once c)))
 
       -- or of the link of an item
-      pub link-leaves : (k : ℕ) (x : Val) → value_at d.world k ≡ Some x → link_of x ≡ c → tag ≢ Both → cell.tag ≢ Second →
+      pub link-leaves : (k : ℕ) (x : Val) → (IsStored d.bags d.world k → ⊥) → value_at d.world k ≡ Some x → link_of x ≡ c → tag ≢ Both → cell.tag ≢ Second →
           LeavesSound d after_tagged
-      link-leaves k x there is plain kept =
+      link-leaves k x off there is plain kept =
           let linked = ap (λ (i : ℕ). entry_at d.world.cells i) is ∙ holds in
           retagged-leaves (subst (λ (i : ℕ). IsMidway d (with_cell d.world i (record cell { tag = tag })) (named d)) is
-          (retags-link (starts d s whole) k x cell (record cell { tag = tag }) there linked refl plain kept))
+          (retags-link (starts d s whole) k x cell (record cell { tag = tag }) off there linked refl plain kept))
 
     -- ---- a cell with a name
     module _ (p n c : ℕ) (cell : CellContents) (live : IsPlaceOf d.world p) (is : IsCell d n c cell) where
@@ -279,9 +292,10 @@ module _ (d : ScriptState) (s : IsSound d) where
         after_copied = copied_as cell.held
 
         -- the owner more is in hand
-        shared-once : (held : Option ℕ) → MayShare d.world held owners → IsMidway d (shared_once_more d.world held owners) (λ u. named d u + owner_held held u)
-        shared-once None may = midway-as (starts d s whole) (λ u. omega arith)
-        shared-once (Some k) may = moves (starts d s whole) (shares d.world k owners may.0) tt (named d) (λ u. omega arith) (λ u never. absurd never)
+        shared-once : (held : Option ℕ) → cell.held ≡ held → MayShare d.world held owners →
+            IsMidway d (shared_once_more d.world held owners) (λ u. named d u + owner_held held u)
+        shared-once None e may = midway-as (starts d s whole) (λ u. omega arith)
+        shared-once (Some k) e may = shares-one (starts d s whole) k owners may.0 (held-apart n c k cell is e)
 
         still-free : (held : Option ℕ) → IsEmptyAt (shared_once_more d.world held owners).cells other
         still-free None = free
@@ -295,7 +309,7 @@ module _ (d : ScriptState) (s : IsSound d) where
         copied-leaves =
             let h = holding.atomic_shared other d.world.home.cells in
             finishes d after_copied.world d.owners after_copied.cells d.collectors d.dates s
-            (moves (shared-once cell.held may) (makes_cell (shared_once_more d.world cell.held owners) other cell (still-free cell.held)) tt (named d)
+            (moves (shared-once cell.held refl may) (makes_cell (shared_once_more d.world cell.held owners) other cell (still-free cell.held)) tt (named d)
             (λ u. refl) (λ u never. absurd never))
             (cell-given d.owners d.cells d.collectors h other refl)
             (s.home.owners, at_home-given d.world.home d.cells h refl s.home.cells, s.home.collectors) (once-dated cell.held) p live

@@ -1,23 +1,28 @@
 -- A line as a chain of calls of its world, each with what it takes from outside and what it gives
-use Rattle.std.specs.Prelude.{◌*◌, ◌^◌, max}
-use Rattle.std.proofs.Common.{◌≡◌, ◌≢◌, ℕ, ◌+◌, ◌≤◌, List, [], ◌∷◌, ◌++◌, Option, Some, None, is_some, length, slice_set, inl, inr, refl, sym, ap, ◌∙◌, subst, arith}
+use Rattle.std.specs.Prelude.{◌*◌, ◌^◌, max, if◌then◌else◌}
+use Rattle.std.proofs.Common.{◌≡◌, ◌≢◌, Bool, true, false, ℕ, ◌+◌, ◌≤◌, List, [], ◌∷◌, ◌++◌, Option, Some, None, is_some, length, slice_set, inl, inr, refl, sym, ap, ◌∙◌, subst, arith}
+use Rattle.sdd_core.specs.declared.tag.Tag.{Tag}
 use Rattle.sdd_core.specs.declared.tag.Tag.TheVariants.{Both, Second}
 use Rattle.sdd_participants.specs.Slab.{entry_at}
 use Rattle.sdd_participants.specs.declared.standing.Standing.TheVariants.{Owned, Shared}
 use Rattle.sdd_participants.specs.declared.standing.CellContents.{CellContents}
 use Rattle.sdd_space.specs.Ledger.{Claim, owner_of, right_to, claims, one, times_kept, HasOwners, IsLedger, Keeps, Moves, Sets}
-use Rattle.sdd_space.specs.Ledger.Moves.{changes_cell, edits}
+use Rattle.sdd_space.specs.Ledger.Moves.{changes_cell, edits, shares}
 use Rattle.sdd_space.specs.OwnerCounts.{holds_slot, is_of, times_held}
 use Rattle.sdd_space.specs.OwnerOrCell.{OwnerOrCell, SpaceId, IsOf}
 use Rattle.sdd_space.specs.InPlace.{IsAlone, MayInPlace}
 use Rattle.sdd_space.specs.World.{World, IsPlaceOf, standing_at, value_at}
-use Rattle.sdd_space.specs.WorldChanges.{with_cell, with_value}
+use Rattle.sdd_space.specs.WorldChanges.{held_in, with_cell, with_standing, with_value}
 use Rattle.sdd_space.specs.WorldInvariant.{IsWhole}
 use Rattle.sdd_space.proofs.Accounts.{accounted-with_cell, accounted-with_value}
 use Rattle.sdd_space.proofs.Ledger.{ledger-laws}
 use Rattle.sdd_space.proofs.Rights.{held-cell_changed, held-with_value}
 use Rattle.sdd_space.proofs.Whole.{one_where}
 use Rattle.sdd_script_model.specs.Val.{Val, body_of, holdings_of, link_of, owner_in}
+use Rattle.sdd_standings.specs.Slots.{IsSharedBy}
+use Rattle.sdd_lists.specs.Ends.{IsAmong}
+use Rattle.sdd_lists.specs.Lists.{Entry, IsList, is_deleted, left as left_of}
+use Rattle.sdd_script_model.specs.Bags.{AreBags, AreSpare, IsStored}
 use Rattle.sdd_script_model.specs.Listed.{HasLists, IsListed}
 use Rattle.sdd_script_model.specs.ScriptState.{ScriptState, IsDated, IsListCell, IsSecondCell, holding_at, shared_cell}
 use Rattle.sdd_script_model.specs.Script.{AreCalls}
@@ -30,9 +35,10 @@ use Rattle.sdd_script_model.proofs.JobDates.{by-keeping}
 use Rattle.sdd_script_model.proofs.Kept.{kept-by, were-same}
 use Rattle.sdd_script_model.proofs.Layers.{layered-less}
 use Rattle.sdd_script_model.proofs.Counting.{some-holding, stack-spent}
-use Rattle.sdd_script_model.proofs.Links.{holds-so, same-once}
+use Rattle.sdd_script_model.proofs.Links.{holds-so, less-edited, less-same, same-once}
 use Rattle.sdd_script_model.proofs.ListChanges.{has-beside, has-edited, has-retagged}
-use Rattle.sdd_script_model.proofs.Listed.{AreOwn, has-still, listed-inside}
+use Rattle.sdd_script_model.proofs.Listed.{AreOwn, has-still, has-stored, listed-inside}
+use Rattle.sdd_script_model.proofs.Storing.{BagsStay, IsReserved, Spares, bags-still, off-among, off-link, off-other, off-owned, spare-as, spare-on, stays-as, stays-on, stored-still}
 use Rattle.sdd_script_model.proofs.Stocked.{stocked-as}
 
 -- what has a name is at home
@@ -68,14 +74,17 @@ IsSameLine d new =
 
 -- what is always true is so after calls that pass, of which one is p's
 pub sound-after : (d new : ScriptState) → IsSound d → Passes d.world new.world → IsSameLine d new → IsDated d new → (p : ℕ) → IsPlaceOf d.world p →
-    SlotsHaveNames new → IsLedger holdings_of (λ u. named new u + contained new u) new.world → HasLists (IsListCell new) (IsSecondCell new) new.world →
-    HoldsOnlyOlder new → NamesAreAtHome new → new.world.tally.made ≤ length new.slots + new.moment * 2 ^ 32 → IsSound new
-sound-after d new s passes (moment, places, guards, jobs, deferred, job_dates) dated p live stocked ledger lists layered home made =
+    SlotsHaveNames new → IsLedger holdings_of (λ u. named new u + contained new u) new.world →
+    HasLists (IsListCell new) (IsSecondCell new) (IsStored new.bags new.world) new.world →
+    AreBags new → AreSpare new.world → HoldsOnlyOlder new → NamesAreAtHome new → new.world.tally.made ≤ length new.slots + new.moment * 2 ^ 32 → IsSound new
+sound-after d new s passes (moment, places, guards, jobs, deferred, job_dates) dated p live stocked ledger lists bags spare layered home made =
     let were = were-same d new places passes.guards.guards in
     record {
       stocked = stocked;
       ledger = ledger;
       lists = lists;
+      bags = bags;
+      spare = spare;
       layered = layered;
       home = home;
       attended = attended-acts d new s.attended passes.guards places guards (omega (arith, moment)) p live;
@@ -89,10 +98,12 @@ sound-after d new s passes (moment, places, guards, jobs, deferred, job_dates) d
 
 -- ---- chains
 
--- the script began the line as d, and so much is outside its world by now, beside its queues and stacks
+-- the script began the line as d, and so much is outside its world by now, beside its queues, stacks and bags
 pub record IsMidway (d : ScriptState) (w : World Val) (outside : Claim → ℕ) : Type 0 where
   pub ledger : IsLedger holdings_of (λ u. outside u + contained d u) w
-  pub lists : HasLists (IsListCell d) (IsSecondCell d) w
+  pub lists : HasLists (IsListCell d) (IsSecondCell d) (IsStored d.bags d.world) w
+  pub bags : BagsStay d.bags d.world w
+  pub spare : AreSpare w
   pub whole : IsWhole w
   pub frames : Frames d.world w
 
@@ -142,14 +153,82 @@ own-midway {d} {w} {outside} m =
     are-own d w (λ u. outside u + contained d u) (λ u. outside u + contained d u) m.ledger (λ u. omega arith) (λ u. omega arith)
 
 pub starts : (d : ScriptState) → IsSound d → IsWhole d.world → IsMidway d d.world (named d)
-starts d s whole = record { ledger = s.ledger; lists = s.lists; whole = whole; frames = frames-start d.world }
+starts d s whole = record {
+  ledger = s.ledger;
+  lists = s.lists;
+  bags = λ n b es is stands. stands;
+  spare = s.spare;
+  whole = whole;
+  frames = frames-start d.world;
+}
 
--- a quiet call takes some of it, and gives some. A cell that it sets is that of a right outside
-pub moves : {d : ScriptState} {v w : World Val} {outside ins outs : Claim → ℕ} → IsMidway d v outside → (move : Moves holdings_of v ins w outs) → IsQuiet move →
-    (rest : Claim → ℕ) → ((u : Claim) → outside u ≡ rest u + ins u) → ((u : Claim) → Sets holdings_of move u → 1 ≤ rest u) →
+-- what is left of a list is of it
+left-among : (s : ℕ) (es : List (Entry Val)) → IsAmong s (left_of es) → IsAmong s es
+left-among s [] among = among
+left-among s (e ∷ es) among = by (is_deleted e) among (left-among s es) where
+  by : (b : Bool) → IsAmong s (if b then left_of es else e ∷ es) → (IsAmong s (left_of es) → IsAmong s es) → IsAmong s (e ∷ es)
+  by true among more = inr (more among)
+  by false among more = among
+
+-- ---- cells of storages, and their items, are apart
+
+module _ {d : ScriptState} {w : World Val} {outside : Claim → ℕ} (m : IsMidway d w outside) where
+  -- from what is somebody's outside
+  pub own-apart : (c : ℕ) → 1 ≤ outside (right_to c) → IsReserved d w c → ⊥
+  own-apart c mine = off-other d w outside m.ledger m.bags c (omega (arith, mine))
+
+  pub owned-apart : (k : ℕ) → 1 ≤ outside (owner_of k) → IsStored d.bags d.world k → ⊥
+  owned-apart k mine = off-owned d w outside m.ledger m.bags k mine
+
+  -- from a queue's and a stack's
+  pub list-apart-from : (c : ℕ) → IsListCell d c → IsReserved d w c → ⊥
+  list-apart-from c x = off-other d w outside m.ledger m.bags c (omega (arith, list-part d c x))
+
+  pub second-apart-from : (c b : ℕ) → IsSecondCell d c b → IsReserved d w b → ⊥
+  second-apart-from c b (n, oldest, newest) = off-other d w outside m.ledger m.bags b (omega (arith, stacked-right d.newest n b newest))
+
+  -- from the items of a list, and the links of other items
+  pub among-apart : (c s : ℕ) (t : Tag) (es : List (Entry Val)) → (IsReserved d w c → ⊥) → IsList link_of w c t es → IsAmong s es →
+      IsStored d.bags d.world s → ⊥
+  among-apart c s t es off list among = off-among d w outside m.ledger m.bags c s es off (ap held_in list.begins) list.linked among
+
+  -- from what is left of it
+  pub left-apart : (c s : ℕ) (t : Tag) (es : List (Entry Val)) → (IsReserved d w c → ⊥) → IsList link_of w c t es → (e : Entry Val) (rest : List (Entry Val)) →
+      left_of es ≡ e ∷ rest → e.slot ≡ s → IsStored d.bags d.world s → ⊥
+  left-apart c s t es off list e rest first here =
+      among-apart c s t es off list (left-among s es (subst (λ (fs : List (Entry Val)). IsAmong s fs) (sym first) (inl here)))
+
+  pub link-apart-from : (s : ℕ) (v : Val) → value_at w s ≡ Some v → (IsStored d.bags d.world s → ⊥) → IsReserved d w (link_of v) → ⊥
+  link-apart-from s v there not = off-link d w outside m.ledger m.bags s v there not
+
+-- a quiet call that makes no owner more
+abbrev pub IsPlain : {v w : World Val} {ins outs : Claim → ℕ} → Moves holdings_of v ins w outs → Type 0
+IsPlain (shares w k n is) = ⊥
+IsPlain other = IsQuiet other
+
+plain-quiet : {v w : World Val} {ins outs : Claim → ℕ} → (move : Moves holdings_of v ins w outs) → IsPlain move → IsQuiet move
+plain-quiet (shares w k n is) plain = absurd plain
+plain-quiet other plain = plain
+
+plain-spares : (d : ScriptState) {v w : World Val} {ins outs : Claim → ℕ} → (move : Moves holdings_of v ins w outs) → IsPlain move →
+    ((c : ℕ) → Sets holdings_of move (right_to c) → IsReserved d v c → ⊥) → Spares d move
+plain-spares d (shares w k n is) plain off = absurd plain
+plain-spares d (changes_cell w c old cell is) plain off = off c refl
+plain-spares d other plain off = tt
+
+-- a quiet call takes some of it, and gives some
+moves-so : {d : ScriptState} {v w : World Val} {outside ins outs : Claim → ℕ} → IsMidway d v outside → (move : Moves holdings_of v ins w outs) → IsQuiet move →
+    Spares d move → (rest : Claim → ℕ) → ((u : Claim) → outside u ≡ rest u + ins u) → ((u : Claim) → Sets holdings_of move u → 1 ≤ rest u) →
     IsMidway d w (λ u. rest u + outs u)
-moves {d} {v} {w} {outside} {ins} {outs} m move quiet rest same own =
-    record { ledger = after; lists = lists; whole = kept.whole; frames = frames-on m.frames m.whole move quiet } where
+moves-so {d} {v} {w} {outside} {ins} {outs} m move quiet off rest same own =
+    record {
+      ledger = after;
+      lists = lists;
+      bags = stays-on d move m.whole rest before off m.bags;
+      spare = spare-on d move m.whole rest before off m.spare (quiet-less move quiet);
+      whole = kept.whole;
+      frames = frames-on m.frames m.whole move quiet;
+    } where
       kept : Keeps holdings_of move
       kept = (ledger-laws holdings_of v).kept m.whole ins outs w move
 
@@ -168,11 +247,25 @@ moves {d} {v} {w} {outside} {ins} {outs} m move quiet rest same own =
           let one = ((ledger-laws holdings_of v).tells (λ u. all u + ins u) before).alone c (omega (arith, other)) in
           omega (arith, one.1, mine, other)
 
-      lists : HasLists (IsListCell d) (IsSecondCell d) w
+      lists : HasLists (IsListCell d) (IsSecondCell d) (IsStored d.bags d.world) w
       lists =
-          has-still move m.whole all before (λ u sets. omega (arith, own u sets)) (IsListCell d) (IsSecondCell d)
+          has-still move m.whole all before (λ u sets. omega (arith, own u sets)) (IsListCell d) (IsSecondCell d) (IsStored d.bags d.world)
           (are-own d v all (λ u. all u + ins u) before (λ u. omega arith) (λ u. omega arith)) (λ c x. spares c (list-right d c x))
           (λ c b y. spares b (second-right d c b y)) m.lists (quiet-less move quiet)
+
+-- a quiet call takes some of it, and gives some. A cell that it sets is that of a right outside
+pub moves : {d : ScriptState} {v w : World Val} {outside ins outs : Claim → ℕ} → IsMidway d v outside → (move : Moves holdings_of v ins w outs) → IsPlain move →
+    (rest : Claim → ℕ) → ((u : Claim) → outside u ≡ rest u + ins u) → ((u : Claim) → Sets holdings_of move u → 1 ≤ rest u) →
+    IsMidway d w (λ u. rest u + outs u)
+moves {d} m move plain rest same own =
+    moves-so m move (plain-quiet move plain)
+    (plain-spares d move plain (λ c sets. own-apart m c (omega (arith, own (right_to c) sets, same (right_to c))))) rest same own
+
+-- one owner more is made of an item that is no storage, and is in hand
+pub shares-one : {d : ScriptState} {v : World Val} {outside : Claim → ℕ} → IsMidway d v outside → (k n : ℕ) → IsSharedBy n (standing_at v k) →
+    (IsStored d.bags d.world k → ⊥) → IsMidway d (with_standing v k (Shared (n + 1))) (λ u. outside u + one (owner_of k) u)
+shares-one {v = v} {outside = outside} m k n is off =
+    moves-so m (shares v k n is) tt off outside (λ u. omega arith) (λ u never. absurd never)
 
 -- what is outside is no queue's or stack's
 pub cell-apart : {d : ScriptState} {w : World Val} {outside : Claim → ℕ} → IsMidway d w outside → (c : ℕ) → 1 ≤ outside (right_to c) → (b : ℕ) →
@@ -209,12 +302,17 @@ tagged-ledger outside w c cell now is same ledger (right_to b) =
 
 module _ {d : ScriptState} {w : World Val} {outside : Claim → ℕ} (m : IsMidway d w outside) (c : ℕ) (cell now : CellContents)
     (is : entry_at w.cells c ≡ Some cell) (same : now.held ≡ cell.held) where
-  pub tagged : HasLists (IsListCell d) (IsSecondCell d) (with_cell w c now) → IsMidway d (with_cell w c now) outside
-  tagged lists =
+  pub tagged : (IsReserved d w c → ⊥) → HasLists (IsListCell d) (IsSecondCell d) (IsStored d.bags d.world) (with_cell w c now) →
+      IsMidway d (with_cell w c now) outside
+  tagged off lists =
       let move = changes_cell w c cell now is in
+      let far : (b : ℕ) → IsReserved d w b → b ≢ c = λ b x at. off (subst (λ (i : ℕ). IsReserved d w i) at x) in
       record {
         ledger = tagged-ledger (λ u. outside u + contained d u) w c cell now is same m.ledger;
         lists = lists;
+        bags = stays-as d w (with_cell w c now) m.bags (λ b x. at-other w.cells c b (Some now) None (far b (inl x))) (λ s x. (refl, refl));
+        spare = spare-as w (with_cell w c now) (less-same w (with_cell w c now) refl)
+            (λ b x. ap held_in (at-other w.cells c b (Some now) None (far b (inr x)))) m.spare;
         whole = ((ledger-laws holdings_of w).kept m.whole _ _ (with_cell w c now) move).whole;
         frames = frames-on m.frames m.whole move tt;
       }
@@ -222,16 +320,19 @@ module _ {d : ScriptState} {w : World Val} {outside : Claim → ℕ} (m : IsMidw
   -- such a cell is somebody's outside
   pub retags : 1 ≤ outside (right_to c) → IsMidway d (with_cell w c now) outside
   retags mine =
-      tagged (has-beside (IsListCell d) (IsSecondCell d) w (λ u. outside u + contained d u) m.ledger m.lists c (omega (arith, mine))
+      tagged (own-apart m c mine) (has-beside (IsListCell d) (IsSecondCell d) (IsStored d.bags d.world) w (λ u. outside u + contained d u) m.ledger m.lists c
+      (omega (arith, mine))
       (λ b x. cell-apart m c mine b (list-right d b x)) (λ a b y. cell-apart m c mine b (second-right d a b y)) now)
 
 -- or it is the link of an item
 pub retags-link : {d : ScriptState} {w : World Val} {outside : Claim → ℕ} → IsMidway d w outside → (k : ℕ) (x : Val) (cell now : CellContents) →
-    value_at w k ≡ Some x → entry_at w.cells (link_of x) ≡ Some cell → now.held ≡ cell.held → now.tag ≢ Both → cell.tag ≢ Second →
+    (IsStored d.bags d.world k → ⊥) → value_at w k ≡ Some x → entry_at w.cells (link_of x) ≡ Some cell → now.held ≡ cell.held → now.tag ≢ Both →
+    cell.tag ≢ Second →
     IsMidway d (with_cell w (link_of x) now) outside
-retags-link {d} {w} {outside} m k x cell now there is same plain kept =
-    tagged m (link_of x) cell now is same
-    (has-retagged (IsListCell d) (IsSecondCell d) w (λ u. outside u + contained d u) m.ledger (own-midway m) m.lists k x there cell now is same plain kept)
+retags-link {d} {w} {outside} m k x cell now off there is same plain kept =
+    tagged m (link_of x) cell now is same (link-apart-from m k x there off)
+    (has-retagged (IsListCell d) (IsSecondCell d) (IsStored d.bags d.world) w (λ u. outside u + contained d u) m.ledger (own-midway m) m.lists k x there cell
+    now is same plain kept)
 
 -- a value is another in its place, with the same link and the same owner, and somebody outside has its one owner
 pub edited : {d : ScriptState} {w : World Val} {outside : Claim → ℕ} → IsMidway d w outside → (k : ℕ) (was now : Val) → (may : MayInPlace w k) →
@@ -240,11 +341,15 @@ pub edited : {d : ScriptState} {w : World Val} {outside : Claim → ℕ} → IsM
 edited {d} {w} {outside} m k was now may there link body mine =
     record {
       ledger = ledger;
-      lists = has-edited (IsListCell d) (IsSecondCell d) w m.lists k was now there link (alone-unlisted m k may.alone mine);
+      lists = has-edited (IsListCell d) (IsSecondCell d) (IsStored d.bags d.world) w m.lists k was now there link (alone-unlisted m k may.alone mine);
+      bags = stays-as d w (with_value w k now) m.bags (λ c x. refl)
+          (λ s x. (at-other w.values k s (Some now) None (λ same. owned-apart m k mine (subst (λ (i : ℕ). IsStored d.bags d.world i) same x)), refl));
+      spare = spare-as w (with_value w k now) (less-edited w k was now there link body) (λ c x. refl) m.spare;
       whole = kept.whole;
       frames = frames-on m.frames m.whole move (link, body);
     } where
-      move : Moves holdings_of w (λ u. one (owner_of k) u + claims (holdings_of now) u) (with_value w k now) (λ u. one (owner_of k) u + claims (holdings_of was) u)
+      move : Moves holdings_of w (λ u. one (owner_of k) u + claims (holdings_of now) u) (with_value w k now)
+          (λ u. one (owner_of k) u + claims (holdings_of was) u)
       move = edits w k was now may there
 
       kept : Keeps holdings_of move
@@ -266,7 +371,14 @@ edited {d} {w} {outside} m k was now may there link body mine =
 
 -- as much is outside, counted otherwise
 pub midway-as : {d : ScriptState} {w : World Val} {outside now : Claim → ℕ} → IsMidway d w outside → ((u : Claim) → now u ≡ outside u) → IsMidway d w now
-midway-as m same = record { ledger = λ u. omega (arith, m.ledger u, same u); lists = m.lists; whole = m.whole; frames = m.frames }
+midway-as m same = record {
+  ledger = λ u. omega (arith, m.ledger u, same u);
+  lists = m.lists;
+  bags = m.bags;
+  spare = m.spare;
+  whole = m.whole;
+  frames = m.frames;
+}
 
 -- the line ends, with these names and dates: all that is outside has a name
 module _ (d : ScriptState) (w : World Val) (owners cells collectors : List (Option OwnerOrCell)) (dates : List ℕ) where
@@ -278,11 +390,13 @@ module _ (d : ScriptState) (w : World Val) (owners cells collectors : List (Opti
       LeavesSound d left
   finishes s m same home dated p live =
       let f = m.frames in
+      let stored = stored-still d left refl m.bags in
       record {
         line = refl;
         places = refl;
         sound = sound-after d left s f.passes (refl, refl, refl, refl, refl, refl) dated p live
-            (stocked-as d left s.stocked refl refl dated.long f.slots) (λ u. omega (arith, m.ledger u, same u)) m.lists
+            (stocked-as d left s.stocked refl refl dated.long f.slots stored) (λ u. omega (arith, m.ledger u, same u)) (has-stored stored m.lists)
+            (bags-still d left s.bags refl m.bags f.slots.home (λ k x. refl)) m.spare
             (layered-less d left s.layered f.values refl)
             (rw f.slots.home (record {
               owners = home.0;

@@ -1,35 +1,35 @@
 -- A queue or a stack that a line filled is closed in it, and its items lose their names
-use Rattle.std.proofs.Common.{◌≡◌, ◌≢◌, ◌⊎◌, ◌+◌, ◌-◌, ◌<◌, ◌≤◌, inl, inr, ℕ, List, [], ◌∷◌, ◌++◌, Bool, true, false, nat_lt, Option, Some, None, IsSome, is_some, length, map, slice_index_or, slice_set, if◌then◌else◌, refl, sym, ap, ◌∙◌, subst, arith}
+use Rattle.std.proofs.Common.{◌≡◌, ◌⊎◌, ◌+◌, ◌<◌, ◌≤◌, inl, inr, ℕ, List, [], ◌∷◌, ◌++◌, Bool, true, false, Option, Some, None, IsSome, is_some, length, map, slice_index_or, slice_set, if◌then◌else◌, refl, sym, ap, ◌∙◌, subst, arith}
 use Rattle.std.specs.Prelude.{◌*◌, ◌^◌, ◌&&◌, not}
 use Rattle.std.proofs.Common.{zero, suc}
 use Rattle.std.proofs.lemmas.Bool.{cases_eq, cases_lt, false≢true}
-use Rattle.std.proofs.lemmas.List.{length-append, length-set, length-map}
+use Rattle.std.proofs.lemmas.List.{length-append, length-set}
 use Rattle.sdd_core.specs.declared.tag.Tag.{Tag}
-use Rattle.sdd_core.specs.declared.tag.Tag.TheVariants.{None as no_tag, Second}
+use Rattle.sdd_core.specs.declared.tag.Tag.TheVariants.{Second}
 use Rattle.sdd_participants.specs.declared.standing.Standing.{Standing}
 use Rattle.sdd_participants.specs.declared.standing.Standing.TheVariants.{Owned, Raw, Shared, Retired, Private}
 use Rattle.sdd_standings.specs.Slots.{is_waiting}
 use Rattle.sdd_space.specs.Ledger.{Claim}
 use Rattle.sdd_space.specs.OwnerOrCell.{OwnerOrCell}
 use Rattle.sdd_space.specs.OwnerCounts.{times_held}
-use Rattle.sdd_space.specs.Out.{is_out}
 use Rattle.sdd_space.specs.World.{World, standing_at, value_at}
-use Rattle.sdd_space.specs.WorldChanges.{owner_given, retired, spilled, with_cell}
+use Rattle.sdd_space.specs.WorldChanges.{owner_given, with_cell}
 use Rattle.sdd_space.proofs.Accounts.{in_value-out}
-use Rattle.sdd_space.proofs.Standings.{out-some, out-waits-not}
+use Rattle.sdd_space.proofs.Standings.{out-waits-not}
 use Rattle.sdd_lists.specs.Ends.{IsAmong}
 use Rattle.sdd_lists.specs.Lists.{Entry, emptied, first_slot, let_go_first}
 use Rattle.sdd_script_model.specs.Copies.{LosesNames}
-use Rattle.sdd_script_model.specs.Listed.{HasLists}
-use Rattle.sdd_script_model.specs.ScriptState.{ScriptState, IsListCell, IsSecondCell, holding_at, name_at, names_from, shared_cell, slot_at}
+use Rattle.sdd_script_model.specs.Bags.{IsStored}
+use Rattle.sdd_script_model.specs.ScriptState.{ScriptState, IsListCell, holding_at, name_at, names_from, shared_cell}
 use Rattle.sdd_script_model.specs.Shown.{number_in}
-use Rattle.sdd_script_model.specs.Sound.{IsCalled, IsSound, contained, named_owners, stacked}
+use Rattle.sdd_script_model.specs.Sound.{IsCalled, IsSound, contained, named, named_owners, stacked}
 use Rattle.sdd_script_model.specs.Val.{Val, holdings_of, link_of}
 use Rattle.sdd_script_model.proofs.Counting.{accounts, stack-given, stack-spent}
-use Rattle.sdd_script_model.proofs.Entry.{at-end, at-other, at-pushed, at-same}
+use Rattle.sdd_script_model.proofs.Entry.{at-end, at-other, at-same}
 use Rattle.sdd_script_model.proofs.Entry.{inside as inside-list}
 use Rattle.sdd_script_model.proofs.Gone.{given-other}
 use Rattle.sdd_script_model.proofs.ListChanges.{among-or}
+use Rattle.sdd_script_model.proofs.Storing.{off-standing}
 
 -- ---- what has one owner waits once that is given up, and what waits goes on to
 
@@ -191,11 +191,17 @@ module _ (new was : ScriptState) (es : List (Entry Val)) (queues newest stacks :
         let its = kept-name j (λ among. absurd (omega (arith, f.bare j k among, some))) in
         omega (arith, s.layered j k some, ap number_in mine, ap number_in its)
 
+    -- a storage doesn't wait
+    stored-idle : (j : ℕ) → IsStored new.bags new.world j → is_waiting (standing_at new.world j) ≡ true → ⊥
+    stored-idle j x waits =
+        off-standing closed new.world (named closed) s.ledger (λ n b gs is stands. stands) j
+        (λ sole. false≢true (sym (ap is_waiting sole) ∙ waits)) x
+
     pub forgotten-sound : IsSound new
     forgotten-sound = record {
       stocked = record {
         named = λ j some. elim (among-or j es) [
-          | inl among ↦ subst (λ (x : Option ℕ). IsCalled new j x) (sym (no-name j among some)) (f.waits j among)
+          | inl among ↦ subst (λ (x : Option ℕ). IsCalled new j x) (sym (no-name j among some)) (inl (f.waits j among))
           | inr not_it ↦ called j not_it (name_at closed j) refl (s.stocked.named j some)
         ];
         names = f.lost.long ∙ sym (names-long was.names (length new.slots) (map (λ (e : Entry Val). e.slot) es)) ∙ s.stocked.names;
@@ -206,7 +212,7 @@ module _ (new was : ScriptState) (es : List (Entry Val)) (queues newest stacks :
       lists = record {
         lists = λ c x. s.lists.lists c (to-list c x);
         apart = λ b c j gs hs x y one two at also. s.lists.apart b c j gs hs (to-list b x) (to-list c y) one two at also;
-        linked = λ j v e. elim (s.lists.linked j v e) [
+        linked = λ j v e not. elim (s.lists.linked j v e not) [
           | inl none ↦ inl none
           | inr at ↦
               inr (record { cell = at.cell; entries = at.entries; begun = from-list at.cell at.begun; list = at.list; among = at.among })
@@ -215,6 +221,15 @@ module _ (new was : ScriptState) (es : List (Entry Val)) (queues newest stacks :
             (let own = s.lists.second c b (n, ap shared_cell (f.in_queues n) ∙ oldest, ap shared_cell (f.in_newest n) ∙ newest_is) in
             (from-list c own.0, own.1));
       };
+      bags = λ n b is.
+          (let was = s.bags n b is in record {
+            bag = was.bag;
+            home = was.home;
+            unnamed = λ gs stands j among.
+                kept-name j (λ mine. stored-idle j (record { entries = gs; storages = record { name = n; bag = b; is = is; stands = stands }; among = among })
+                (f.waits j mine)) ∙ was.unnamed gs stands j among;
+          });
+      spare = s.spare;
       layered = older;
       home = record {
         owners = s.home.owners;

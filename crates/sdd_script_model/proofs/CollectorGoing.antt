@@ -62,7 +62,9 @@ module _ (d : ScriptState) (s : IsSound d) (whole : IsWhole d.world) (p c n : �
       1 ≤ times_in k (owners_in d.world (slots_among gone))
   begins-given k now idle =
       all-give p d.world k gone start (λ j some. waits-for j some) (record {
-        bare = λ j v e waits. freed-bare d.world.cells c (link_of v) (waiting-bare d s j v e waits);
+        bare = λ j v e waits.
+            (let its = waiting-bare d s j v e waits in
+            (freed-bare d.world.cells c (link_of v) its.0, λ st is. freed-bare d.world.cells c st.cell (its.1 st is)));
         values = λ j v h. h;
         idle = idle;
       }) now

@@ -1,5 +1,5 @@
 -- What a line that copies a queue or a stack gives a participant: what it lets go of waits there, and nothing else of the time changes
-use Rattle.std.proofs.Common.{◌<◌, ℕ, List, [], Option, length, refl, sym, subst}
+use Rattle.std.proofs.Common.{◌<◌, ℕ, List, Option, length, refl, sym, subst}
 use Rattle.sdd_core.specs.declared.tag.Tag.TheVariants.{None as no_tag}
 use Rattle.sdd_participants.specs.declared.standing.Standing.TheVariants.{Shared as shared_by}
 use Rattle.sdd_space.specs.Shared.{slot_of}

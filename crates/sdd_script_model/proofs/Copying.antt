@@ -1,12 +1,9 @@
 -- What is always true of a desk is true after a line that copies a queue or a stack, whether it is refused or not
-use Rattle.std.proofs.Common.{◌≡◌, ◌≢◌, ◌⊎◌, ◌+◌, ◌<◌, ◌≤◌, inl, inr, ℕ, List, [], ◌∷◌, ◌++◌, Bool, true, false, if◌then◌else◌, Option, Some, None, is_some, length, map, count_by, slice_index_or, slice_set, refl, sym, zero, suc, ap, ◌∙◌, subst, arith}
+use Rattle.std.proofs.Common.{◌≡◌, ◌≢◌, ◌+◌, ◌<◌, ◌≤◌, inl, inr, ℕ, List, [], ◌∷◌, ◌++◌, Bool, true, false, if◌then◌else◌, Option, Some, None, length, map, count_by, slice_index_or, slice_set, refl, sym, zero, suc, ap, ◌∙◌, subst, arith}
 use Rattle.std.specs.Prelude.{◌*◌, ◌^◌, not}
 use Rattle.std.proofs.lemmas.Bool.{cases_eq}
 use Rattle.std.proofs.lemmas.List.{length_push, length-set}
 use Rattle.sdd_core.specs.declared.tag.Tag.TheVariants.{None as no_tag}
-use Rattle.sdd_participants.specs.declared.standing.Standing.TheVariants.{Shared as shared_by}
-use Rattle.sdd_participants.specs.Slab.{IsEmptyAt}
-use Rattle.sdd_space.specs.Ledger.{Claim}
 use Rattle.sdd_space.specs.OwnerOrCell.{OwnerOrCell}
 use Rattle.sdd_space.specs.OwnerOrCell as holding
 use Rattle.sdd_space.specs.OwnerCounts.{is_owner_of, times_held}
@@ -21,29 +18,28 @@ use Rattle.sdd_lists.specs.Queue.{IsQueue, QueueCells, queue_closed}
 use Rattle.sdd_lists.proofs.Few.{no-longer}
 use Rattle.sdd_lists.proofs.Lists.{inside}
 use Rattle.sdd_script_model.specs.declared.val.Body.{Body}
-use Rattle.sdd_script_model.specs.declared.val.Body.TheVariants.{Number, Owned, Shared}
+use Rattle.sdd_script_model.specs.declared.val.Body.TheVariants.{Number, Owned, Shared, Storage}
 use Rattle.sdd_script_model.specs.Copies.{ArePlain, LosesNames, MakesQueueOf, MakesStackOf, entry_slots}
 use Rattle.sdd_script_model.specs.Listed.{AreNumbers, Begins, IsNumber}
 use Rattle.sdd_script_model.specs.Queues.{IsNamedQueue}
 use Rattle.sdd_script_model.specs.ScriptState.{BeginsLine, ScriptState, holding_at, in_world, shared_cell, with_items, with_queue, with_stack}
-use Rattle.sdd_script_model.specs.Sound.{IsSound, contained, stacked}
+use Rattle.sdd_script_model.specs.Sound.{IsSound, stacked}
 use Rattle.sdd_script_model.specs.Stacks.{IsStack, stack_closed}
 use Rattle.sdd_script_model.specs.Val.{Val, body_of, holdings_of, link_of, owner_in}
 use Rattle.sdd_script_model.proofs.Chains.{LeavesSound}
 use Rattle.sdd_script_model.proofs.Closing.{IsForgotten, IsLone, emptied-waits, forgotten-sound, spent-counts, spent-last}
-use Rattle.sdd_script_model.proofs.Counting.{times-held, times_in}
+use Rattle.sdd_script_model.proofs.Counting.{times-held}
 use Rattle.sdd_script_model.proofs.Dates.{dated-kept}
 use Rattle.sdd_script_model.proofs.Due.{whole-calls}
 use Rattle.sdd_script_model.proofs.Entry.{at-end, at-other, at-same}
-use Rattle.sdd_script_model.proofs.Filling.{AreAllNumbers, AreLone, IsFilled, filled_with, fills-queue, fills-stack, one-less, spilled-other, still-whole}
-use Rattle.sdd_script_model.proofs.Frames.{Frames}
+use Rattle.sdd_script_model.proofs.Filling.{AreAllNumbers, IsFilled, filled_with, fills-queue, fills-stack, one-less, spilled-other, still-whole}
+use Rattle.sdd_script_model.proofs.Frames.{Frames, calls-then}
 use Rattle.sdd_script_model.proofs.Layers.{filled-long}
 use Rattle.sdd_script_model.proofs.Links.{HoldsLess, null}
-use Rattle.sdd_script_model.proofs.Listed.{among-link}
 use Rattle.sdd_script_model.proofs.QueueGoing as queue
 use Rattle.sdd_script_model.proofs.StackGoing as stack
 use Rattle.sdd_script_model.proofs.StackGoing.{IsDatedWithin, dated-all}
-use Rattle.sdd_script_model.proofs.StackPushing.{calls-then, leaves-then}
+use Rattle.sdd_script_model.proofs.StackPushing.{leaves-then}
 
 -- ---- numbers hold no owners
 
@@ -60,6 +56,7 @@ none-owned : (b : Body) → IsNumber b → owner_in b ≡ []
 none-owned (Number n) number = refl
 none-owned (Owned o) number = absurd number
 none-owned (Shared o) number = absurd number
+none-owned (Storage s) number = absurd number
 
 holds-none : (v w : World Val) → HoldsLess v w → (es : List (Entry Val)) → AreNumbers es → AreLinked link_of v es → (j k : ℕ) → IsAmong j es →
     times_held holdings_of k (value_at w j) ≡ 0
@@ -134,7 +131,8 @@ module _ (d : ScriptState) (s : IsSound d) (whole : IsWhole d.world) (p : ℕ) (
   empty : IsQueue link_of begun.world q [] None
   empty = record {
     list = record {
-      begins = at-other (nulled d.world q.oldest).cells q.newest q.oldest (Some null) None makes.two ∙ at-same d.world.cells q.oldest (Some null) None makes.oldest.0;
+      begins = at-other (nulled d.world q.oldest).cells q.newest q.oldest (Some null) None makes.two
+          ∙ at-same d.world.cells q.oldest (Some null) None makes.oldest.0;
       linked = tt;
     };
     newest = at-same (nulled d.world q.oldest).cells q.newest (Some null) None (omega (arith, makes.newest.0, length-set d.world.cells q.oldest (Some null)));
@@ -254,7 +252,8 @@ module _ (d : ScriptState) (s : IsSound d) (whole : IsWhole d.world) (p : ℕ) (
 
       pub queue-refused : LeavesSound d after_queue_refused
       queue-refused =
-          let sound = forgotten-sound after_queue_refused d fs (slice_set begun.queues n None) (slice_set begun.newest n None) d.stacks closes.sound forgotten in
+          let sound = forgotten-sound after_queue_refused d fs (slice_set begun.queues n None) (slice_set begun.newest n None) d.stacks closes.sound forgotten
+          in
           record {
             line = refl;
             places = refl;

@@ -1,5 +1,5 @@
 -- How many owners and rights to cells have names, as names are given and spent, and what that tells of a script's world
-use Rattle.std.proofs.Common.{◌≡◌, List, ℕ, suc, inl, inr, ◌+◌, ◌≤◌, [], ◌∷◌, ◌++◌, true, Option, Some, None, IsSome, is_some, count_by, sum_by, slice_index_or, slice_set, refl, sym, ap, ◌∙◌, arith}
+use Rattle.std.proofs.Common.{◌≡◌, ◌⊎◌, List, ℕ, suc, inl, inr, ◌+◌, ◌≤◌, [], ◌∷◌, ◌++◌, true, Option, Some, None, IsSome, is_some, count_by, sum_by, slice_index_or, slice_set, refl, sym, ap, ◌∙◌, arith}
 use Rattle.std.specs.Prelude.{◌==◌}
 use Rattle.std.proofs.lemmas.List.Sums.{sum_by-cons, sum_by_push}
 use Rattle.std.proofs.lemmas.Bool.{cases_lt}
@@ -23,10 +23,12 @@ use Rattle.sdd_script_text.specs.declared.name.OwnerName.{OwnerName}
 use Rattle.sdd_script_text.specs.declared.call.Value.{Value}
 use Rattle.sdd_script_text.specs.declared.call.Value.TheVariants.{Number, Of}
 use Rattle.sdd_script_model.specs.declared.val.Body.{Body}
-use Rattle.sdd_script_model.specs.Val.{Val, body_of, owner_in, holdings_of, link_of}
+use Rattle.sdd_script_model.specs.Val.{Val, body_of, owner_in, holdings_of, link_of, storage_in}
 use Rattle.sdd_script_model.specs.declared.val.Body.TheVariants as body
 use Rattle.sdd_script_model.specs.ScriptState.{ScriptState, holding_at, slot_of, cell_of, shared_cell, collector_of}
 use Rattle.sdd_script_model.proofs.Links.{holds-so}
+use Rattle.sdd_bag.specs.Storages.{StorageName}
+use Rattle.sdd_script_model.specs.Bags.{IsSpare}
 use Rattle.sdd_script_model.specs.Made.{IsPutIn, owners_left}
 use Rattle.sdd_script_model.specs.Script.{IsOwnerName, owner_as, owners_put, owners_taken, slot_put}
 use Rattle.sdd_script_model.specs.Sound.{IsSound, owns, has_right, named, named_among, named_owners, contained, stacked}
@@ -191,19 +193,23 @@ module _ (d : ScriptState) (cells collectors : List (Option OwnerOrCell)) where
   taken-given owners like None u = omega arith
   taken-given owners like (Some k) u = owner-given owners cells collectors (owner_as like k d) k (owner_as-slot like k d) u
 
+-- an owner is no right to a cell
+owner-rights : (h : OwnerOrCell) (c : ℕ) → IsSome (slot_of (Some h)) → claims (h ∷ []) (right_to c) ≡ 0
+owner-rights (owned k home) c owner = refl
+owner-rights (shared k home) c owner = refl
+owner-rights (atomic_owned b home) c owner = absurd (cc)
+owner-rights (atomic_shared b home) c owner = absurd (cc)
+owner-rights (atomic_raw b home) c owner = absurd (cc)
+
 -- what goes into a value has no name any more
-body-rights : (b : Body) (c : ℕ) → claims (owner_in b) (right_to c) ≡ 0
-body-rights (body.Number n) c = refl
-body-rights (body.Owned o) c = omega (arith, count-cons (is_right_to c) (owned_of.holding_of o) [])
-body-rights (body.Shared o) c = omega (arith, count-cons (is_right_to c) (shared_of.holding_of o) [])
 
 pub value-spent : (d : ScriptState) (value : Value) (v : Val) → IsPutIn d value (body_of v) → (u : Claim) →
     named d u ≡ named_among (owners_left d.owners value) d.cells d.collectors u + claims (owner_in (body_of v)) u
 value-spent d (Number n) v e (owner_of k) = omega (arith, ap (λ b. claims (owner_in b) (owner_of k)) e)
-value-spent d (Number n) v e (right_to c) = omega (arith, body-rights (body_of v) c)
-value-spent d (Of o) v (h, there, is) (owner_of j) =
+value-spent d (Number n) v e (right_to c) = omega (arith, ap (λ b. claims (owner_in b) (right_to c)) e)
+value-spent d (Of o) v (h, there, owner, is) (owner_of j) =
     omega (arith, ap (λ hs. claims hs (owner_of j)) is, count-cons (is_owner_of j) h [], owns-less d.owners o.0 h there j)
-value-spent d (Of o) v (h, there, is) (right_to c) = omega (arith, body-rights (body_of v) c)
+value-spent d (Of o) v (h, there, owner, is) (right_to c) = omega (arith, ap (λ hs. claims hs (right_to c)) is, owner-rights h c owner)
 
 -- ---- whose owner is somewhere, is out
 
@@ -239,13 +245,25 @@ some-kept f none (Some x ∷ xs) some = elim (cases_lt 0 (f (Some x))) [
   | inr not ↦ let rest = some-kept f none xs (omega (arith, some, not, sum_by-cons f (Some x) xs)) in (suc rest.0, rest.1, rest.2, rest.3)
 ]
 
--- a cell that is taken, to which no name is the right, is a value's link
+-- the right to a cell that a body has is that of a storage, whose own cell it is
+body-right : (b : Body) (c : ℕ) → 1 ≤ claims (owner_in b) (right_to c) → (st : StorageName) × (storage_in b ≡ Some st) × (st.cell ≡ c)
+body-right (body.Number n) c some = absurd (omega (arith, some))
+body-right (body.Owned o) c some = absurd (omega (arith, some, count-cons (is_right_to c) (owned_of.holding_of o) []))
+body-right (body.Shared o) c some = absurd (omega (arith, some, count-cons (is_right_to c) (shared_of.holding_of o) []))
+body-right (body.Storage st) c some =
+    let mine : 1 ≤ once_if (st.cell == c) = omega (arith, some, once-where (st.cell == c)) in
+    (st, refl, (let at : st.cell ≡ c = grind (arith, nat_tests, mine) in at))
+
+-- a cell that is taken, to which no name is the right, is a value's link, or a storage's own
 pub linked : (d : ScriptState) → IsSound d → (c : ℕ) → named d (right_to c) + contained d (right_to c) ≡ 0 → IsSome (entry_at d.world.cells c) →
-    (j : ℕ) × (v : Val) × (value_at d.world j ≡ Some v) × (link_of v ≡ c)
+    ((j : ℕ) × (v : Val) × (value_at d.world j ≡ Some v) × (link_of v ≡ c)) ⊎ IsSpare d.world c
 linked d s c none taken =
     let needs : once_if (is_some (entry_at d.world.cells c)) ≡ 1 = ap once_if taken in
     let one_value = some-kept (times_kept holdings_of c) refl d.world.values (omega (arith, needs, none, s.ledger (right_to c))) in
     let v = one_value.1 in
-    let mine : 1 ≤ once_if (link_of v == c) = omega (arith, one_value.3, holds-so v (right_to c), body-rights (body_of v) c) in
-    let at : link_of v ≡ c = grind (arith, nat_tests, mine) in
-    (one_value.0, v, one_value.2, at)
+    elim (cases_lt 0 (once_if (link_of v == c))) [
+      | inl mine ↦ (let at : link_of v ≡ c = grind (arith, nat_tests, mine) in inl (one_value.0, v, one_value.2, at))
+      | inr other ↦
+          (let own = body-right (body_of v) c (omega (arith, one_value.3, holds-so v (right_to c), other)) in
+          inr (record { slot = one_value.0; value = v; there = one_value.2; storage = own.0; is = own.1; cell = own.2 }))
+    ]

@@ -1,6 +1,6 @@
 -- What is always true of a desk is true after a new queue or stack is filled with numbers, each of which it owns alone
 use Rattle.std.proofs.Common.{◌≡◌, ◌≢◌, ◌⊎◌, ◌+◌, inl, inr, ℕ, List, [], ◌∷◌, ◌++◌, Option, Some, None, length, map, slice_index_or, slice_set, refl, sym, ap, ◌∙◌, append_assoc, append-nil, subst, ◌-◌, ◌<◌, ◌≤◌, nat_lt, if◌then◌else◌, true, false, is_some, IsSome, arith}
-use Rattle.std.proofs.lemmas.Bool.{cases_eq, false≢true}
+use Rattle.std.proofs.lemmas.Bool.{cases_eq}
 use Rattle.std.proofs.lemmas.List.{length-append, length-set, length_push, map-append}
 use Rattle.sdd_core.specs.declared.tag.Tag.TheVariants.{None as no_tag}
 use Rattle.sdd_participants.specs.declared.standing.Standing.{Standing}
@@ -20,7 +20,7 @@ use Rattle.sdd_lists.specs.StackCloning.{AppendsAll, AppendsTo, appends, starts 
 use Rattle.sdd_lists.proofs.Ending.{among-last}
 use Rattle.sdd_lists.proofs.Lists.{bare, list-same}
 use Rattle.sdd_script_model.specs.declared.val.Body.{Body}
-use Rattle.sdd_script_model.specs.declared.val.Body.TheVariants.{Number, Owned, Shared}
+use Rattle.sdd_script_model.specs.declared.val.Body.TheVariants.{Number, Owned, Shared, Storage}
 use Rattle.sdd_script_model.specs.Copies.{ArePlain}
 use Rattle.sdd_script_model.specs.Listed.{Begins, IsListed, IsNumber}
 use Rattle.sdd_script_model.specs.Queues.{Enqueues, IsNamedQueue}
@@ -182,7 +182,8 @@ module _ (d : ScriptState) (s : IsSound d) (whole : IsWhole d.world) (p : ℕ) (
     inside-k = puts.pushed.free.0
 
     three : standing_at w k ≡ Some (shared_by 3)
-    three = stands-before k ∙ spilled-other fresh p second k (λ e. old-far k (second-far k e) refl) ∙ at-same d.world.standings k (Some (shared_by 3)) None inside-k
+    three = stands-before k ∙ spilled-other fresh p second k (λ e. old-far k (second-far k e) refl)
+        ∙ at-same d.world.standings k (Some (shared_by 3)) None inside-k
 
     its : standing_at given k ≡ Some (shared_by 2)
     its = one-less w p k 3 three refl
@@ -348,7 +349,8 @@ module _ (d : ScriptState) (s : IsSound d) (whole : IsWhole d.world) (p : ℕ) (
         ap (λ (ns : List (Option ℕ)). record (in_world d v) { slots = (d.slots ++ ks) ++ k ∷ []; names = ns })
         (ap (λ (m : ℕ). slice_set (names_from d.names (length d.slots) ks) k (Some m)) (length-append d.slots ks)
         ∙ sym (names-last d.names (length d.slots) ks k))
-        ∙ ap (λ (js : List ℕ). record (in_world d v) { slots = js; names = names_from d.names (length d.slots) (ks ++ k ∷ []) }) (append_assoc d.slots ks (k ∷ []))
+        ∙ ap (λ (js : List ℕ). record (in_world d v) { slots = js; names = names_from d.names (length d.slots) (ks ++ k ∷ []) })
+        (append_assoc d.slots ks (k ∷ []))
         ∙ ap (λ (js : List ℕ). in_world (with_items d js) v) (sym (map-append (λ (e : Entry Val). e.slot) es (entry-last ∷ [])))
 
     pub filled-more : LeavesSound (filled_with v es) (in_world (with_item (filled_with v es) k) w) → WaitsAs (filled_with v es) w →
@@ -383,7 +385,8 @@ module _ (d : ScriptState) (s : IsSound d) (whole : IsWhole d.world) (p : ℕ) (
           by (Some z) e = absurd (not-free (standing_at v k) (was.kept k (ap is_some e)) free)
 
   -- a queue that has no entries is filled
-  module _ (n : ℕ) (q : QueueCells) (oldest : shared_cell (holding_at d.queues n) ≡ Some q.oldest) (newest : shared_cell (holding_at d.newest n) ≡ Some q.newest)
+  module _ (n : ℕ) (q : QueueCells) (oldest : shared_cell (holding_at d.queues n) ≡ Some q.oldest)
+      (newest : shared_cell (holding_at d.newest n) ≡ Some q.newest)
       (empty : IsQueue link_of d.world q [] None) where
     one-behind : (v w : World Val) (es fs : List (Entry Val)) (second held : Option ℕ) (x : Body) → IsFilled v es second → IsQueue link_of v q es second →
         IsNoneOrAmong second es → IsNumber x → AddsBehind v p q es second x w fs held →
@@ -417,6 +420,7 @@ module _ (d : ScriptState) (s : IsSound d) (whole : IsWhole d.world) (p : ℕ) (
         )
     one-behind v w es fs second held (Owned o) was queue near number adds = absurd number
     one-behind v w es fs second held (Shared o) was queue near number adds = absurd number
+    one-behind v w es fs second held (Storage s) was queue near number adds = absurd number
 
     fills-all : {xs : List Body} {w : World Val} {fs : List (Entry Val)} {held : Option ℕ} → AddsAllBehind p q d.world [] None xs w fs held →
         AreAllNumbers xs → IsFilled w fs held × IsQueue link_of w q fs held × IsNoneOrAmong held fs
@@ -457,6 +461,7 @@ module _ (d : ScriptState) (s : IsSound d) (whole : IsWhole d.world) (p : ℕ) (
         )
     one-appended v w es fs (Owned o) was list number adds = absurd number
     one-appended v w es fs (Shared o) was list number adds = absurd number
+    one-appended v w es fs (Storage s) was list number adds = absurd number
 
     pub fills-stack : {xs : List Body} {w : World Val} {fs : List (Entry Val)} → AppendsAll p c d.world [] xs w fs → AreAllNumbers xs →
         IsFilled w fs None × Begins w c fs

@@ -92,6 +92,28 @@ passes-on {u} {v} {w} slots a whole call guards jobs = record {
   by s waits idle false mid =
       there-out (standing_at u s) (slots.taken s (out-some (standing_at v s) (begins-out call whole s waits mid))) idle
 
+pub calls-then : {u v w : World Val} → AreCalls u v → AreCalls v w → AreCalls u w
+calls-then a (no_call w) = a
+calls-then {u} a (one_more t v w calls step) = one_more u v w (calls-then a calls) step
+
+-- calls after others, by which nothing begins to wait
+pub passes-then : {u v w : World Val} → Passes u v → Passes v w →
+    ((s : ℕ) → is_waiting (standing_at w s) ≡ true → is_waiting (standing_at v s) ≡ true) → Passes u w
+passes-then {u} {v} {w} a b idle = record {
+  guards = record {
+    phases = b.guards.phases ∙ a.guards.phases;
+    places = b.guards.places ∙ a.guards.places;
+    guards = λ q. b.guards.guards q ∙ a.guards.guards q;
+  };
+  jobs = b.jobs ∙ a.jobs;
+  safe = λ p s o safe. b.safe p s o (a.safe p s (before p o) safe);
+  begins = λ s waits was. a.begins s (idle s waits) was;
+  under = λ p k o was. b.under p k o (a.under p k (before p o) was);
+  calls = calls-then a.calls b.calls;
+} where
+  before : (p : ℕ) → IsTrue (is_open (place_at w p)) → IsTrue (is_open (place_at v p))
+  before p o = subst (λ g. IsTrue (nat_lt 0 g)) (b.guards.guards p) o
+
 -- ---- and by which no item is made
 
 -- what such a call leaves, and that it is one
@@ -223,9 +245,11 @@ leaves (drops w p k l may) quiet = record {
   values = less-shed (sheds-dropped holdings_of p w k);
 }
 leaves (puts_out_raw w k is) quiet =
-    in-time w _ (WorldStep.puts_out_raw w k is) (slots-set w _ k standing.Raw (ap is_some is) (waits-not (standing_at w k) standing.Raw (ap is_waiting is)) refl refl refl) refl refl refl
+    in-time w _ (WorldStep.puts_out_raw w k is) (slots-set w _ k standing.Raw (ap is_some is) (waits-not (standing_at w k) standing.Raw (ap is_waiting is))
+    refl refl refl) refl refl refl
 leaves (takes_back_raw w k is) quiet =
-    in-time w _ (WorldStep.takes_back_raw w k is) (slots-set w _ k standing.Owned (ap is_some is) (waits-not (standing_at w k) standing.Owned (ap is_waiting is)) refl refl refl) refl refl refl
+    in-time w _ (WorldStep.takes_back_raw w k is)
+    (slots-set w _ k standing.Owned (ap is_some is) (waits-not (standing_at w k) standing.Owned (ap is_waiting is)) refl refl refl) refl refl refl
 leaves (edits w k old value may is) quiet = record {
   call = WorldStep.edits w k value may;
   slots = slots-same w _ refl refl refl;

@@ -1,8 +1,9 @@
 -- What is always true of a desk is true after each call
-use Rattle.std.proofs.Common.{◌≡◌, ℕ, zero, suc, ◌+◌, ◌<◌, ◌≤◌, Bool, true, false, nat_lt, if◌then◌else◌, List, Option, Some, None, IsSome, is_some, map, length, count_by, slice_index, slice_index_or, slice_set, inl, inr, refl, sym, ap, ◌∙◌, arith}
+use Rattle.std.proofs.Common.{◌≡◌, ◌≢◌, ◌⊎◌, ℕ, zero, suc, ◌+◌, ◌<◌, ◌≤◌, Bool, true, false, nat_lt, if◌then◌else◌, List, Option, Some, None, IsSome, is_some, map, length, count_by, slice_index, slice_index_or, slice_set, inl, inr, refl, sym, ap, ◌∙◌, subst, arith}
 use Rattle.std.specs.Prelude.{All, Contains, IsTrue, replicate, ◌↔◌}
 use Rattle.std.specs.List.Sorted.{IsPermutation, IsNonDecreasingBy, IsStrictlyIncreasing}
 use Rattle.std.proofs.lemmas.List.{length_push, length-replicate}
+use Rattle.std.proofs.lemmas.Bool.{cases_eq}
 use Rattle.std.proofs.lemmas.Bool.Decides.{nat_tests}
 use Rattle.sdd_participants.specs.EpochState.{EpochState}
 use Rattle.sdd_participants.specs.Slab.{IsEmptyAt, entry_at}
@@ -10,8 +11,8 @@ use Rattle.sdd_participants.specs.EpochState.{IsVacant, is_open}
 use Rattle.sdd_participants.specs.declared.waiting.LimboEntry.TheVariants.{Item, Job}
 use Rattle.sdd_participants.specs.declared.standing.Standing.TheVariants as standing
 use Rattle.sdd_standings.specs.Slots.{IsSharedBy, is_waiting}
-use Rattle.sdd_space.specs.Ledger.{Claim, owner_of, right_to, Keeps, claims, nothing, one}
-use Rattle.sdd_space.specs.Ledger.Moves.{opens, stirs, accelerates, makes, shares, retires, releases, makes_cell}
+use Rattle.sdd_space.specs.Ledger.{Claim, owner_of, right_to, IsLedger, Keeps, claims, nothing, one}
+use Rattle.sdd_space.specs.Ledger.Moves.{opens, stirs, accelerates, makes, retires, releases, makes_cell}
 use Rattle.sdd_space.specs.WorldStep.{IsFirst, WorldStep}
 use Rattle.sdd_space.specs.WorldStep.WorldStep.{registers, ends, closes, defers, makes as makes_item}
 use Rattle.sdd_space.specs.OwnerOrCell.{OwnerOrCell, IsOf}
@@ -33,21 +34,23 @@ use Rattle.sdd_script_text.specs.declared.call.Value.{Value}
 use Rattle.sdd_script_text.specs.declared.call.Value.TheVariants.{Number, Of}
 use Rattle.sdd_script_model.specs.declared.owner_kind.OwnerKind.{OwnerKind}
 use Rattle.sdd_script_model.specs.declared.owner_kind.OwnerKind.TheVariants as ownership
-use Rattle.sdd_script_model.specs.Val.{Val, holdings_of, body_of, link_of}
-use Rattle.sdd_script_model.specs.ScriptState.{ScriptState, OpenSince, BeginsLine, IsDated, IsListCell, IsSecondCell, IsStart, IsThere, WaitsAt, shared_cell, date_at, job_date_at, opening_at, holding_at, slot_at, slot_of, sole_slot, shared_slot, in_world, with_guard, with_newcomer, without_participant, without_guard, with_owner, without_owner, with_item, with_job, later}
+use Rattle.sdd_script_model.specs.Val.{Val, holdings_of, body_of, link_of, storage_in}
+use Rattle.sdd_script_model.specs.ScriptState.{ScriptState, OpenSince, BeginsLine, bag_at, IsDated, IsListCell, IsSecondCell, IsStart, IsThere, WaitsAt, shared_cell, date_at, job_date_at, opening_at, holding_at, slot_at, slot_of, sole_slot, shared_slot, in_world, with_guard, with_newcomer, without_participant, without_guard, with_owner, without_owner, with_item, with_job, later}
 use Rattle.sdd_script_model.specs.Script.AreCalls.{none as no_call, one_more}
 use Rattle.sdd_script_model.specs.Listed.{HasLists}
 use Rattle.sdd_script_model.specs.Made.{IsPutIn, owners_left, put_in}
 use Rattle.sdd_script_model.specs.Shown.{names_in, job_in}
-use Rattle.sdd_script_model.specs.Sound.{IsSound, ParticipantsMatch, contained, has_right, named, named_among, owns}
+use Rattle.sdd_script_model.specs.Sound.{IsSound, ParticipantsMatch, contained, has_right, named, named_among, named_owners, owns}
 use Rattle.sdd_script_model.specs.Held.{owners_in, slots_among, places_among, standing_first, holding_first, waits_among}
-use Rattle.sdd_script_model.proofs.Entry.{at-same, not-free}
+use Rattle.sdd_script_model.proofs.Entry.{at-other, at-same, not-free}
 use Rattle.sdd_script_model.proofs.Stocked.{stocked-as, stocked-made, slots-same, slots-opened}
-use Rattle.sdd_script_model.proofs.Links.{holds-so, less-shed, null}
+use Rattle.sdd_script_model.proofs.Links.{IsBareStorage, holds-so, less-shed, null, less-same}
 use Rattle.sdd_script_model.proofs.ListChanges.{has-made, has-same}
-use Rattle.sdd_script_model.proofs.Listed.{has-still, listed-inside}
+use Rattle.sdd_script_model.proofs.Listed.{has-still, has-stored, listed-inside}
 use Rattle.sdd_script_model.proofs.Frames.{Passes, passes-on}
-use Rattle.sdd_script_model.proofs.Chains.{AtHome, IsMidway, LeavesSound, at_home-given, at_home-spent, finishes, moves, sound-after, are-own, starts}
+use Rattle.sdd_script_model.proofs.Chains.{AtHome, IsMidway, LeavesSound, at_home-given, at_home-spent, finishes, moves, shares-one, sound-after, are-own, starts}
+use Rattle.sdd_script_model.proofs.Storing.{BagsStay, bags-still, off-owned, off-standing, off-valued, put-plain, spare-bare, spare-on, stays-as, stays-on, stored-still, spare-as}
+use Rattle.sdd_script_model.specs.Bags.{AreSpare, IsStored, bagged}
 use Rattle.sdd_script_model.proofs.Attending.{keeps-time, keeps-deferred, attended-acts, attended-later, attended-start, attended-registered, attended-ended, attended-closed, attended-opened}
 use Rattle.sdd_script_model.proofs.Attending as attending
 use Rattle.sdd_script_model.proofs.Kept as kept
@@ -95,16 +98,25 @@ none-there None none = refl
 none-there (Some x) none = absurd (cc)
 
 -- the link of an item that waits holds nothing: what is in a list has an owner there
-pub waiting-bare : (d : ScriptState) → IsSound d → (k : ℕ) (v : Val) → value_at d.world k ≡ Some v → is_waiting (standing_at d.world k) ≡ true →
+waiting-link : (d : ScriptState) → IsSound d → (k : ℕ) (v : Val) → value_at d.world k ≡ Some v → is_waiting (standing_at d.world k) ≡ true →
     held_in (entry_at d.world.cells (link_of v)) ≡ None
-waiting-bare d s k v there waits = elim (s.lists.linked k v there) [
+waiting-link d s k v there waits = elim (s.lists.linked k v there not-stored) [
   | inl none ↦ none
   | inr at ↦
       (let inner = listed-inside d.world (λ u. named d u + contained d u) s.ledger (IsListCell d) k at in
       let stands = (tells d s).stands k (omega (arith, inner)) in
       let out : is_out (standing_at d.world k) ≡ true = elim stands [ inl owned ↦ ap is_out owned.0 | inr shared ↦ ap is_out shared.1 ] in
       absurd (let never : false ≡ true = sym (out-waits-not (standing_at d.world k) out) ∙ waits in cc))
-]
+] where
+  not-stored : IsStored d.bags d.world k → ⊥
+  not-stored =
+      off-standing d d.world (named d) s.ledger (λ n b es is stands. stands) k
+      (λ sole. let never : false ≡ true = sym (ap is_waiting sole) ∙ waits in absurd (cc))
+
+-- nor does the own cell of a storage
+pub waiting-bare : (d : ScriptState) → IsSound d → (k : ℕ) (v : Val) → value_at d.world k ≡ Some v → is_waiting (standing_at d.world k) ≡ true →
+    (held_in (entry_at d.world.cells (link_of v)) ≡ None) × IsBareStorage d.world (body_of v)
+waiting-bare d s k v there waits = (waiting-link d s k v there waits, spare-bare d.world s.spare k v there)
 
 module _ (d : ScriptState) (s : IsSound d) where
   -- an open guard's participant is open
@@ -141,10 +153,14 @@ module _ (d : ScriptState) (s : IsSound d) where
       sound-met : ParticipantsMatch met → WereOpen d met → WorldStep holdings_of d.world met.world → IsSound met
       sound-met attended were call =
           let dated = dated-same d met refl refl in
+          let stay = stays-as d d.world met.world (λ n b es is stands. stands) (λ c x. refl) (λ k x. (refl, refl)) in
           record {
-            stocked = stocked-as d met s.stocked refl refl refl (slots-same d.world met.world refl refl refl);
+            stocked = stocked-as d met s.stocked refl refl refl (slots-same d.world met.world refl refl refl) (stored-still d met refl stay);
             ledger = s.ledger;
-            lists = has-same (IsListCell d) (IsSecondCell d) d.world met.world refl refl s.lists;
+            lists = has-stored (stored-still d met refl stay)
+                (has-same (IsListCell d) (IsSecondCell d) (IsStored d.bags d.world) d.world met.world refl refl s.lists);
+            bags = bags-still d met s.bags refl stay refl (λ k x. refl);
+            spare = spare-as d.world met.world (less-same d.world met.world refl) (λ c x. refl) s.spare;
             layered = s.layered;
             home = record {
               owners = s.home.owners;
@@ -196,10 +212,14 @@ module _ (d : ScriptState) (s : IsSound d) where
       sound-deferred few =
           let keeps = keeps-deferred d.world p k in
           let were = were-same d after_deferred refl keeps.guards in
+          let stay = stays-as d d.world after_deferred.world (λ n b es is stands. stands) (λ c x. refl) (λ j x. (refl, refl)) in
+          let stored = stored-still d after_deferred refl stay in
           record {
-            stocked = stocked-as d after_deferred s.stocked refl refl refl (slots-same d.world after_deferred.world refl refl refl);
+            stocked = stocked-as d after_deferred s.stocked refl refl refl (slots-same d.world after_deferred.world refl refl refl) stored;
             ledger = s.ledger;
-            lists = has-same (IsListCell d) (IsSecondCell d) d.world after_deferred.world refl refl s.lists;
+            lists = has-stored stored (has-same (IsListCell d) (IsSecondCell d) (IsStored d.bags d.world) d.world after_deferred.world refl refl s.lists);
+            bags = bags-still d after_deferred s.bags refl stay refl (λ j x. refl);
+            spare = spare-as d.world after_deferred.world (less-same d.world after_deferred.world refl) (λ c x. refl) s.spare;
             layered = s.layered;
             home = record {
               owners = s.home.owners;
@@ -263,7 +283,8 @@ module _ (d : ScriptState) (s : IsSound d) where
           (dates.dated-released d after_released p k count stands.shared s.stocked.dates
           (last-or-not b count (slice_set d.dates k d.moment) d.dates stands.some last) refl) p live
 
-    module _ (p k count : ℕ) (live : IsPlaceOf d.world p) (stands : IsSharedBy count (standing_at d.world k)) where
+    module _ (p k count : ℕ) (live : IsPlaceOf d.world p) (stands : IsSharedBy count (standing_at d.world k))
+        (off : IsStored d.bags d.world k → ⊥) where
       abbrev after_shared : ScriptState
       after_shared = with_owner (in_world d (with_standing d.world k (standing.Shared (count + 1)))) (holding.shared k d.world.home.slots)
 
@@ -271,7 +292,7 @@ module _ (d : ScriptState) (s : IsSound d) where
       shared-leaves =
           let h = holding.shared k d.world.home.slots in
           finishes d after_shared.world after_shared.owners d.cells d.collectors d.dates s
-          (moves (starts d s whole) (shares d.world k count stands) tt (named d) (λ u. omega arith) (λ u never. absurd never))
+          (shares-one (starts d s whole) k count stands off)
           (owner-given d.owners d.cells d.collectors h k refl)
           (at_home-given d.world.home d.owners h refl s.home.owners, s.home.cells, s.home.collectors)
           (dated-stands d after_shared k (standing.Shared (count + 1)) refl refl refl) p live
@@ -314,19 +335,56 @@ module _ (d : ScriptState) (s : IsSound d) where
       put-inside u = omega (arith, value-spent d value v put u, holds-so v u, ap (λ x. one (right_to x) u) link)
 
       item : Keeps holdings_of (makes (nulled d.world c) k v (standing_first own) (first own) slot)
-      item = (ledger-laws holdings_of (nulled d.world c)).kept celled.whole _ _ after_made.world (makes (nulled d.world c) k v (standing_first own) (first own) slot)
+      item = (ledger-laws holdings_of (nulled d.world c)).kept celled.whole _ _ after_made.world
+          (makes (nulled d.world c) k v (standing_first own) (first own) slot)
 
       passes-made : Passes d.world after_made.world
       passes-made =
           passes-on celled.frames.slots celled.frames.passes celled.whole (makes_item (nulled d.world c) k v (standing_first own) (first own) slot)
           (keeps-time (nulled d.world c) after_made.world refl) refl
 
-      lists-made : HasLists (IsListCell d) (IsSecondCell d) after_made.world
+      lists-made : HasLists (IsListCell d) (IsSecondCell d) (IsStored d.bags d.world) after_made.world
       lists-made =
           let free = none-there (value_at d.world k) (filled-there d.world k whole.filled ∙ ap is_some slot.1) in
-          has-made (IsListCell d) (IsSecondCell d) (nulled d.world c) after_made.world k v celled.lists refl refl free
+          has-made (IsListCell d) (IsSecondCell d) (IsStored d.bags d.world) (nulled d.world c) after_made.world k v celled.lists refl refl free
           (ap (λ i. held_in (entry_at (nulled d.world c).cells i)) link ∙ ap held_in (at-same d.world.cells c (Some null) None cell.0))
           (omega (arith, slot.0, filled-long d.world.values d.world.standings whole.filled))
+
+      -- the new item is in a slot that was free, so it is no storage
+      made-apart : (j : ℕ) → IsStored d.bags d.world j → j ≢ k
+      made-apart j x same =
+          off-standing d d.world (named d) s.ledger (λ n b es is stands. stands) k
+          (λ sole. let never : None ≡ Some (standing.Shared 1) = sym slot.1 ∙ sole in absurd (cc))
+          (subst (λ (i : ℕ). IsStored d.bags d.world i) same x)
+
+      bags-made : BagsStay d.bags d.world after_made.world
+      bags-made =
+          stays-on d (makes (nulled d.world c) k v (standing_first own) (first own) slot) celled.whole rest
+          (λ u. omega (arith, celled.ledger u, put-inside u)) tt celled.bags
+
+      no-storage : (i : ℕ) → (1 ≤ named_owners d i) ⊎ ((j : ℕ) × (1 ≤ times_held holdings_of i (value_at d.world j))) → IsStored d.bags d.world i → ⊥
+      no-storage i (inl mine) = off-owned d d.world (named d) s.ledger (λ n b es is stands. stands) i mine
+      no-storage i (inr (j, some)) = off-valued d d.world (named d) s.ledger (λ n b es is stands. stands) j i some
+
+      -- a value that goes in is no storage
+      spare-made : AreSpare after_made.world
+      spare-made b x = elim (cases_eq x.slot k) [
+        | inl same ↦
+            (let here : value_at after_made.world k ≡ Some v =
+            at-same d.world.values k (Some v) None (omega (arith, slot.0, filled-long d.world.values d.world.standings whole.filled)) in
+            let both : Some v ≡ Some x.value = sym here ∙ ap (λ (i : ℕ). value_at after_made.world i) (sym same) ∙ x.there in
+            let is : v ≡ x.value = cc in
+            absurd (put-plain d value (body_of v) put x.storage (ap (λ (y : Val). storage_in (body_of y)) is ∙ x.is)))
+        | inr far ↦
+            celled.spare b (record {
+              slot = x.slot;
+              value = x.value;
+              there = sym (at-other d.world.values k x.slot (Some v) None far) ∙ x.there;
+              storage = x.storage;
+              is = x.is;
+              cell = x.cell;
+            })
+      ]
 
       pub made-whole : IsWhole after_made.world
       made-whole = item.whole
@@ -336,15 +394,17 @@ module _ (d : ScriptState) (s : IsSound d) where
         line = refl;
         places = refl;
         sound = sound-after d after_made s passes-made (refl, refl, refl, refl, refl, refl) dated-made p live
-            (stocked-made d k s.stocked slot after_made (standing_first own) refl refl refl refl)
+            (stocked-made d k s.stocked slot after_made (standing_first own) refl refl refl refl (stored-still d after_made refl bags-made))
             (λ u. omega (
               arith,
               item.ledger (λ x. rest x + contained d x) (λ x. omega (arith, celled.ledger x, put-inside x)) u,
               owner-given (owners_left d.owners value) d.cells d.collectors (holding_first own k d.world.home.slots) k (its-slot own) u,
             ))
-            lists-made
+            (has-stored (stored-still d after_made refl bags-made) lists-made)
+            (bags-still d after_made s.bags refl bags-made refl
+            (λ j x. at-other d.names k j (Some (length d.slots)) None (made-apart j x))) spare-made
             (layered-made d s.layered (accounts d s) s.stocked whole.filled (put_in d value) c k v (standing_first own) slot
-            (λ j. value-spent d value v put (owner_of j)) after_made refl refl)
+            (λ j. value-spent d value v put (owner_of j)) no-storage after_made refl refl)
             (record {
               owners = at_home-given d.world.home (owners_left d.owners value) (holding_first own k d.world.home.slots) (its-home own) (at_home-left value);
               cells = s.home.cells;
@@ -381,13 +441,19 @@ module _ (d : ScriptState) (s : IsSound d) where
           let shed = sheds-opened holdings_of x.place d.world in
           let slots = slots-opened d.world x.place in
           let kept = (ledger-laws holdings_of d.world).kept whole nothing nothing _ (opens d.world x.place live) in
+          let before : IsLedger holdings_of (λ u. named d u + contained d u + nothing u) d.world = λ u. omega (arith, s.ledger u) in
+          let stay = stays-on d (opens d.world x.place live) whole (named d) before tt (λ m b es is stands. stands) in
+          let stored = stored-still d after_opening refl stay in
           record {
-            stocked = stocked-as d after_opening s.stocked refl refl long slots;
+            stocked = stocked-as d after_opening s.stocked refl refl long slots stored;
             ledger = λ u. omega (arith, kept.ledger (λ y. named d y + contained d y) (λ y. omega (arith, s.ledger y)) u);
-            lists = has-still (opens d.world x.place live) whole (λ y. named d y + contained d y) (λ y. omega (arith, s.ledger y)) (λ u never. absurd never)
-                (IsListCell d) (IsSecondCell d)
+            lists = has-stored stored
+                (has-still (opens d.world x.place live) whole (λ y. named d y + contained d y) (λ y. omega (arith, s.ledger y)) (λ u never. absurd never)
+                (IsListCell d) (IsSecondCell d) (IsStored d.bags d.world)
                 (are-own d d.world (λ y. named d y + contained d y) (λ y. named d y + contained d y) s.ledger (λ y. omega arith) (λ y. omega arith))
-                (λ c at never. never) (λ c b y never. never) s.lists (less-shed shed);
+                (λ c at never. never) (λ c b y never. never) s.lists (less-shed shed));
+            bags = bags-still d after_opening s.bags refl stay slots.home (λ j at. refl);
+            spare = spare-on d (opens d.world x.place live) whole (named d) before tt s.spare (less-shed shed);
             layered = layered-less d after_opening s.layered (less-shed shed) refl;
             home = record {
               owners = rw slots.home s.home.owners;
@@ -454,9 +520,11 @@ sound-start l d start names ranges = record {
   lists = record {
     lists = λ c at. absurd (no-list c at);
     apart = λ b c k es fs x y one two at also. absurd (no-list b x);
-    linked = λ k v e. absurd (let never : None ≡ Some v = sym (values k) ∙ e in cc);
+    linked = λ k v e not. absurd (let never : None ≡ Some v = sym (values k) ∙ e in cc);
     second = λ c b (n, oldest, newest). absurd (no-list c (inl (n, oldest)));
   };
+  bags = λ n b is. absurd (let never : None ≡ Some b = sym (ap (λ bs. bag_at bs n) start.bags) ∙ is in cc);
+  spare = λ c x. absurd (let never : None ≡ Some x.value = sym (values x.slot) ∙ x.there in cc);
   layered = λ j k some. absurd (let none : times_held holdings_of k (value_at d.world j) ≡ 0 = ap (times_held holdings_of k) (values j) in omega (
     arith,
     none,
@@ -501,7 +569,13 @@ sound-start l d start names ranges = record {
   none-contained : (u : Claim) → contained d u ≡ 0
   none-contained (owner_of k) = refl
   none-contained (right_to c) =
-      omega (arith, ap (count_by (has_right c)) start.queues, ap (count_by (has_right c)) start.newest, ap (count_by (has_right c)) start.stacks)
+      omega (
+        arith,
+        ap (count_by (has_right c)) start.queues,
+        ap (count_by (has_right c)) start.newest,
+        ap (count_by (has_right c)) start.stacks,
+        ap (λ bs. bagged bs (right_to c)) start.bags,
+      )
 
   none-named : (u : Claim) → named d u ≡ 0
   none-named (owner_of k) = ap (count_by (owns k)) start.owners
@@ -513,6 +587,8 @@ sound-later d s = record {
   stocked = record { named = s.stocked.named; names = s.stocked.names; dates = s.stocked.dates; few = s.stocked.few };
   ledger = s.ledger;
   lists = s.lists;
+  bags = λ n b is. (let was = s.bags n b is in record { bag = was.bag; home = was.home; unnamed = was.unnamed });
+  spare = s.spare;
   layered = s.layered;
   home = record {
     owners = s.home.owners;

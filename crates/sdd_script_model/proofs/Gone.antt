@@ -27,16 +27,16 @@ use Rattle.sdd_space.proofs.Standings.{owner-given, out-some, out-waits-not}
 use Rattle.sdd_space.proofs.Whole.{some-waits, times-aged}
 use Rattle.sdd_script_text.specs.declared.name.ItemName.{ItemName}
 use Rattle.sdd_script_model.proofs.Entry.{at-other, at-default}
-use Rattle.sdd_script_model.proofs.StockWords.{◌≡◌, ◌≢◌, ◌⊎◌, ℕ, suc, ◌+◌, ◌-◌, ◌<◌, ◌≤◌, ◌==◌, ◌&&◌, ◌↔◌, Bool, true, false, nat_lt, if◌then◌else◌, List, [], ◌∷◌, ◌++◌, Option, Some, None, IsSome, is_some, map, length, count_by, slice_index_or, slice_set, inl, inr, refl, sym, ap, ◌∙◌, eq-eqb, ne_eqb, lt-ltb, cases_lt, arith, nat_tests, All, Contains, cases_eq, length-map, entry_at, LimboEntry, Item, Job, Standing, is_waiting, is_out, held_in, reclaims, IsWhole, is_of_slot, once_if, World, place_at, standing_at, value_at, one_where, times_among, count-cons, some-waits, filled-there, Val, holdings_of, body_of, link_of, zero, subst}
+use Rattle.sdd_script_model.proofs.StockWords.{◌≡◌, ◌≢◌, ◌⊎◌, ℕ, suc, ◌+◌, ◌-◌, ◌<◌, ◌≤◌, ◌==◌, ◌&&◌, ◌↔◌, Bool, true, false, nat_lt, if◌then◌else◌, List, [], ◌∷◌, ◌++◌, Option, Some, None, IsSome, is_some, map, length, count_by, slice_index_or, slice_set, inl, inr, refl, sym, ap, ◌∙◌, eq-eqb, ne_eqb, lt-ltb, cases_lt, arith, nat_tests, All, Contains, cases_eq, length-map, entry_at, LimboEntry, Item, Job, Standing, is_waiting, is_out, held_in, reclaims, IsWhole, is_of_slot, once_if, World, place_at, standing_at, value_at, one_where, times_among, count-cons, some-waits, filled-there, Val, holdings_of, body_of, link_of, zero, subst, without_entry}
 use Rattle.sdd_script_model.specs.declared.val.Body.{Body}
 use Rattle.sdd_script_model.specs.Val.{owner_in, link_home}
-use Rattle.sdd_script_model.specs.declared.val.Body.TheVariants.{Number, Owned, Shared}
+use Rattle.sdd_script_model.specs.declared.val.Body.TheVariants.{Number, Owned, Shared, Storage}
 use Rattle.sdd_script_model.specs.ScriptState.{ScriptState, IsThere, IsDated, slot_at, name_at, date_at}
 use Rattle.sdd_script_model.specs.Shown.{named_in, names_in}
 use Rattle.sdd_script_model.specs.Sound.{SlotsHaveNames, named_owners}
 use Rattle.sdd_script_model.specs.Held.{slots_of, slots_in, owners_in, slots_among, waits_among}
 use Rattle.sdd_script_model.proofs.Stocked.{item-there, slot-inside}
-use Rattle.sdd_script_model.proofs.Links.{body-given, closed-bare, freed-bare, waiting-there}
+use Rattle.sdd_script_model.proofs.Links.{IsBareStorage, body-given, closed-bare, freed-bare, waiting-there}
 
 -- ---- how often a list names something
 
@@ -124,9 +124,10 @@ module _ (w : World Val) (p : ℕ) (whole : IsWhole w) where
       (is_waiting (standing_at w s) ≡ true) × IsSome (standing_at w s) × IsSome (value_at w s)
   reclaimed-waits s c = counted-waits s (reclaimed-counts w p s c)
 
--- the links of these items hold nothing
+-- the links of these items hold nothing, and the own cells of storages don't
 abbrev pub AreBare : World Val → (ℕ → Type 0) → Type 0
-AreBare w which = (k : ℕ) (v : Val) → value_at w k ≡ Some v → which k → held_in (entry_at w.cells (link_of v)) ≡ None
+AreBare w which =
+    (k : ℕ) (v : Val) → value_at w k ≡ Some v → which k → (held_in (entry_at w.cells (link_of v)) ≡ None) × IsBareStorage w (body_of v)
 
 -- the item waits
 abbrev pub Waiting : World Val → ℕ → Type 0
@@ -144,9 +145,10 @@ itself : (k : ℕ) → one_where (is_of_slot k (Item k)) ≡ 1
 itself k = grind (arith, nat_tests)
 
 -- what begins to wait when p is given what a value held is the item whose owner the body was
-pub body-waits : (w : World Val) (p c s : ℕ) (home : GhostName) (b : Body) → held_in (entry_at w.cells c) ≡ None → is_waiting (standing_at w s) ≡ false →
+pub body-waits : (w : World Val) (p c s : ℕ) (home : GhostName) (b : Body) → held_in (entry_at w.cells c) ≡ None → IsBareStorage w b →
+    is_waiting (standing_at w s) ≡ false →
     is_waiting (standing_at (given_all w p (owner_in b ++ atomic_shared c home ∷ [])) s) ≡ true → 1 ≤ times_in s (slots_of (owner_in b))
-body-waits w p c s home b bare idle waits = by b waits where
+body-waits w p c s home b bare spare idle waits = by b spare waits where
   closes : (u : World Val) → u.cells ≡ w.cells → standing_at (cell_closed u p c) s ≡ standing_at u s
   closes u cells =
       let nothing : held_in (entry_at u.cells c) ≡ None = rw cells bare in
@@ -162,11 +164,17 @@ body-waits w p c s home b bare idle waits = by b waits where
             let never : false ≡ true = sym idle ∙ ap is_waiting (sym same) ∙ waits in absurd (cc))
       ]
 
-  by : (b : Body) → is_waiting (standing_at (given_all w p (owner_in b ++ atomic_shared c home ∷ [])) s) ≡ true →
+  by : (b : Body) → IsBareStorage w b → is_waiting (standing_at (given_all w p (owner_in b ++ atomic_shared c home ∷ [])) s) ≡ true →
       1 ≤ times_in s (slots_of (owner_in b))
-  by (Number n) waits = let never : false ≡ true = sym idle ∙ ap is_waiting (sym (closes w refl)) ∙ waits in absurd (cc)
-  by (Owned o) waits = given (owned.slot_of o) waits
-  by (Shared o) waits = given (shared.slot_of o) waits
+  by (Number n) spare waits = let never : false ≡ true = sym idle ∙ ap is_waiting (sym (closes w refl)) ∙ waits in absurd (cc)
+  by (Owned o) spare waits = given (owned.slot_of o) waits
+  by (Shared o) spare waits = given (shared.slot_of o) waits
+  by (Storage st) spare waits =
+      let first = closed-bare w p st.cell (spare st refl) in
+      let second = closed-bare (record w { cells = without_entry w.cells st.cell }) p c (freed-bare w.cells st.cell c bare) in
+      let same : standing_at (cell_closed (cell_closed w p st.cell) p c) s ≡ standing_at w s =
+      ap (λ v. standing_at (cell_closed v p c) s) first ∙ ap (λ v. standing_at v s) second in
+      let never : false ≡ true = sym idle ∙ ap is_waiting (sym same) ∙ waits in absurd (cc)
 
 module _ (p : ℕ) (start : World Val) (s : ℕ) where
   -- the item of slot s doesn't wait yet; the values that are still there are those of the start
@@ -189,7 +197,7 @@ module _ (p : ℕ) (start : World Val) (s : ℕ) where
   out-gives w k (Some v) is was i waits =
       let there = is v refl in
       let bare = i.bare k v there was in
-      rw (i.values k v there) (body-waits (freed w k) p (link_of v) s (link_home v) (body_of v) bare (freed-idle w k i.idle) waits)
+      rw (i.values k v there) (body-waits (freed w k) p (link_of v) s (link_home v) (body_of v) bare.0 bare.1 (freed-idle w k i.idle) waits)
 
   -- and each value that is there then was there before
   out-values : (w : World Val) (k : ℕ) (v : Option Val) → ((u : Val) → v ≡ Some u → value_at w k ≡ Some u) → Waiting start k → AreBare w (Waiting start) →
@@ -197,8 +205,9 @@ module _ (p : ℕ) (start : World Val) (s : ℕ) where
   out-values w k None is was i j u h = h
   out-values w k (Some v) is was i j u h =
       let there = is v refl in
-      let g = body-given (freed w k) p (link_of v) (link_home v) (body_of v) (i k v there was) in
-      let left : slice_index_or (slice_set w.values k None) j None ≡ Some u = sym (ap (λ vs. slice_index_or vs j None) g.0) ∙ h in
+      let bare = i k v there was in
+      let g = body-given (freed w k) p (link_of v) (link_home v) (body_of v) bare.0 bare.1 in
+      let left : slice_index_or (slice_set w.values k None) j None ≡ Some u = sym (ap (λ vs. slice_index_or vs j None) g.values) ∙ h in
       elim (cases_eq j k) [
         | inl e ↦ absurd (let none : None ≡ Some u = sym (at-default w.values k None) ∙ ap (λ n. slice_index_or (slice_set w.values k None) n None) (sym e)
             ∙ left in cc)
@@ -210,46 +219,50 @@ module _ (p : ℕ) (start : World Val) (s : ℕ) where
       AreBare w (Waiting start) → AreBare (taken_out holdings_of w p k v) (Waiting start)
   out-bare w k None is was i s x e waits = i s x e waits
   out-bare w k (Some v) is was i s x e waits =
-      let g = body-given (freed w k) p (link_of v) (link_home v) (body_of v) (i k v (is v refl) was) in
-      ap (λ cs. held_in (entry_at cs (link_of x))) g.1
-      ∙ freed-bare w.cells (link_of v) (link_of x) (i s x (out-values w k (Some v) is was i s x e) waits)
+      let bare = i k v (is v refl) was in
+      let g = body-given (freed w k) p (link_of v) (link_home v) (body_of v) bare.0 bare.1 in
+      let its = i s x (out-values w k (Some v) is was i s x e) waits in
+      (g.bare (link_of x) its.0, (λ st is. g.bare st.cell (its.1 st is)))
 
   -- all that begins to wait was its owner's whose value was among these
-  pub all-give : (xs : List LimboEntry) (w : World Val) → ((k : ℕ) → 1 ≤ times_among k xs → Waiting start k) → IsBefore w → is_waiting (standing_at (all_reclaimed holdings_of w p xs) s) ≡ true →
+  pub all-give : (xs : List LimboEntry) (w : World Val) → ((k : ℕ) → 1 ≤ times_among k xs → Waiting start k) → IsBefore w →
+      is_waiting (standing_at (all_reclaimed holdings_of w p xs) s) ≡ true →
       1 ≤ times_in s (owners_in start (slots_among xs))
   all-give (Job j ∷ xs) w were i waits =
-      all-give xs (reclaimed holdings_of w p (Job j)) (λ k some. were k (omega (arith, some, count-cons (is_of_slot k) (Job j) xs))) (record { bare = i.bare; values = i.values; idle = i.idle }) waits
+      all-give xs (reclaimed holdings_of w p (Job j)) (λ k some. were k (omega (arith, some, count-cons (is_of_slot k) (Job j) xs)))
+      (record { bare = i.bare; values = i.values; idle = i.idle }) waits
   all-give [] w were i waits = let never : false ≡ true = sym i.idle ∙ waits in absurd (cc)
   all-give (Item k ∷ xs) w were i waits =
-      by (is_waiting (standing_at u s)) refl (λ now. all-give xs u (λ j some. were j (omega (arith, some, count-cons (is_of_slot j) (Item k) xs))) now waits) where
-        ks : List ℕ
-        ks = slots_among xs
+      by (is_waiting (standing_at u s)) refl (λ now. all-give xs u (λ j some. were j (omega (arith, some, count-cons (is_of_slot j) (Item k) xs))) now waits)
+    where
+      ks : List ℕ
+      ks = slots_among xs
 
-        u : World Val
-        u = reclaimed holdings_of w p (Item k)
+      u : World Val
+      u = reclaimed holdings_of w p (Item k)
 
-        here : List ℕ
-        here = slots_in (value_at start k)
+      here : List ℕ
+      here = slots_in (value_at start k)
 
-        both : times_in s (here ++ owners_in start ks) ≡ times_in s here + times_in s (owners_in start ks)
-        both = sum_by-append (λ j. one_where (j == s)) here (owners_in start ks)
+      both : times_in s (here ++ owners_in start ks) ≡ times_in s here + times_in s (owners_in start ks)
+      both = sum_by-append (λ j. one_where (j == s)) here (owners_in start ks)
 
-        is : (v : Val) → waiting_value w k (standing_at w k) ≡ Some v → value_at w k ≡ Some v
-        is = waiting-there w k (standing_at w k)
+      is : (v : Val) → waiting_value w k (standing_at w k) ≡ Some v → value_at w k ≡ Some v
+      is = waiting-there w k (standing_at w k)
 
-        mine : Waiting start k
-        mine = were k (omega (arith, count-cons (is_of_slot k) (Item k) xs, itself k))
+      mine : Waiting start k
+      mine = were k (omega (arith, count-cons (is_of_slot k) (Item k) xs, itself k))
 
-        by : (b : Bool) → is_waiting (standing_at u s) ≡ b → (IsBefore u → 1 ≤ times_in s (owners_in start ks)) →
-            1 ≤ times_in s (here ++ owners_in start ks)
-        by true now rest = omega (arith, both, out-gives w k (waiting_value w k (standing_at w k)) is mine i now)
-        by false idle rest =
-            let more = rest (record {
-              bare = out-bare w k (waiting_value w k (standing_at w k)) is mine i.bare;
-              values = λ j v h. i.values j v (out-values w k (waiting_value w k (standing_at w k)) is mine i.bare j v h);
-              idle = idle;
-            }) in
-            omega (arith, both, more)
+      by : (b : Bool) → is_waiting (standing_at u s) ≡ b → (IsBefore u → 1 ≤ times_in s (owners_in start ks)) →
+          1 ≤ times_in s (here ++ owners_in start ks)
+      by true now rest = omega (arith, both, out-gives w k (waiting_value w k (standing_at w k)) is mine i now)
+      by false idle rest =
+          let more = rest (record {
+            bare = out-bare w k (waiting_value w k (standing_at w k)) is mine i.bare;
+            values = λ j v h. i.values j v (out-values w k (waiting_value w k (standing_at w k)) is mine i.bare j v h);
+            idle = idle;
+          }) in
+          omega (arith, both, more)
 
 -- the owners that a body holds are those that its value holds
 body-times : (s c : ℕ) (home : GhostName) (b : Body) →
@@ -263,6 +276,7 @@ body-times s c home (Shared o) =
     let one = count-cons (λ k. k == s) (shared.slot_of o) [] in
     let all = count-cons (is_owner_of s) (shared.holding_of o) (atomic_shared c home ∷ []) in
     omega (arith, one, all)
+body-times s c home (Storage st) = omega arith
 
 pub value-times : (s : ℕ) (v : Option Val) → times_in s (slots_in v) ≤ times_held holdings_of s v
 value-times s None = omega arith
@@ -283,7 +297,8 @@ held-by-one w s (j ∷ js) some =
 
 -- ---- an opening of p, whose desk is sound
 
-module _ (d : ScriptState) (p : ℕ) (l : p < length d.world.time.places) (stocked : SlotsHaveNames d) (bare : AreBare d.world (Waiting d.world)) (whole : IsWhole d.world)
+module _ (d : ScriptState) (p : ℕ) (l : p < length d.world.time.places) (stocked : SlotsHaveNames d) (bare : AreBare d.world (Waiting d.world))
+    (whole : IsWhole d.world)
     (accounts : IsAccounted holdings_of (named_owners d) d.world) where
   abbrev after : World Val
   after = steps.opened holdings_of d.world p
@@ -469,39 +484,40 @@ module _ (d : ScriptState) (stocked : SlotsHaveNames d) (slots : List ℕ) (take
     )),
   )
 
-module _ (d : ScriptState) (p : ℕ) (stocked : SlotsHaveNames d) (whole : IsWhole d.world) (slots : List ℕ) (are : slots ≡ slots_among (reclaims d.world p)) where
-  pub slot-reclaimed : (s : ℕ) → Contains slots s → Contains (reclaims d.world p) (Item s)
-  slot-reclaimed s c = slots-contain (reclaims d.world p) s (subst (λ ks. Contains ks s) are c)
+module _ (d : ScriptState) (p : ℕ) (stocked : SlotsHaveNames d) (whole : IsWhole d.world) (slots : List ℕ) (are : slots ≡ slots_among (reclaims d.world p))
+  where
+    pub slot-reclaimed : (s : ℕ) → Contains slots s → Contains (reclaims d.world p) (Item s)
+    slot-reclaimed s c = slots-contain (reclaims d.world p) s (subst (λ ks. Contains ks s) are c)
 
-  pub times-slots : (s : ℕ) → times_among s (reclaims d.world p) ≡ times_in s slots
-  times-slots s = among-slots s (reclaims d.world p) ∙ ap (times_in s) (sym are)
+    pub times-slots : (s : ℕ) → times_among s (reclaims d.world p) ≡ times_in s slots
+    times-slots s = among-slots s (reclaims d.world p) ∙ ap (times_in s) (sym are)
 
-  slot-before : (s : ℕ) → Contains slots s → (is_waiting (standing_at d.world s) ≡ true) × IsSome (standing_at d.world s) × IsSome (value_at d.world s)
-  slot-before s c = reclaimed-waits d.world p whole s (slot-reclaimed s c)
+    slot-before : (s : ℕ) → Contains slots s → (is_waiting (standing_at d.world s) ≡ true) × IsSome (standing_at d.world s) × IsSome (value_at d.world s)
+    slot-before s c = reclaimed-waits d.world p whole s (slot-reclaimed s c)
 
-  -- each of them has a name, and a value
-  pub slots-inside : All (λ s. s < length d.names) slots
-  slots-inside k e lt =
-      let s = slice_index_or slots k e in
-      (slot-inside d stocked s (slot-before s (Contains-get_or slots k e lt)).1).0
+    -- each of them has a name, and a value
+    pub slots-inside : All (λ s. s < length d.names) slots
+    slots-inside k e lt =
+        let s = slice_index_or slots k e in
+        (slot-inside d stocked s (slot-before s (Contains-get_or slots k e lt)).1).0
 
-  pub slots-filled : All (λ s. IsSome (value_at d.world s)) slots
-  slots-filled k e lt = (slot-before (slice_index_or slots k e) (Contains-get_or slots k e lt)).2
+    pub slots-filled : All (λ s. IsSome (value_at d.world s)) slots
+    slots-filled k e lt = (slot-before (slice_index_or slots k e) (Contains-get_or slots k e lt)).2
 
-  -- each of them is there once
-  slots-once : (s : ℕ) → times_in s slots ≤ 1
-  slots-once s = omega (arith, times-slots s, reclaims-once d.world p s whole, once-bound (is_waiting (standing_at d.world s)))
+    -- each of them is there once
+    slots-once : (s : ℕ) → times_in s slots ≤ 1
+    slots-once s = omega (arith, times-slots s, reclaims-once d.world p s whole, once-bound (is_waiting (standing_at d.world s)))
 
-  -- what is answered rises, and names exactly the items that are reclaimed
-  pub names-go : (found : List ItemName) → found ≡ names_in d.names slots → (sorted : List ItemName) → IsPermutation found sorted →
-      IsNonDecreasingBy (λ (i : ItemName). i.0) sorted →
-      IsStrictlyIncreasing (map (λ (i : ItemName). i.0) sorted)
-      × ((i : ItemName) → Contains sorted i ↔ (IsThere d i.0 × Contains (reclaims d.world p) (Item (slot_at d i.0))))
-  names-go found is sorted moved up =
-      let all = names-found d stocked slots (λ s c. (slot-before s c).1) slots-once found is sorted moved up in (
-        all.0,
-        (λ i. (
-          (λ c. let there = (all.1 i).0 c in (there.0, slot-reclaimed (slot_at d i.0) there.1)),
-          (λ h. (all.1 i).1 (h.0, subst (λ ks. Contains ks (slot_at d i.0)) (sym are) (contain-slots (reclaims d.world p) (slot_at d i.0) h.1))),
-        )),
-      )
+    -- what is answered rises, and names exactly the items that are reclaimed
+    pub names-go : (found : List ItemName) → found ≡ names_in d.names slots → (sorted : List ItemName) → IsPermutation found sorted →
+        IsNonDecreasingBy (λ (i : ItemName). i.0) sorted →
+        IsStrictlyIncreasing (map (λ (i : ItemName). i.0) sorted)
+        × ((i : ItemName) → Contains sorted i ↔ (IsThere d i.0 × Contains (reclaims d.world p) (Item (slot_at d i.0))))
+    names-go found is sorted moved up =
+        let all = names-found d stocked slots (λ s c. (slot-before s c).1) slots-once found is sorted moved up in (
+          all.0,
+          (λ i. (
+            (λ c. let there = (all.1 i).0 c in (there.0, slot-reclaimed (slot_at d i.0) there.1)),
+            (λ h. (all.1 i).1 (h.0, subst (λ ks. Contains ks (slot_at d i.0)) (sym are) (contain-slots (reclaims d.world p) (slot_at d i.0) h.1))),
+          )),
+        )

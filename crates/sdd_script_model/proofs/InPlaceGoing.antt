@@ -36,7 +36,9 @@ use Rattle.sdd_script_model.proofs.Dates.{dated-same, dated-stands, dated-kept, 
 use Rattle.sdd_script_model.specs.Listed.{IsListed}
 use Rattle.sdd_script_model.proofs.Links.{same-once}
 use Rattle.sdd_script_model.proofs.Counting.{accounts, owner-given, owner-spent, some-holding}
-use Rattle.sdd_script_model.proofs.Chains.{LeavesSound, alone-unlisted, at_home-given, at_home-spent, edited, finishes, moves, starts}
+use Rattle.sdd_script_model.proofs.Chains.{LeavesSound, alone-unlisted, at_home-given, at_home-spent, edited, finishes, moves, owned-apart, starts}
+use Rattle.sdd_script_model.specs.Bags.{IsStored}
+use Rattle.sdd_script_model.proofs.Storing.{spare-bare}
 use Rattle.sdd_script_model.proofs.Gone.{times_in, body-waits, value-times}
 use Rattle.sdd_script_model.proofs.Going.{sole-is, released-leaves}
 use Rattle.sdd_script_model.proofs.CellGoing.{dates_spilled}
@@ -52,6 +54,7 @@ held-slots : (b : Body) → slots_of (owner_in b) ≡ listed (slot_held b)
 held-slots (body.Number n) = refl
 held-slots (body.Owned o) = refl
 held-slots (body.Shared o) = refl
+held-slots (body.Storage s) = refl
 
 unless : (b : Bool) → (b ≡ false → ⊥) → b ≡ true
 unless true not = refl
@@ -67,16 +70,16 @@ value-held-out d s k v there m is =
     in_value-out holdings_of d.world k m (named_owners d) (accounts d s) (omega (arith, held, ap (times_held holdings_of m) there))
 
 -- an owner with a name is outside
-owner-outside : (d : ScriptState) (o k : ℕ) → slot_of (holding_at d.owners o) ≡ Some k → 1 ≤ named d (owner_of k)
+pub owner-outside : (d : ScriptState) (o k : ℕ) → slot_of (holding_at d.owners o) ≡ Some k → 1 ≤ named d (owner_of k)
 owner-outside d o k slot =
     let h = some-holding slot_of refl (holding_at d.owners o) k slot in
     omega (arith, owner-spent d.owners d.cells d.collectors o k h.0 h.1 h.2 (owner_of k), same-once k)
 
 module _ (d : ScriptState) (s : IsSound d) (whole : IsWhole d.world) (p k : ℕ) (live : IsPlaceOf d.world p) where
   -- the link of an item that is in no list holds nothing
-  unlisted-bare : (j : ℕ) (v : Val) → value_at d.world j ≡ Some v → (IsListed (IsListCell d) d.world j → ⊥) →
+  unlisted-bare : (j : ℕ) (v : Val) → value_at d.world j ≡ Some v → (IsStored d.bags d.world j → ⊥) → (IsListed (IsListCell d) d.world j → ⊥) →
       held_in (entry_at d.world.cells (link_of v)) ≡ None
-  unlisted-bare j v there not = elim (s.lists.linked j v there) [ inl none ↦ none | inr at ↦ absurd (not at) ]
+  unlisted-bare j v there off not = elim (s.lists.linked j v there off) [ inl none ↦ none | inr at ↦ absurd (not at) ]
 
   -- ---- an item goes raw
   module _ (o : ℕ) (owner : sole_slot (holding_at d.owners o) ≡ Some k) (stands : standing_at d.world k ≡ Some Owned) where
@@ -150,10 +153,12 @@ module _ (d : ScriptState) (s : IsSound d) (whole : IsWhole d.world) (p k : ℕ)
     gave : (j : ℕ) → is_waiting (standing_at after_dropped.world j) ≡ true → is_waiting (standing_at d.world j) ≡ false →
         1 ≤ times_in j (listed (slot_held (body_of v)))
     gave j now idle =
-        let bare = unlisted-bare k v there (alone-unlisted (starts d s whole) k may.alone (owner-outside d o k (ap slot_of named ∙ slot))) in
+        let start = starts d s whole in
+        let mine = owner-outside d o k (ap slot_of named ∙ slot) in
+        let bare = unlisted-bare k v there (owned-apart start k mine) (alone-unlisted start k may.alone mine) in
         let waits = ap (λ (x : Option Val). is_waiting (standing_at (dropped_out holdings_of d.world p k x) j)) (sym there) ∙ now in
         subst (λ ks. 1 ≤ times_in j ks) (held-slots (body_of v))
-        (body-waits (vacated d.world k) p (link_of v) j (link_home v) (body_of v) bare (vacated-idle j idle) waits)
+        (body-waits (vacated d.world k) p (link_of v) j (link_home v) (body_of v) bare (spare-bare d.world s.spare k v there) (vacated-idle j idle) waits)
 
     dated-dropped : IsDated d after_dropped
     dated-dropped = by (slot_held (body_of v)) refl where

@@ -13,6 +13,7 @@ use Rattle.sdd_space.proofs.Accounts.{outside-out, in_value-out}
 use Rattle.sdd_script_model.specs.Val.{Val, body_of, holdings_of}
 use Rattle.sdd_script_model.specs.ScriptState.{ScriptState, name_at}
 use Rattle.sdd_script_model.specs.Shown.{number_in}
+use Rattle.sdd_script_model.specs.Bags.{IsStored}
 use Rattle.sdd_script_model.specs.Sound.{HoldsOnlyOlder, SlotsHaveNames, named_owners}
 use Rattle.sdd_script_model.proofs.Counting.{AreCounted, times_in, times-held}
 use Rattle.sdd_script_model.proofs.Links.{HoldsLess}
@@ -38,9 +39,11 @@ pub filled-long : {A B : Type 0} (vs : List (Option A)) (ss : List (Option B)) �
 filled-long vs ss e = sym (length-map vs is_some) ∙ ap (λ (bs : List Bool). length bs) e ∙ length-map ss is_some
 
 -- an item is made: its value holds owners of items that are there, which were made before
-module _ (d : ScriptState) (l : HoldsOnlyOlder d) (a : AreCounted d d.world) (stocked : SlotsHaveNames d) (filled : map is_some d.world.values ≡ map is_some d.world.standings)
+module _ (d : ScriptState) (l : HoldsOnlyOlder d) (a : AreCounted d d.world) (stocked : SlotsHaveNames d)
+    (filled : map is_some d.world.values ≡ map is_some d.world.standings)
     (e : ScriptState) (c k : ℕ) (v : Val) (s : Standing) (free : IsEmptyAt d.world.standings k)
-    (moved : (j : ℕ) → named_owners d j ≡ named_owners e j + times_in j (body_of v)) where
+    (moved : (j : ℕ) → named_owners d j ≡ named_owners e j + times_in j (body_of v))
+    (no_storage : (i : ℕ) → (1 ≤ named_owners d i) ⊎ ((j : ℕ) × (1 ≤ times_held holdings_of i (value_at d.world j))) → IsStored d.bags d.world i → ⊥) where
   abbrev made_names : List (Option ℕ)
   made_names = slice_set d.names k (Some (length d.slots))
 
@@ -53,10 +56,10 @@ module _ (d : ScriptState) (l : HoldsOnlyOlder d) (a : AreCounted d d.world) (st
       let none : is_out (standing_at d.world i) ≡ false = ap (λ (n : ℕ). is_out (standing_at d.world n)) same ∙ ap is_out free.1 in
       let never : true ≡ false = sym out ∙ none in cc
 
-  older-name : (i : ℕ) → is_out (standing_at d.world i) ≡ true → number_at i < length d.slots
-  older-name i out =
+  older-name : (i : ℕ) → is_out (standing_at d.world i) ≡ true → (IsStored d.bags d.world i → ⊥) → number_at i < length d.slots
+  older-name i out off =
       let was = get_or-set_other d.names k i (Some (length d.slots)) None (elsewhere i out) in
-      let own = out-named d stocked i out in
+      let own = out-named d stocked i out off in
       omega (arith, ap number_in (was ∙ own.is), own.given)
 
   made-older : (j i : ℕ) → (j ≡ k) ⊎ (j ≢ k) → 1 ≤ times_held holdings_of i (slice_index_or (slice_set d.world.values k (Some v)) j None) →
@@ -65,10 +68,11 @@ module _ (d : ScriptState) (l : HoldsOnlyOlder d) (a : AreCounted d d.world) (st
       let long : k < length d.world.values = omega (arith, free.0, filled-long d.world.values d.world.standings filled) in
       let value : slice_index_or (slice_set d.world.values k (Some v)) j None ≡ Some v = rw same (get_or-set_same d.world.values k (Some v) None long) in
       let held : 1 ≤ times_in i (body_of v) = omega (arith, some, ap (times_held holdings_of i) value, times-held v i) in
-      let out = outside-out holdings_of d.world i (named_owners d) a (omega (arith, held, moved i)) in
+      let mine : 1 ≤ named_owners d i = omega (arith, held, moved i) in
+      let out = outside-out holdings_of d.world i (named_owners d) a mine in
       let own : number_at j ≡ length d.slots =
       ap number_at same ∙ ap number_in (get_or-set_same d.names k (Some (length d.slots)) None (omega (arith, free.0, stocked.names))) in
-      omega (arith, own, older-name i out)
+      omega (arith, own, older-name i out (no_storage i (inl mine)))
   made-older j i (inr apart) some =
       let value = get_or-set_other d.world.values k j (Some v) None apart in
       let before : 1 ≤ times_held holdings_of i (value_at d.world j) = omega (arith, some, ap (times_held holdings_of i) value) in

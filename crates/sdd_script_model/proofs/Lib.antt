@@ -15,12 +15,18 @@ pub mod Gone
 pub mod Deferred
 pub mod JobDates
 pub mod Frames
+pub mod Storing
 pub mod Chains
 pub mod StackChains
+pub mod BagChains
 pub mod Going
 pub mod StackGoing
 pub mod StackPushing
 pub mod StackPouring
+pub mod BagGoing
+pub mod BagAdding
+pub mod BagEnds
+pub mod BagLeaving
 pub mod BehindGoing
 pub mod QueueGoing
 pub mod QueueEnds
@@ -38,6 +44,7 @@ pub mod Awaiting
 pub mod Calm
 pub mod StackTurns
 pub mod CopyTurns
+pub mod BagTurns
 pub mod Turns
 pub mod History
 pub mod Telling

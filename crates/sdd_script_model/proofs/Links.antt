@@ -1,4 +1,4 @@
--- What values hold: the owner that a body is, and a link, which holds nothing
+-- What values hold: what a body does, and a link
 use Rattle.std.proofs.Common.{◌≡◌, inl, inr, ℕ, ◌+◌, ◌≤◌, ◌∷◌, [], ◌++◌, Option, Some, None, is_some, slice_index_or, slice_set, refl, sym, ap, ◌∙◌, arith}
 use Rattle.std.specs.Prelude.{◌==◌}
 use Rattle.std.proofs.lemmas.Bool.{cases_eq}
@@ -21,8 +21,9 @@ use Rattle.sdd_space.proofs.Rights.{given-same, once-where}
 use Rattle.sdd_space.proofs.Sheds.{Sheds}
 use Rattle.sdd_space.proofs.Whole.{one_where}
 use Rattle.sdd_script_model.specs.declared.val.Body.{Body}
-use Rattle.sdd_script_model.specs.Val.{Val, holdings_of, link_holding, body_of, link_of, owner_in}
-use Rattle.sdd_script_model.specs.declared.val.Body.TheVariants.{Number, Owned, Shared}
+use Rattle.sdd_bag.specs.Storages.{StorageName}
+use Rattle.sdd_script_model.specs.Val.{Val, holdings_of, link_holding, body_of, link_of, owner_in, storage_in}
+use Rattle.sdd_script_model.specs.declared.val.Body.TheVariants.{Number, Owned, Shared, Storage}
 use Rattle.sdd_script_model.proofs.Entry.{at-same, at-other, inside, set-either}
 
 -- each value that is there was there, but for a number
@@ -46,11 +47,13 @@ less-shed shed s x e = elim (shed.values s) [
 ]
 
 -- one value is another, with the same link and the same owner
-pub less-edited : (w : World Val) (k : ℕ) (was now : Val) → value_at w k ≡ Some was → link_of now ≡ link_of was → owner_in (body_of now) ≡ owner_in (body_of was) →
+pub less-edited : (w : World Val) (k : ℕ) (was now : Val) → value_at w k ≡ Some was → link_of now ≡ link_of was →
+    owner_in (body_of now) ≡ owner_in (body_of was) →
     HoldsLess w (record w { values = slice_set w.values k (Some now) })
 less-edited w k was now there link body s x e = elim (cases_eq s k) [
   | inl same ↦
-      (let here : slice_index_or (slice_set w.values k (Some now)) k None ≡ Some now = at-same w.values k (Some now) None (inside w.values k (ap is_some there)) in
+      (let here : slice_index_or (slice_set w.values k (Some now)) k None ≡ Some now =
+      at-same w.values k (Some now) None (inside w.values k (ap is_some there)) in
       let both : Some now ≡ Some x = sym here ∙ ap (λ j. slice_index_or (slice_set w.values k (Some now)) j None) (sym same) ∙ e in
       let is : now ≡ x = cc in
       (was, ap (value_at w) same ∙ there, ap link_of (sym is) ∙ link, ap (λ v. owner_in (body_of v)) (sym is) ∙ body))
@@ -63,7 +66,7 @@ less-edited w k was now there link body s x e = elim (cases_eq s k) [
 abbrev pub null : CellContents
 null = record { held = None; tag = no_tag }
 
--- a value holds its owner, and the right to its link
+-- a value holds what its body does, and the right to its link
 pub holds-so : (v : Val) (u : Claim) → claims (holdings_of v) u ≡ claims (owner_in (body_of v)) u + one (right_to (link_of v)) u
 holds-so v (owner_of k) = sum_by_push (λ h. one_where (is_owner_of k h)) (owner_in (body_of v)) (link_holding v) ∙ omega arith
 holds-so v (right_to c) =
@@ -90,24 +93,37 @@ pub closed-bare : {T : Type 0} (w : World T) (p c : ℕ) → held_in (entry_at w
     cell_closed w p c ≡ record w { cells = without_entry w.cells c }
 closed-bare w p c none = ap (spilled (record w { cells = without_entry w.cells c }) p) none
 
--- p is given the owner that a body is, if it is one, and then a cell that holds nothing
-pub body-given : (w : World Val) (p c : ℕ) (home : GhostName) (b : Body) → held_in (entry_at w.cells c) ≡ None →
-    (let u = given_all w p (owner_in b ++ atomic_shared c home ∷ []) in (u.values ≡ w.values) × (u.cells ≡ without_entry w.cells c))
-body-given w p c home b none = by b where
-  closes : (u : World Val) → u.values ≡ w.values → u.cells ≡ w.cells →
-      ((cell_closed u p c).values ≡ w.values) × ((cell_closed u p c).cells ≡ without_entry w.cells c)
-  closes u values cells =
-      let bare : held_in (entry_at u.cells c) ≡ None = rw cells none in
-      rw (closed-bare u p c bare) (values, ap (λ cs. without_entry cs c) cells)
+-- the own cell of a storage holds nothing
+abbrev pub IsBareStorage : World Val → Body → Type 0
+IsBareStorage w b = (st : StorageName) → storage_in b ≡ Some st → held_in (entry_at w.cells st.cell) ≡ None
 
-  by : (b : Body) → (let u = given_all w p (owner_in b ++ atomic_shared c home ∷ []) in (u.values ≡ w.values) × (u.cells ≡ without_entry w.cells c))
-  by (Number n) = closes w refl refl
-  by (Owned o) =
-      let g = given-same w p (owned.slot_of o) (standing_at w (owned.slot_of o)) refl in
-      closes (owner_given w p (owned.slot_of o) (standing_at w (owned.slot_of o))) g.0 g.1
-  by (Shared o) =
-      let g = given-same w p (shared.slot_of o) (standing_at w (shared.slot_of o)) refl in
-      closes (owner_given w p (shared.slot_of o) (standing_at w (shared.slot_of o))) g.0 g.1
+-- the values are the same, and what cells hold nothing do so still
+pub record StaysBare (old new : World Val) : Type 0 where
+  pub values : new.values ≡ old.values
+  pub bare : (d : ℕ) → held_in (entry_at old.cells d) ≡ None → held_in (entry_at new.cells d) ≡ None
+
+-- p is given what a body holds, and then a cell, and neither this nor a storage's own cell holds anything
+pub body-given : (w : World Val) (p c : ℕ) (home : GhostName) (b : Body) → held_in (entry_at w.cells c) ≡ None → IsBareStorage w b →
+    StaysBare w (given_all w p (owner_in b ++ atomic_shared c home ∷ []))
+body-given w p c home b none spare = by b spare where
+  closes : (u : World Val) (k : ℕ) → StaysBare w u → held_in (entry_at w.cells k) ≡ None → StaysBare w (cell_closed u p k)
+  closes u k stays bare =
+      let same = closed-bare u p k (stays.bare k bare) in
+      rw same (record { values = stays.values; bare = λ d was. freed-bare u.cells k d (stays.bare d was) })
+
+  gives : (k : ℕ) → StaysBare w (owner_given w p k (standing_at w k))
+  gives k =
+      let g = given-same w p k (standing_at w k) refl in
+      record { values = g.0; bare = λ d was. ap (λ (cs : Entries CellContents). held_in (entry_at cs d)) g.1 ∙ was }
+
+  start : StaysBare w w
+  start = record { values = refl; bare = λ d was. was }
+
+  by : (b : Body) → IsBareStorage w b → StaysBare w (given_all w p (owner_in b ++ atomic_shared c home ∷ []))
+  by (Number n) spare = closes w c start none
+  by (Owned o) spare = closes (owner_given w p (owned.slot_of o) (standing_at w (owned.slot_of o))) c (gives (owned.slot_of o)) none
+  by (Shared o) spare = closes (owner_given w p (shared.slot_of o) (standing_at w (shared.slot_of o))) c (gives (shared.slot_of o)) none
+  by (Storage s) spare = closes (cell_closed w p s.cell) c (closes w s.cell start (spare s refl)) none
 
 pub waiting-there : (w : World Val) (k : ℕ) (s : Option Standing) (v : Val) → waiting_value w k s ≡ Some v → value_at w k ≡ Some v
 waiting-there w k s v e = grind arith

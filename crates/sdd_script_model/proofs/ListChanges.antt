@@ -51,8 +51,9 @@ module _ (v w : World Val) (l c : ℕ) (x y : CellContents) (cells : w.cells ≡
 
 -- ---- the first entry is let go of
 
-module _ (begins : ℕ → Type 0) (seconds : (c b : ℕ) → Type 0) (v : World Val) (outside : Claim → ℕ) (ledger : IsLedger holdings_of outside v)
-    (own : AreOwn begins seconds outside) (had : HasLists begins seconds v) (c : ℕ) (its : begins c)
+module _ (begins : ℕ → Type 0) (seconds : (c b : ℕ) → Type 0) (stored : ℕ → Type 0) (v : World Val) (outside : Claim →
+    ℕ) (ledger : IsLedger holdings_of outside v)
+    (own : AreOwn begins seconds outside) (had : HasLists begins seconds stored v) (c : ℕ) (its : begins c)
     (single : (b : ℕ) → seconds c b → ⊥) where
   -- a second cell is not a value's link, nor the first cell of a list
   second-apart : (a b s : ℕ) (x : Val) → seconds a b → value_at v s ≡ Some x → (b ≢ link_of x) × (b ≢ c)
@@ -86,12 +87,12 @@ module _ (begins : ℕ → Type 0) (seconds : (c b : ℕ) → Type 0) (v : World
         (apart-item v outside ledger e.slot e.value there gs list.linked (λ among. far (had.apart b c e.slot gs (e ∷ es) x its list old among (inl refl))))
         (apart-own v outside ledger c (own.first c its) gs list.linked) list
 
-    links : (s : ℕ) (z : Val) → value_at w s ≡ Some z → (held_in (entry_at w.cells (link_of z)) ≡ None) ⊎ (IsAmong s es
+    links : (s : ℕ) (z : Val) → value_at w s ≡ Some z → (stored s → ⊥) → (held_in (entry_at w.cells (link_of z)) ≡ None) ⊎ (IsAmong s es
         ⊎ ((at : IsListed begins v s) × (at.cell ≢ c)))
-    links s z e_now =
+    links s z e_now not =
         let was = value-was v w (link_of e.value) c gone next cells values s z e_now in
         let off : link_of z ≢ c = λ same. link-apart v outside ledger c s z (own.first c its) was (sym same) in
-        elim (had.linked s z was) [
+        elim (had.linked s z was not) [
           | inl none ↦ inl (none-still v w (link_of e.value) c gone next cells values (link_of z) off refl none)
           | inr at ↦ elim (cases_eq at.cell c) [
             | inl same ↦
@@ -117,8 +118,8 @@ module _ (begins : ℕ → Type 0) (seconds : (c b : ℕ) → Type 0) (v : World
     stays-gone : StaysGone seconds v w
     stays-gone a b s y holds was = let-go-kept link_of v w s (gone-first link_of v p c no_tag e es old) was
 
-    pub has-let_go : HasLists begins seconds w
-    has-let_go = has-changed begins seconds v w had c its stays stays-gone (e ∷ es) es old new numbers.1
+    pub has-let_go : HasLists begins seconds stored w
+    has-let_go = has-changed begins seconds stored v w had c its stays stays-gone (e ∷ es) es old new numbers.1
         (λ b y. absurd (single b y)) forward (λ s among. inl (inr among)) links
 
   -- ---- an item is put in front, whose link holds nothing
@@ -155,11 +156,11 @@ module _ (begins : ℕ → Type 0) (seconds : (c b : ℕ) → Type 0) (v : World
     fresh-or s (inl here) = inr (λ at. alone (subst (λ i. IsListed begins v i) (sym here) at))
     fresh-or s (inr there) = inl there
 
-    linked-or : (s : ℕ) (z : Val) → value_at wider s ≡ Some z → (held_in (entry_at wider.cells (link_of z)) ≡ None) ⊎ (IsAmong s (entry ∷ es)
+    linked-or : (s : ℕ) (z : Val) → value_at wider s ≡ Some z → (stored s → ⊥) → (held_in (entry_at wider.cells (link_of z)) ≡ None) ⊎ (IsAmong s (entry ∷ es)
         ⊎ ((at : IsListed begins v s) × (at.cell ≢ c)))
-    linked-or s z was = elim (cases_eq (link_of z) (link_of x)) [
+    linked-or s z was not = elim (cases_eq (link_of z) (link_of x)) [
       | inl same ↦ inr (inl (inl (sym (links-apart v outside ledger s k z x was there same))))
-      | inr far ↦ elim (had.linked s z was) [
+      | inr far ↦ elim (had.linked s z was not) [
         | inl none ↦
             inl (ap held_in (third v wider (link_of x) c behind_it in_front refl refl (link_of z) far
             (λ same. link-apart v outside ledger c s z (own.first c its) was (sym same))) ∙ none)
@@ -186,9 +187,9 @@ module _ (begins : ℕ → Type 0) (seconds : (c b : ℕ) → Type 0) (v : World
         gone-written half c in_front (other-tag (entry_at half.cells c) behind_it begun (λ same. absurd (cc))) in
         let-go-kept link_of v wider s (gone-then v half wider first second) was
 
-    pub has-put_in : HasLists begins seconds wider
+    pub has-put_in : HasLists begins seconds stored wider
     has-put_in =
-        has-changed begins seconds v wider had c its seconds-stay gone-stays es (entry ∷ es) old longer (number, numbers)
+        has-changed begins seconds stored v wider had c its seconds-stay gone-stays es (entry ∷ es) old longer (number, numbers)
         (λ b y. absurd (single b y)) kept-others fresh-or linked-or
 
     pub put_in-list : Begins wider c (entry ∷ es)
@@ -236,14 +237,15 @@ among-or s (e ∷ es) = elim (cases_eq e.slot s) [
   ]
 ]
 
-module _ (begins : ℕ → Type 0) (seconds : (c b : ℕ) → Type 0) (v : World Val) (outside : Claim → ℕ) (ledger : IsLedger holdings_of outside v)
-    (own : AreOwn begins seconds outside) (had : HasLists begins seconds v) (k : ℕ) (x : Val) (there : value_at v k ≡ Some x)
+module _ (begins : ℕ → Type 0) (seconds : (c b : ℕ) → Type 0) (stored : ℕ → Type 0) (v : World Val) (outside : Claim →
+    ℕ) (ledger : IsLedger holdings_of outside v)
+    (own : AreOwn begins seconds outside) (had : HasLists begins seconds stored v) (k : ℕ) (x : Val) (there : value_at v k ≡ Some x)
     (cell now : CellContents) (holds : entry_at v.cells (link_of x) ≡ Some cell) (same : now.held ≡ cell.held) (plain : now.tag ≢ Both)
     (kept : cell.tag ≢ Second) where
   abbrev tagged : World Val
   tagged = with_cell v (link_of x) now
 
-  retag-list : (b : ℕ) → begins b → (es : List (Entry Val)) → Begins v b es → IsAsBefore begins seconds v tagged had b es
+  retag-list : (b : ℕ) → begins b → (es : List (Entry Val)) → Begins v b es → IsAsBefore begins seconds stored v tagged had b es
   retag-list b y es list = elim (among-or k es) [
     | inl among ↦
         (let at = among-link v k x es list.linked among there in
@@ -267,10 +269,10 @@ module _ (begins : ℕ → Type 0) (seconds : (c b : ℕ) → Type 0) (v : World
         (apart-item v outside ledger k x there es list.linked not) list)
   ]
 
-  pub has-retagged : HasLists begins seconds tagged
+  pub has-retagged : HasLists begins seconds stored tagged
   has-retagged =
-      has-kept begins seconds v tagged had retag-list
-      (λ s z e. elim (had.linked s z e) [
+      has-kept begins seconds stored v tagged had retag-list
+      (λ s z e not. elim (had.linked s z e not) [
         | inl none ↦ elim (cases_eq (link_of z) (link_of x)) [
           | inl is ↦
               (let holds_now : entry_at tagged.cells (link_of x) ≡ Some now =
@@ -287,7 +289,8 @@ module _ (begins : ℕ → Type 0) (seconds : (c b : ℕ) → Type 0) (v : World
 
 -- ---- a list begins in a cell that was free
 
-module _ (begins more : ℕ → Type 0) (seconds : (c b : ℕ) → Type 0) (v : World Val) (had : HasLists begins seconds v) (c : ℕ) (free : IsEmptyAt v.cells c)
+module _ (begins more : ℕ → Type 0) (seconds : (c b : ℕ) → Type 0) (stored : ℕ → Type 0) (v : World Val) (had : HasLists begins seconds stored v) (c : ℕ)
+    (free : IsEmptyAt v.cells c)
     (new : (b : ℕ) → more b → begins b ⊎ (b ≡ c)) (old : (b : ℕ) → begins b → more b) where
   abbrev begun : World Val
   begun = nulled v c
@@ -317,14 +320,14 @@ module _ (begins more : ℕ → Type 0) (seconds : (c b : ℕ) → Type 0) (v : 
   had-entry b s es (inr same) list among =
       absurd (subst (λ (fs : List (Entry Val)). IsAmong s fs) (same-list begun c es [] (subst (λ (i : ℕ). Begins begun i es) same list) none-here) among)
 
-  pub has-begun : HasLists more seconds begun
+  pub has-begun : HasLists more seconds stored begun
   has-begun = record {
     lists = λ b x. lists-begun b (new b x);
     apart = λ a b s es fs x y one two at also.
         (let first = had-entry a s es (new a x) one at in
         let second = had-entry b s fs (new b y) two also in
         had.apart a b s es fs first.0 second.0 first.1 second.1 at also);
-    linked = λ s z e. elim (had.linked s z e) [
+    linked = λ s z e not. elim (had.linked s z e not) [
       | inl none ↦ inl (elim (set-either v.cells c (link_of z) (Some null) None) [ inl set ↦ ap held_in set | inr kept ↦ ap held_in kept ∙ none ])
       | inr at ↦
           inr (record {
@@ -355,8 +358,9 @@ module _ (begins more : ℕ → Type 0) (seconds : (c b : ℕ) → Type 0) (v : 
 
 -- ---- a list ends that has no entries
 
-module _ (begins fewer : ℕ → Type 0) (seconds : (c b : ℕ) → Type 0) (v : World Val) (outside : Claim → ℕ) (ledger : IsLedger holdings_of outside v)
-    (own : AreOwn begins seconds outside) (had : HasLists begins seconds v) (c : ℕ) (its : begins c) (single : (b : ℕ) → seconds c b → ⊥)
+module _ (begins fewer : ℕ → Type 0) (seconds : (c b : ℕ) → Type 0) (stored : ℕ → Type 0) (v : World Val) (outside : Claim →
+    ℕ) (ledger : IsLedger holdings_of outside v)
+    (own : AreOwn begins seconds outside) (had : HasLists begins seconds stored v) (c : ℕ) (its : begins c) (single : (b : ℕ) → seconds c b → ⊥)
     (empty : Begins v c []) (was : (b : ℕ) → fewer b → begins b × (b ≢ c))
     (kept : (b : ℕ) → begins b → b ≢ c → fewer b) where
   abbrev ended : World Val
@@ -372,11 +376,11 @@ module _ (begins fewer : ℕ → Type 0) (seconds : (c b : ℕ) → Type 0) (v :
       let first = had.lists b had_it.0 in
       subst (λ (fs : List (Entry Val)). Begins v b fs) (same-list ended b first.0 es (stays-ended b had_it.1 first.0 first.1) list) first.1
 
-  pub has-ended : HasLists fewer seconds ended
+  pub has-ended : HasLists fewer seconds stored ended
   has-ended = record {
     lists = λ b x. (let had_it = was b x in let first = had.lists b had_it.0 in (first.0, stays-ended b had_it.1 first.0 first.1, first.2));
     apart = λ a b s es fs x y one two at also. had.apart a b s es fs (was a x).0 (was b y).0 (was-there a x es one) (was-there b y fs two) at also;
-    linked = λ s z e. elim (had.linked s z e) [
+    linked = λ s z e not. elim (had.linked s z e not) [
       | inl none ↦ inl (elim (set-either v.cells c (link_of z) None None) [ inl set ↦ ap held_in set | inr same ↦ ap held_in same ∙ none ])
       | inr at ↦ elim (cases_eq at.cell c) [
         | inl same ↦
@@ -418,15 +422,16 @@ module _ (begins fewer : ℕ → Type 0) (seconds : (c b : ℕ) → Type 0) (v :
 
 -- ---- a cell changes that begins no list, and that somebody has the right to
 
-module _ (begins : ℕ → Type 0) (seconds : (c b : ℕ) → Type 0) (v : World Val) (outside : Claim → ℕ) (ledger : IsLedger holdings_of outside v)
-    (had : HasLists begins seconds v) (c : ℕ) (mine : 1 ≤ outside (right_to c)) (off : (b : ℕ) → begins b → b ≢ c)
+module _ (begins : ℕ → Type 0) (seconds : (c b : ℕ) → Type 0) (stored : ℕ → Type 0) (v : World Val) (outside : Claim →
+    ℕ) (ledger : IsLedger holdings_of outside v)
+    (had : HasLists begins seconds stored v) (c : ℕ) (mine : 1 ≤ outside (right_to c)) (off : (b : ℕ) → begins b → b ≢ c)
     (beside : (a b : ℕ) → seconds a b → b ≢ c) (now : CellContents) where
-  pub has-beside : HasLists begins seconds (with_cell v c now)
+  pub has-beside : HasLists begins seconds stored (with_cell v c now)
   has-beside =
-      has-kept begins seconds v (with_cell v c now) had
+      has-kept begins seconds stored v (with_cell v c now) had
       (λ b x es list. as-before (list-apart link_of v (with_cell v c now) b no_tag es c now refl refl (off b x)
       (apart-own v outside ledger c mine es list.linked) list))
-      (λ s z e. elim (had.linked s z e) [
+      (λ s z e not. elim (had.linked s z e not) [
         | inl none ↦ inl (ap held_in (at-other v.cells c (link_of z) (Some now) None (λ same. link-apart v outside ledger c s z mine e (sym same))) ∙ none)
         | inr at ↦ inr at
       ])
@@ -441,7 +446,8 @@ module _ (begins : ℕ → Type 0) (seconds : (c b : ℕ) → Type 0) (v : World
 
 -- ---- a value changes in its place, of an item that is in no list
 
-module _ (begins : ℕ → Type 0) (seconds : (c b : ℕ) → Type 0) (v : World Val) (had : HasLists begins seconds v) (k : ℕ) (was now : Val)
+module _ (begins : ℕ → Type 0) (seconds : (c b : ℕ) → Type 0) (stored : ℕ → Type 0) (v : World Val) (had : HasLists begins seconds stored v) (k : ℕ)
+    (was now : Val)
     (there : value_at v k ≡ Some was)
     (same : link_of now ≡ link_of was) (alone : IsListed begins v k → ⊥) where
   values-kept : (es : List (Entry Val)) → (IsAmong k es → ⊥) → AreLinked link_of v es → AreLinked link_of (with_value v k now) es
@@ -455,24 +461,24 @@ module _ (begins : ℕ → Type 0) (seconds : (c b : ℕ) → Type 0) (v : World
     values-kept es (λ more. not (inr more)) linked.1,
   )
 
-  pub has-edited : HasLists begins seconds (with_value v k now)
+  pub has-edited : HasLists begins seconds stored (with_value v k now)
   has-edited =
-      has-kept begins seconds v (with_value v k now) had
+      has-kept begins seconds stored v (with_value v k now) had
       (λ b x es list. as-before (record {
         begins = list.begins;
         linked = values-kept es (λ among. alone (record { cell = b; entries = es; begun = x; list = list; among = among })) list.linked;
       }))
-      (λ s z e. elim (cases_eq s k) [
+      (λ s z e not. elim (cases_eq s k) [
         | inl is ↦
             (let here : value_at (with_value v k now) k ≡ Some now = at-same v.values k (Some now) None (inside v.values k (ap is_some there)) in
             let both : Some now ≡ Some z = sym here ∙ ap (λ (i : ℕ). value_at (with_value v k now) i) (sym is) ∙ e in
             let z_is : now ≡ z = cc in
             let link : link_of z ≡ link_of was = ap link_of (sym z_is) ∙ same in
-            elim (had.linked k was there) [
+            elim (had.linked k was there (λ x. not (subst stored (sym is) x))) [
               | inl none ↦ inl (ap (λ (i : ℕ). held_in (entry_at v.cells i)) link ∙ none)
               | inr at ↦ absurd (alone at)
             ])
-        | inr far ↦ had.linked s z (sym (at-other v.values k s (Some now) None far) ∙ e)
+        | inr far ↦ had.linked s z (sym (at-other v.values k s (Some now) None far) ∙ e) not
       ])
       (λ a b y. refl)
       (λ a b s y holds gone. elim (cases_eq s k) [
@@ -489,11 +495,11 @@ module _ (begins : ℕ → Type 0) (seconds : (c b : ℕ) → Type 0) (v : World
 
 -- ---- cells and values are as they were
 
-pub has-same : (begins : ℕ → Type 0) (seconds : (c b : ℕ) → Type 0) (v w : World Val) → w.cells ≡ v.cells → w.values ≡ v.values →
-    HasLists begins seconds v → HasLists begins seconds w
-has-same begins seconds v w cells values had =
-    has-kept begins seconds v w had (λ b x es list. as-before (list-same link_of v w b no_tag es cells values list))
-    (λ s z e. elim (had.linked s z (ap (λ (vs : List (Option Val)). slice_index_or vs s None) (sym values) ∙ e)) [
+pub has-same : (begins : ℕ → Type 0) (seconds : (c b : ℕ) → Type 0) (stored : ℕ → Type 0) (v w : World Val) → w.cells ≡ v.cells → w.values ≡ v.values →
+    HasLists begins seconds stored v → HasLists begins seconds stored w
+has-same begins seconds stored v w cells values had =
+    has-kept begins seconds stored v w had (λ b x es list. as-before (list-same link_of v w b no_tag es cells values list))
+    (λ s z e not. elim (had.linked s z (ap (λ (vs : List (Option Val)). slice_index_or vs s None) (sym values) ∙ e) not) [
       | inl none ↦ inl (ap (λ (cs : Entries CellContents). held_in (entry_at cs (link_of z))) cells ∙ none)
       | inr at ↦ inr at
     ])
@@ -502,7 +508,8 @@ has-same begins seconds v w cells values had =
 
 -- ---- an item is made: its value is in no list yet, and its link holds nothing
 
-module _ (begins : ℕ → Type 0) (seconds : (c b : ℕ) → Type 0) (v w : World Val) (k : ℕ) (x : Val) (had : HasLists begins seconds v) (cells : w.cells ≡ v.cells)
+module _ (begins : ℕ → Type 0) (seconds : (c b : ℕ) → Type 0) (stored : ℕ → Type 0) (v w : World Val) (k : ℕ) (x : Val)
+    (had : HasLists begins seconds stored v) (cells : w.cells ≡ v.cells)
     (values : w.values ≡ slice_set v.values k (Some x)) (free : value_at v k ≡ None) (bare_link : held_in (entry_at v.cells (link_of x)) ≡ None) where
   stays-made : (es : List (Entry Val)) → AreLinked link_of v es → AreLinked link_of w es
   stays-made [] linked = tt
@@ -517,14 +524,14 @@ module _ (begins : ℕ → Type 0) (seconds : (c b : ℕ) → Type 0) (v w : Wor
         stays-made es linked.1,
       )
 
-  pub has-made : k < length v.values → HasLists begins seconds w
+  pub has-made : k < length v.values → HasLists begins seconds stored w
   has-made long =
-      has-kept begins seconds v w had
+      has-kept begins seconds stored v w had
       (λ b y es list. as-before (record {
         begins = ap (λ (cs : Entries CellContents). entry_at cs b) cells ∙ list.begins;
         linked = stays-made es list.linked;
       }))
-      (λ s z e. elim (cases_eq s k) [
+      (λ s z e not. elim (cases_eq s k) [
         | inl is ↦
             (let here : value_at w k ≡ Some x =
             ap (λ (vs : List (Option Val)). slice_index_or vs k None) values ∙ at-same v.values k (Some x) None long in
@@ -534,7 +541,7 @@ module _ (begins : ℕ → Type 0) (seconds : (c b : ℕ) → Type 0) (v w : Wor
             ∙ ap (λ (i : ℕ). held_in (entry_at v.cells i)) (ap link_of (sym z_is)) ∙ bare_link))
         | inr far ↦
             (let was = sym (at-other v.values k s (Some x) None far) ∙ ap (λ (vs : List (Option Val)). slice_index_or vs s None) (sym values) ∙ e in
-            elim (had.linked s z was) [
+            elim (had.linked s z was not) [
               | inl none ↦ inl (ap (λ (cs : Entries CellContents). held_in (entry_at cs (link_of z))) cells ∙ none)
               | inr at ↦ inr at
             ])
@@ -550,8 +557,9 @@ module _ (begins : ℕ → Type 0) (seconds : (c b : ℕ) → Type 0) (v w : Wor
 
 -- ---- cells are freed, but none of a list: each is somebody's, or a value's
 
-module _ (begins : ℕ → Type 0) (seconds : (c b : ℕ) → Type 0) (v w : World Val) (outside : Claim → ℕ) (ledger : IsLedger holdings_of outside w)
-    (own : AreOwn begins seconds outside) (had : HasLists begins seconds v) (values : w.values ≡ v.values)
+module _ (begins : ℕ → Type 0) (seconds : (c b : ℕ) → Type 0) (stored : ℕ → Type 0) (v w : World Val) (outside : Claim →
+    ℕ) (ledger : IsLedger holdings_of outside w)
+    (own : AreOwn begins seconds outside) (had : HasLists begins seconds stored v) (values : w.values ≡ v.values)
     (cells : (i : ℕ) → (entry_at w.cells i ≡ entry_at v.cells i) ⊎ (entry_at w.cells i ≡ None)) where
   still-taken : (i : ℕ) → 1 ≤ outside (right_to i) + inner holdings_of w (right_to i) → entry_at w.cells i ≡ entry_at v.cells i
   still-taken i some = elim (cells i) [
@@ -570,11 +578,11 @@ module _ (begins : ℕ → Type 0) (seconds : (c b : ℕ) → Type 0) (v w : Wor
         linked-freed es linked.1,
       )
 
-  pub has-freed : HasLists begins seconds w
+  pub has-freed : HasLists begins seconds stored w
   has-freed =
-      has-kept begins seconds v w had
+      has-kept begins seconds stored v w had
       (λ c x es list. as-before (record { begins = still-taken c (omega (arith, own.first c x)) ∙ list.begins; linked = linked-freed es list.linked }))
-      (λ s z e. elim (had.linked s z (ap (λ (vs : List (Option Val)). slice_index_or vs s None) (sym values) ∙ e)) [
+      (λ s z e not. elim (had.linked s z (ap (λ (vs : List (Option Val)). slice_index_or vs s None) (sym values) ∙ e) not) [
         | inl none ↦ inl (elim (cells (link_of z)) [ inl same ↦ ap held_in same ∙ none | inr gone ↦ ap held_in gone ])
         | inr at ↦ inr at
       ])
@@ -589,9 +597,9 @@ module _ (begins : ℕ → Type 0) (seconds : (c b : ℕ) → Type 0) (v w : Wor
 
 -- ---- second cells are others, and nothing changes
 
-pub has-seconds : (begins : ℕ → Type 0) (seconds others : (c b : ℕ) → Type 0) (w : World Val) → HasLists begins seconds w →
-    ((c b : ℕ) → others c b → seconds c b ⊎ (begins c × ((es : List (Entry Val)) → Begins w c es → HoldsEntry w b es))) → HasLists begins others w
-has-seconds begins seconds others w had new = record {
+pub has-seconds : (begins : ℕ → Type 0) (seconds others : (c b : ℕ) → Type 0) (stored : ℕ → Type 0) (w : World Val) → HasLists begins seconds stored w →
+    ((c b : ℕ) → others c b → seconds c b ⊎ (begins c × ((es : List (Entry Val)) → Begins w c es → HoldsEntry w b es))) → HasLists begins others stored w
+has-seconds begins seconds others stored w had new = record {
   lists = had.lists;
   apart = had.apart;
   linked = had.linked;

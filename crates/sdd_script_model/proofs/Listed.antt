@@ -137,7 +137,7 @@ pub record AreOwn (begins : ℕ → Type 0) (seconds : (c b : ℕ) → Type 0) (
 abbrev pub StaysGone : (seconds : (c b : ℕ) → Type 0) (v w : World Val) → Type 0
 StaysGone seconds v w = (c b s : ℕ) → seconds c b → held_in (entry_at v.cells b) ≡ Some s → IsLetGo link_of v s → IsLetGo link_of w s
 
-module _ (begins : ℕ → Type 0) (seconds : (c b : ℕ) → Type 0) (v w : World Val) (had : HasLists begins seconds v) where
+module _ (begins : ℕ → Type 0) (seconds : (c b : ℕ) → Type 0) (stored : ℕ → Type 0) (v w : World Val) (had : HasLists begins seconds stored v) where
   -- a list has the same items as before
   pub record IsAsBefore (c : ℕ) (es : List (Entry Val)) : Type 0 where
     pub now : List (Entry Val)
@@ -146,16 +146,17 @@ module _ (begins : ℕ → Type 0) (seconds : (c b : ℕ) → Type 0) (v w : Wor
     pub was : (s : ℕ) → IsAmong s now → IsAmong s es
     pub still : (s : ℕ) → IsAmong s es → IsAmong s now
 
-  pub has-kept : ((c : ℕ) → begins c → (es : List (Entry Val)) → Begins v c es → IsAsBefore c es) →
-      ((s : ℕ) (x : Val) → value_at w s ≡ Some x → (held_in (entry_at w.cells (link_of x)) ≡ None) ⊎ IsListed begins v s) →
-      ((c b : ℕ) → seconds c b → entry_at w.cells b ≡ entry_at v.cells b) → StaysGone seconds v w → HasLists begins seconds w
-  has-kept forward links stays gone = record {
+  -- where these are the storages now
+  pub has-kept_so : (now : ℕ → Type 0) → ((c : ℕ) → begins c → (es : List (Entry Val)) → Begins v c es → IsAsBefore c es) →
+      ((s : ℕ) (x : Val) → value_at w s ≡ Some x → (now s → ⊥) → (held_in (entry_at w.cells (link_of x)) ≡ None) ⊎ IsListed begins v s) →
+      ((c b : ℕ) → seconds c b → entry_at w.cells b ≡ entry_at v.cells b) → StaysGone seconds v w → HasLists begins seconds now w
+  has-kept_so now forward links stays gone = record {
     lists = λ c x. (let old = had.lists c x in let new = forward c x old.0 old.1 in (new.now, new.list, new.numbers old.2));
     apart = λ b c s es fs x y one two at also.
         (let first = had.lists b x in
         let second = had.lists c y in
         had.apart b c s first.0 second.0 x y first.1 second.1 (back b x es one s at) (back c y fs two s also));
-    linked = λ s x e. elim (links s x e) [
+    linked = λ s x e not. elim (links s x e not) [
       | inl none ↦ inl none
       | inr at ↦
           (let new = forward at.cell at.begun at.entries at.list in
@@ -182,10 +183,26 @@ module _ (begins : ℕ → Type 0) (seconds : (c b : ℕ) → Type 0) (v w : Wor
         let new = forward c x old.0 old.1 in
         new.was s (subst (λ fs. IsAmong s fs) (same-list w c es new.now list new.list) at)
 
+  pub has-kept : ((c : ℕ) → begins c → (es : List (Entry Val)) → Begins v c es → IsAsBefore c es) →
+      ((s : ℕ) (x : Val) → value_at w s ≡ Some x → (stored s → ⊥) → (held_in (entry_at w.cells (link_of x)) ≡ None) ⊎ IsListed begins v s) →
+      ((c b : ℕ) → seconds c b → entry_at w.cells b ≡ entry_at v.cells b) → StaysGone seconds v w → HasLists begins seconds stored w
+  has-kept forward links stays gone = has-kept_so stored forward links stays gone
+
 -- where a list is as it was
-pub as-before : {begins : ℕ → Type 0} {seconds : (c b : ℕ) → Type 0} {v w : World Val} {had : HasLists begins seconds v} {c : ℕ} {es : List (Entry Val)} →
-    Begins w c es → IsAsBefore begins seconds v w had c es
+pub as-before : {begins : ℕ → Type 0} {seconds : (c b : ℕ) → Type 0} {stored : ℕ → Type 0} {v w : World Val} {had : HasLists begins seconds stored v} {c : ℕ}
+    {es : List (Entry Val)} →
+    Begins w c es → IsAsBefore begins seconds stored v w had c es
 as-before {es = es} list = record { now = es; list = list; numbers = λ all. all; was = λ s at. at; still = λ s at. at }
+
+-- of other storages the links aren't spoken of
+pub has-stored : {begins : ℕ → Type 0} {seconds : (c b : ℕ) → Type 0} {stored others : ℕ → Type 0} {w : World Val} → ((s : ℕ) → stored s → others s) →
+    HasLists begins seconds stored w → HasLists begins seconds others w
+has-stored wider had = record {
+  lists = had.lists;
+  apart = had.apart;
+  linked = λ s x e not. had.linked s x e (λ was. not (wider s was));
+  second = had.second;
+}
 
 -- ---- a call of the world, which sets no cell but one of those that somebody outside has the right to
 
@@ -222,7 +239,7 @@ module _ {v w : World Val} {ins outs : Claim → ℕ} (move : Moves holdings_of 
         linked-still (link_of e.value) es (ap held_in linked.0.linked) link linked.1,
       )
 
-  module _ (begins : ℕ → Type 0) (seconds : (c b : ℕ) → Type 0) (held : AreOwn begins seconds rest)
+  module _ (begins : ℕ → Type 0) (seconds : (c b : ℕ) → Type 0) (stored : ℕ → Type 0) (held : AreOwn begins seconds rest)
       (spares : (c : ℕ) → begins c → Sets holdings_of move (right_to c) → ⊥)
       (leaves : (c b : ℕ) → seconds c b → Sets holdings_of move (right_to b) → ⊥) where
     pub list-still : (c : ℕ) → begins c → (es : List (Entry Val)) → Begins v c es → Begins w c es
@@ -237,11 +254,11 @@ module _ {v w : World Val} {ins outs : Claim → ℕ} (move : Moves holdings_of 
         let value : value_at w s ≡ Some was.value = kept.values rest before s (omega (arith, inner)) ∙ was.there in
         record { value = was.value; there = value; bare = link-still s s was.value was.value was.there value refl ∙ was.bare }
 
-    pub has-still : HasLists begins seconds v → HoldsLess v w → HasLists begins seconds w
+    pub has-still : HasLists begins seconds stored v → HoldsLess v w → HasLists begins seconds stored w
     has-still had less =
-        has-kept begins seconds v w had (λ c x es list. as-before (list-still c x es list))
-        (λ s x e.
-        let was = less s x e in elim (had.linked s was.0 was.1) [
+        has-kept begins seconds stored v w had (λ c x es list. as-before (list-still c x es list))
+        (λ s x e not.
+        let was = less s x e in elim (had.linked s was.0 was.1 not) [
           | inl none ↦ inl (ap held_in (link-still s s x was.0 was.1 e was.2) ∙ ap (λ k. held_in (entry_at v.cells k)) was.2 ∙ none)
           | inr at ↦ inr at
         ])
@@ -249,7 +266,8 @@ module _ {v w : World Val} {ins outs : Claim → ℕ} (move : Moves holdings_of 
 
 -- ---- one list changes
 
-module _ (begins : ℕ → Type 0) (seconds : (c b : ℕ) → Type 0) (v w : World Val) (had : HasLists begins seconds v) (c : ℕ) (its : begins c)
+module _ (begins : ℕ → Type 0) (seconds : (c b : ℕ) → Type 0) (stored : ℕ → Type 0) (v w : World Val) (had : HasLists begins seconds stored v) (c : ℕ)
+    (its : begins c)
     (stays : (a b : ℕ) → seconds a b → entry_at w.cells b ≡ entry_at v.cells b) (gone : StaysGone seconds v w)
     (es now : List (Entry Val)) (old : Begins v c es) (new : Begins w c now) (numbers : AreNumbers now)
     (of_it : (b : ℕ) → seconds c b → HoldsEntry w b now)
@@ -283,12 +301,12 @@ module _ (begins : ℕ → Type 0) (seconds : (c b : ℕ) → Type 0) (v w : Wor
   lists-by b x (inr far) = let was = had.lists b x in (was.0, forward b x far was.0 was.1, was.2)
 
   -- a link holds nothing, or is that of an entry of the list, or is that of one of another
-  pub has-changed : ((s : ℕ) (x : Val) → value_at w s ≡ Some x → (held_in (entry_at w.cells (link_of x)) ≡ None) ⊎ (IsAmong s now
-      ⊎ ((at : IsListed begins v s) × (at.cell ≢ c)))) → HasLists begins seconds w
+  pub has-changed : ((s : ℕ) (x : Val) → value_at w s ≡ Some x → (stored s → ⊥) → (held_in (entry_at w.cells (link_of x)) ≡ None) ⊎ (IsAmong s now
+      ⊎ ((at : IsListed begins v s) × (at.cell ≢ c)))) → HasLists begins seconds stored w
   has-changed links = record {
     lists = λ b x. lists-by b x (cases_eq b c);
     apart = λ a b s fs gs x y one two at also. apart-by a b s fs gs x y one two at also (cases_eq a c) (cases_eq b c);
-    linked = λ s x e. elim (links s x e) [
+    linked = λ s x e not. elim (links s x e not) [
       | inl none ↦ inl none
       | inr (inl among) ↦ inr (record { cell = c; entries = now; begun = its; list = new; among = among })
       | inr (inr other) ↦

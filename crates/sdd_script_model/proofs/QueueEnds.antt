@@ -14,14 +14,15 @@ use Rattle.sdd_lists.specs.Lists.{Apart, AreLinked, Entry, IsList, first_slot, l
 use Rattle.sdd_lists.proofs.Ending.{apart-ends, both, left-none, trimmed-list}
 use Rattle.sdd_lists.proofs.Lists.{apart, bare, behind}
 use Rattle.sdd_lists.proofs.Popping.{apart-first}
-use Rattle.sdd_lists.proofs.Pushing.{trim-other}
+use Rattle.sdd_lists.proofs.Pushing.{trim-other, trim-values}
 use Rattle.sdd_script_model.specs.Listed.{AreNumbers, IsNumber}
 use Rattle.sdd_script_model.specs.ScriptState.{ScriptState}
 use Rattle.sdd_script_model.specs.Val.{Val, body_of, link_of}
 use Rattle.sdd_script_model.proofs.Entry.{at-other, at-same, inside}
 use Rattle.sdd_script_model.proofs.Links.{null}
 use Rattle.sdd_script_model.proofs.Listed.{among-link}
-use Rattle.sdd_script_model.proofs.StackChains.{IsBetween, between-as, front-goes, goes-on}
+use Rattle.sdd_script_model.proofs.StackChains.{IsBetween, between-as, front-goes, goes-on, link-off}
+use Rattle.sdd_script_model.proofs.Storing.{IsReserved, reserved-was}
 
 -- ---- which entries stay
 
@@ -135,10 +136,11 @@ module _ (p k : ℕ) (x : Val) where
   -- ---- the item is put there, of which one owner is in hand
 
   module _ {d : ScriptState} (live : IsPlaceOf d.world p) (rest : Claim → ℕ) where
-    put-here : (w : World Val) → IsBetween d w (λ u. rest u + one (owner_of k) u) → (c : ℕ) (t : Tag) (es : List (Entry Val)) → IsList link_of w c t es →
-        is_spent es ≡ true → entry_at w.cells (link_of x) ≡ Some null → c ≢ link_of x → Apart link_of (link_of x) es →
+    put-here : (w : World Val) → IsBetween d w (λ u. rest u + one (owner_of k) u) → (c : ℕ) (t : Tag) → (IsReserved d w c → ⊥) →
+        (IsReserved d w (link_of x) → ⊥) → (es : List (Entry Val)) → IsList link_of w c t es → is_spent es ≡ true → entry_at w.cells (link_of x) ≡ Some null →
+        c ≢ link_of x → Apart link_of (link_of x) es →
         IsBetween d (put_at link_of w p (record { cell = c; tag = t; behind = es }) (link_of x) k) rest
-    put-here w b c t es list spent clear far apart_x =
+    put-here w b c t off off_x es list spent clear far apart_x =
         let u : World Val = trimmed link_of w p c t es in
         let bare_list : IsList link_of u c t [] =
         subst (λ (xs : List (Entry Val)). IsList link_of u c t xs) (left-none es spent) (trimmed-list link_of w p c t es list) in
@@ -146,10 +148,13 @@ module _ (p k : ℕ) (x : Val) where
         let v : World Val = with_cell u (link_of x) null in
         let begins : entry_at v.cells c ≡ Some (record { held = None; tag = t }) =
         at-other u.cells (link_of x) c (Some null) None far ∙ bare_list.begins in
-        let linked = goes-on (front-goes w b p c t live es list) (changes_cell u (link_of x) null null clear_still) tt
+        let still : (i : ℕ) → (IsReserved d w i → ⊥) → IsReserved d u i → ⊥ =
+        λ i far y. far (reserved-was d w u i (trim-values link_of w p c t es) y) in
+        let linked = goes-on (front-goes w b p c t off live es list) (changes_cell u (link_of x) null null clear_still) tt (still (link_of x) off_x)
         (λ u. rest u + one (owner_of k) u) (λ u. omega arith) in
         between-as
-        (goes-on linked (changes_cell v c (record { held = None; tag = t }) (record { held = Some k; tag = t }) begins) tt rest (λ u. omega arith))
+        (goes-on linked (changes_cell v c (record { held = None; tag = t }) (record { held = Some k; tag = t }) begins) tt
+        (λ r. still c off (reserved-was d u v c refl r)) rest (λ u. omega arith))
         (λ u. omega arith)
 
     put-by : (w : World Val) (c : ℕ) (t : Tag) (e : Entry Val) (es : List (Entry Val)) →
@@ -160,10 +165,12 @@ module _ (p k : ℕ) (x : Val) where
     put-by w c t e es here there true spent = here spent
     put-by w c t e es here there false spent = there
 
-    pub put-last : (w : World Val) → IsBetween d w (λ u. rest u + one (owner_of k) u) → (c : ℕ) (t : Tag) (es : List (Entry Val)) → IsList link_of w c t es →
-        entry_at w.cells (link_of x) ≡ Some null → c ≢ link_of x → Apart link_of (link_of x) es → IsBetween d (appended link_of w p c t es (link_of x) k) rest
-    put-last w b c t [] list clear far apart_x = put-here w b c t [] list refl clear far apart_x
-    put-last w b c t (e ∷ es) list clear far apart_x =
-        put-by w c t e es (λ spent. put-here w b c t (e ∷ es) list spent clear far apart_x)
-        (put-last w b (link_of e.value) e.tag es (record { begins = list.linked.0.linked; linked = list.linked.1 }) clear apart_x.0 apart_x.1)
+    pub put-last : (w : World Val) → IsBetween d w (λ u. rest u + one (owner_of k) u) → (c : ℕ) (t : Tag) → (IsReserved d w c → ⊥) →
+        (IsReserved d w (link_of x) → ⊥) → (es : List (Entry Val)) → IsList link_of w c t es → entry_at w.cells (link_of x) ≡ Some null → c ≢ link_of x →
+        Apart link_of (link_of x) es → IsBetween d (appended link_of w p c t es (link_of x) k) rest
+    put-last w b c t off off_x [] list clear far apart_x = put-here w b c t off off_x [] list refl clear far apart_x
+    put-last w b c t off off_x (e ∷ es) list clear far apart_x =
+        put-by w c t e es (λ spent. put-here w b c t off off_x (e ∷ es) list spent clear far apart_x)
+        (put-last w b (link_of e.value) e.tag (link-off b p c t off live e es list) off_x es
+        (record { begins = list.linked.0.linked; linked = list.linked.1 }) clear apart_x.0 apart_x.1)
         (is_spent (e ∷ es)) refl

@@ -9,7 +9,7 @@ use Rattle.sdd_participants.specs.declared.standing.Standing.TheVariants as stan
 use Rattle.sdd_space.specs.OwnerOrCell.{OwnerOrCell}
 use Rattle.sdd_space.specs.OwnerOrCell as holding
 use Rattle.sdd_space.specs.Ledger.{Claim, owner_of, right_to, one, owner_held, IsLedger}
-use Rattle.sdd_space.specs.Ledger.Moves.{changes_cell, makes_cell, shares, spends_cell}
+use Rattle.sdd_space.specs.Ledger.Moves.{changes_cell, makes_cell, spends_cell}
 use Rattle.sdd_space.specs.World.{World, IsPlaceOf, value_at}
 use Rattle.sdd_space.specs.WorldChanges.{nulled, spilled, with_cell, with_standing, without_cell}
 use Rattle.sdd_space.specs.WorldInvariant.{IsWhole}
@@ -18,25 +18,27 @@ use Rattle.sdd_lists.specs.Lists.{Entry, emptied}
 use Rattle.sdd_lists.specs.Queue.{IsQueue, IsSecond, QueueCells, cell_emptied, cell_left, lets_go_of, queue_closed}
 use Rattle.sdd_lists.proofs.Leaving.{list-apart, list-without, spilled-cells, spilled-values}
 use Rattle.sdd_lists.proofs.Lists.{list-same}
+use Rattle.sdd_script_model.specs.Bags.{IsStored}
 use Rattle.sdd_script_model.specs.Listed.{AreNumbers, Begins, HasLists, HoldsEntry, IsNumber}
 use Rattle.sdd_script_model.specs.Queues.{DrainsQueue, IsNamedQueue, TakesOldest}
 use Rattle.sdd_script_model.specs.ScriptState.{ScriptState, IsListCell, IsSecondCell, holding_at, in_world, shared_cell, with_owner, with_queue, without_queue}
 use Rattle.sdd_script_model.specs.Sound.{IsSound, contained, named, stacked}
 use Rattle.sdd_script_model.specs.Val.{Val, body_of, holdings_of, link_of}
 use Rattle.sdd_script_model.proofs.Attending.{left-entry, pushed-entry}
-use Rattle.sdd_script_model.proofs.Chains.{AtHome, IsMidway, LeavesSound, are-own, at_home-given, at_home-spent, finishes, midway-as, moves, own-midway, sound-after, stacked-right, stacked-twice, starts}
+use Rattle.sdd_script_model.proofs.Chains.{AtHome, IsMidway, LeavesSound, are-own, at_home-given, at_home-spent, finishes, left-apart, list-apart-from, midway-as, moves, own-midway, shares-one, sound-after, stacked-right, stacked-twice, starts}
 use Rattle.sdd_script_model.proofs.Counting.{tells, owner-given, some-holding, stack-given, stack-spent}
 use Rattle.sdd_script_model.proofs.Dates.{dated-same}
 use Rattle.sdd_script_model.proofs.Entry.{at-other, at-pushed, at-same}
 use Rattle.sdd_script_model.proofs.Entry.{inside as inside-list}
-use Rattle.sdd_script_model.proofs.Frames.{Frames, frames-on, frames-start}
+use Rattle.sdd_script_model.proofs.Frames.{Frames, frames-on, frames-start, quiet-less}
 use Rattle.sdd_script_model.proofs.Layers.{layered-less}
 use Rattle.sdd_script_model.proofs.Links.{null, same-once}
-use Rattle.sdd_script_model.proofs.Listed.{AreOwn, apart-own, same-list}
+use Rattle.sdd_script_model.proofs.Listed.{AreOwn, apart-own, has-stored, same-list}
 use Rattle.sdd_script_model.proofs.ListChanges.{has-begun, has-ended, has-same, has-seconds}
 use Rattle.sdd_script_model.proofs.StackChains.{IsSingle, IsWith, between, empties, goes-on, in-front, midway, removed-value, removes, spills-between, trims}
 use Rattle.sdd_script_model.proofs.StackGoing.{IsDatedWithin, dated-all}
 use Rattle.sdd_script_model.proofs.Stocked.{stocked-as}
+use Rattle.sdd_script_model.proofs.Storing.{bags-still, spare-on, stays-on, stored-still}
 
 -- ---- what a cell held is given up
 
@@ -44,7 +46,7 @@ pub spills : {d : ScriptState} {w : World Val} {outside : Claim → ℕ} (p : �
     IsMidway d w (λ u. outside u + owner_held held u) → IsMidway d (spilled w p held) outside
 spills {d} {w} p live held m =
     midway (spills-between p live held (between m))
-    (has-same (IsListCell d) (IsSecondCell d) w (spilled w p held) (spilled-cells w p held) (spilled-values w p held) m.lists)
+    (has-same (IsListCell d) (IsSecondCell d) (IsStored d.bags d.world) w (spilled w p held) (spilled-cells w p held) (spilled-values w p held) m.lists)
 
 -- ---- a queue begins
 
@@ -90,11 +92,14 @@ module _ (d : ScriptState) (s : IsSound d) (whole : IsWhole d.world) (p : ℕ) (
 
   begun : IsMidway half (nulled d.world q.oldest) (named d)
   begun =
-      let m = goes-on (between (starts d s whole)) (makes_cell d.world q.oldest null free) tt (named d) (λ u. omega arith) in
+      let m = goes-on (between (starts d s whole)) (makes_cell d.world q.oldest null free) tt tt (named d) (λ u. omega arith) in
       record {
         ledger = λ u. omega (arith, m.ledger u, stack-given d.queues first_cell q.oldest refl u);
-        lists = has-seconds (IsListCell half) (IsSecondCell d) (IsSecondCell half) (nulled d.world q.oldest)
-            (has-begun (IsListCell d) (IsListCell half) (IsSecondCell d) d.world s.lists q.oldest free half-or half-old) (λ c b y. inl (half-second c b y));
+        lists = has-seconds (IsListCell half) (IsSecondCell d) (IsSecondCell half) (IsStored d.bags d.world) (nulled d.world q.oldest)
+            (has-begun (IsListCell d) (IsListCell half) (IsSecondCell d) (IsStored d.bags d.world) d.world s.lists q.oldest free half-or half-old)
+            (λ c b y. inl (half-second c b y));
+        bags = m.bags;
+        spare = m.spare;
         whole = m.whole;
         frames = m.frames;
       }
@@ -132,13 +137,17 @@ module _ (d : ScriptState) (s : IsSound d) (whole : IsWhole d.world) (p : ℕ) (
   queue_begun-leaves =
       let m = both in
       let dated = dated-same d after_queue_begun refl refl in
+      let stored = stored-still d after_queue_begun refl m.bags in
       record {
         line = refl;
         places = refl;
         sound = sound-after d after_queue_begun s m.frames.passes (refl, refl, refl, refl, refl, refl) dated p live
-            (stocked-as d after_queue_begun s.stocked refl refl dated.long m.frames.slots)
+            (stocked-as d after_queue_begun s.stocked refl refl dated.long m.frames.slots stored)
             (λ u. omega (arith, m.ledger u, stack-given d.newest second_cell q.newest refl u))
-            (has-seconds (IsListCell half) (IsSecondCell half) (IsSecondCell after_queue_begun) after_queue_begun.world m.lists new-second)
+            (has-stored stored
+            (has-seconds (IsListCell half) (IsSecondCell half) (IsSecondCell after_queue_begun) (IsStored d.bags d.world) after_queue_begun.world m.lists
+            new-second))
+            (bags-still d after_queue_begun s.bags refl m.bags refl (λ k x. refl)) m.spare
             (layered-less d after_queue_begun s.layered m.frames.values refl)
             (record {
               owners = s.home.owners;
@@ -158,7 +167,7 @@ module _ (d : ScriptState) (s : IsSound d) (whole : IsWhole d.world) (p : ℕ) (
 
 -- where its cells are known
 pub queue-in : (d : ScriptState) (w : World Val) (all : Claim → ℕ) → IsLedger holdings_of all w → AreOwn (IsListCell d) (IsSecondCell d) all →
-    HasLists (IsListCell d) (IsSecondCell d) w → (n : ℕ) (q : QueueCells) → shared_cell (holding_at d.queues n) ≡ Some q.oldest →
+    HasLists (IsListCell d) (IsSecondCell d) (IsStored d.bags d.world) w → (n : ℕ) (q : QueueCells) → shared_cell (holding_at d.queues n) ≡ Some q.oldest →
     shared_cell (holding_at d.newest n) ≡ Some q.newest → (es : List (Entry Val)) × (second : Option ℕ) × IsQueue link_of w q es second
 queue-in d w all ledger own had n q oldest newest =
     let pair : IsSecondCell d q.oldest q.newest = (n, oldest, newest) in
@@ -256,13 +265,20 @@ module _ (d : ScriptState) (s : IsSound d) (whole : IsWhole d.world) (n : ℕ) (
   abbrev base : ScriptState
   base = bare d n q newest
 
-  pub bare-lists : HasLists (IsListCell base) (IsSecondCell base) d.world
+  pub bare-lists : HasLists (IsListCell base) (IsSecondCell base) (IsStored base.bags base.world) d.world
   bare-lists =
-      has-seconds (IsListCell d) (IsSecondCell d) (IsSecondCell base) d.world s.lists
+      has-seconds (IsListCell d) (IsSecondCell d) (IsSecondCell base) (IsStored d.bags d.world) d.world s.lists
       (λ c b y. (let was = bare-was d n q newest c b y in inl (was.0, was.2, was.3)))
 
   pub in-hand : IsMidway base d.world (λ u. named d u + one (right_to q.newest) u)
-  in-hand = record { ledger = λ u. omega (arith, s.ledger u, second-less d n q newest u); lists = bare-lists; whole = whole; frames = frames-start d.world }
+  in-hand = record {
+    ledger = λ u. omega (arith, s.ledger u, second-less d n q newest u);
+    lists = bare-lists;
+    bags = λ k b es is stands. stands;
+    spare = s.spare;
+    whole = whole;
+    frames = frames-start d.world;
+  }
 
   pub its-numbers : (es : List (Entry Val)) → Begins d.world q.oldest es → AreNumbers es
   its-numbers es list =
@@ -274,7 +290,9 @@ module _ (d : ScriptState) (s : IsSound d) (whole : IsWhole d.world) (n : ℕ) (
       ((es : List (Entry Val)) → Begins w q.oldest es → HoldsEntry w q.newest es) → IsMidway d w outside
   second-back {w} m holds = record {
     ledger = λ u. omega (arith, m.ledger u, second-less d n q newest u);
-    lists = has-seconds (IsListCell base) (IsSecondCell base) (IsSecondCell d) w m.lists back;
+    lists = has-seconds (IsListCell base) (IsSecondCell base) (IsSecondCell d) (IsStored d.bags d.world) w m.lists back;
+    bags = m.bags;
+    spare = m.spare;
     whole = m.whole;
     frames = m.frames;
   } where
@@ -372,8 +390,9 @@ module _ (d : ScriptState) (s : IsSound d) (whole : IsWhole d.world) (p : ℕ) (
 
     one-more : IsMidway without_second owned_more (λ u. outside u + one (right_to q.newest) u)
     one-more =
-        midway-as (moves begins-so (shares d.world e.slot takes.owners takes.shared) tt (λ u. named d u + one (right_to q.newest) u) (λ u. omega arith)
-        (λ u never. absurd never)) (λ u. omega arith)
+        midway-as (shares-one begins-so e.slot takes.owners takes.shared
+        (left-apart begins-so q.oldest e.slot no_tag es (list-apart-from begins-so q.oldest its.begins) is.queue.list e takes.rest takes.first refl))
+        (λ u. omega arith)
 
     list-more : Begins owned_more q.oldest es
     list-more = list-same link_of d.world owned_more q.oldest no_tag es refl refl is.queue.list
@@ -462,20 +481,28 @@ module _ (d : ScriptState) (s : IsSound d) (whole : IsWhole d.world) (p : ℕ) (
         let kept = (ledger-laws holdings_of drained).kept m.whole _ _ after_queue_closed.world move in
         let frames = queue_closed-frames in
         let dated = dated-all d after_queue_closed s.stocked frames.slots.slots within in
+        let before : IsLedger holdings_of (λ u. named d u + contained (without_queue d n) u + one (right_to q.oldest) u) drained =
+        λ u. omega (arith, m.ledger u, first-less d n q is.oldest u) in
+        let stay = stays-on (without_queue d n) move m.whole (named d) before tt m.bags in
+        let stored = stored-still d after_queue_closed refl stay in
         record {
           line = refl;
           places = refl;
           sound = sound-after d after_queue_closed s frames.passes (refl, refl, refl, refl, refl, refl) dated p live
-              (stocked-as d after_queue_closed s.stocked refl refl dated.long frames.slots)
+              (stocked-as d after_queue_closed s.stocked refl refl dated.long frames.slots stored)
               (λ u. omega (
                 arith,
                 kept.ledger (λ x. named d x + contained after_queue_closed x) (λ x. omega (arith, m.ledger x, first-less d n q is.oldest x)) u,
               ))
-              (has-seconds (IsListCell after_queue_closed) (IsSecondCell without_second) (IsSecondCell after_queue_closed) after_queue_closed.world
-              (has-ended (IsListCell without_second) (IsListCell after_queue_closed) (IsSecondCell without_second) drained
+              (has-stored stored
+              (has-seconds (IsListCell after_queue_closed) (IsSecondCell without_second) (IsSecondCell after_queue_closed) (IsStored d.bags d.world)
+              after_queue_closed.world
+              (has-ended (IsListCell without_second) (IsListCell after_queue_closed) (IsSecondCell without_second) (IsStored d.bags d.world) drained
               (λ u. named d u + contained without_second u) m.ledger (own-midway m) m.lists q.oldest its.begins its.single all-gone.list
               (was-first d s n q is.oldest) (kept-first d n q is.oldest))
-              (λ c b y. inl (second-was d n c b y)))
+              (λ c b y. inl (second-was d n c b y))))
+              (bags-still d after_queue_closed s.bags refl stay frames.slots.home (λ k x. refl))
+              (spare-on (without_queue d n) move m.whole (named d) before tt m.spare (quiet-less move tt))
               (layered-less d after_queue_closed s.layered frames.values refl)
               (rw frames.slots.home (record {
                 owners = s.home.owners;

@@ -19,12 +19,13 @@ use Rattle.sdd_lists.specs.Lists.{Apart, Entry}
 use Rattle.sdd_lists.proofs.Ending.{among-last, appended-other, put-values}
 use Rattle.sdd_lists.proofs.LetGo.{KeepsGone, gone-appended, gone-same, gone-then, let-go-kept}
 use Rattle.sdd_lists.proofs.Lists.{bare, list-same}
+use Rattle.sdd_script_model.specs.Bags.{IsStored}
 use Rattle.sdd_script_model.specs.Listed.{AreNumbers, Begins, HasLists, IsListed}
 use Rattle.sdd_script_model.specs.Stacks.{Appends, IsStack}
 use Rattle.sdd_script_model.specs.ScriptState.{ScriptState, IsListCell, IsSecondCell}
 use Rattle.sdd_script_model.specs.Sound.{IsSound, contained, named}
 use Rattle.sdd_script_model.specs.Val.{Val, holdings_of, link_of}
-use Rattle.sdd_script_model.proofs.Chains.{IsMidway, are-own, starts}
+use Rattle.sdd_script_model.proofs.Chains.{IsMidway, are-own, stacked-right, starts}
 use Rattle.sdd_script_model.proofs.Counting.{owner-given}
 use Rattle.sdd_script_model.proofs.Links.{same-once}
 use Rattle.sdd_script_model.proofs.Listed.{AreOwn, StaysGone, apart-item, apart-own, has-changed, link-apart, links-apart, listed-inside, same-list}
@@ -32,10 +33,12 @@ use Rattle.sdd_script_model.proofs.ListChanges.{among-or}
 use Rattle.sdd_script_model.proofs.QueueEnds.{among-before, among-either, among-through, dropped, numbers-last, numbers-through, put-last}
 use Rattle.sdd_script_model.proofs.QueuePushing.{linked-where}
 use Rattle.sdd_script_model.proofs.StackChains.{IsBetween, IsSingle, between, goes-on, midway}
+use Rattle.sdd_script_model.proofs.Storing.{off-link, off-other}
 use Rattle.sdd_script_model.proofs.StackGoing.{is-single, numbers}
-use Rattle.sdd_script_model.proofs.StackPushing.{clear-mid, given-up, link-off, link-off_all, list-mid, made, mid, mid-whole, number-in, stands-once, there-mid}
+use Rattle.sdd_script_model.proofs.StackPushing.{clear-mid, given-up, link-off, link-off_all, list-mid, made, mid, mid-whole, number-in, stands-once, there-mid, not-stored}
 
-module _ (d : ScriptState) (s : IsSound d) (whole : IsWhole d.world) (p c : ℕ) (live : IsPlaceOf d.world p) (n : ℕ) (es : List (Entry Val)) (is : IsStack d n c es)
+module _ (d : ScriptState) (s : IsSound d) (whole : IsWhole d.world) (p c : ℕ) (live : IsPlaceOf d.world p) (n : ℕ) (es : List (Entry Val))
+    (is : IsStack d n c es)
     (number k : ℕ) (w : World Val) (puts : Appends d.world p c es number k w) where
   abbrev x : Val
   x = puts.entry
@@ -91,10 +94,13 @@ module _ (d : ScriptState) (s : IsSound d) (whole : IsWhole d.world) (p c : ℕ)
   abbrev twice : World Val
   twice = with_standing v k (Shared 2)
 
+  no-storage : IsStored entered.bags entered.world k → ⊥
+  no-storage = not-stored d s whole p live number k x puts.free puts.appended.free puts.body
+
   with-two : IsBetween entered twice (λ u. named entered u + one (owner_of k) u)
   with-two =
       goes-on (between (starts entered sound-in (mid-whole d s whole p live number k x puts.free puts.appended.free puts.body)))
-      (shares v k 1 (record { shared = once-in; some = omega arith; most = omega arith })) tt (named entered) (λ u. omega arith)
+      (shares v k 1 (record { shared = once-in; some = omega arith; most = omega arith })) tt no-storage (named entered) (λ u. omega arith)
 
   list-twice : Begins twice c es
   list-twice = list-same link_of v twice c no_tag es refl refl list-in
@@ -104,7 +110,9 @@ module _ (d : ScriptState) (s : IsSound d) (whole : IsWhole d.world) (p c : ℕ)
 
   with-last : IsBetween entered last (named entered)
   with-last =
-      put-last p k x live (named entered) twice with-two c no_tag es list-twice
+      put-last p k x live (named entered) twice with-two c no_tag
+      (off-other entered twice _ with-two.ledger with-two.bags c (omega (arith, stacked-right entered.stacks n c is.named)))
+      (off-link entered twice _ with-two.ledger with-two.bags k x there-in no-storage) es list-twice
       (clear-mid d s whole p live number k x puts.free puts.appended.free puts.body) off-first off-links
 
   -- two owners at once, or one after the other
@@ -131,7 +139,7 @@ module _ (d : ScriptState) (s : IsSound d) (whole : IsWhole d.world) (p c : ℕ)
   own : AreOwn (IsListCell entered) (IsSecondCell entered) all
   own = are-own entered v all all sound-in.ledger (λ u. omega arith) (λ u. omega arith)
 
-  had : HasLists (IsListCell entered) (IsSecondCell entered) v
+  had : HasLists (IsListCell entered) (IsSecondCell entered) (IsStored entered.bags entered.world) v
   had = sound-in.lists
 
   values-same : last.values ≡ v.values
@@ -177,9 +185,10 @@ module _ (d : ScriptState) (s : IsSound d) (whole : IsWhole d.world) (p c : ℕ)
     | inr same ↦ inr (λ at. unlisted (subst (λ (i : ℕ). IsListed (IsListCell entered) v i) (sym same) at))
   ]
 
-  links : (j : ℕ) (z : Val) → value_at last j ≡ Some z → (held_in (entry_at last.cells (link_of z)) ≡ None) ⊎ (IsAmong j now
+  links : (j : ℕ) (z : Val) → value_at last j ≡ Some z → (IsStored entered.bags entered.world j → ⊥) → (held_in (entry_at last.cells (link_of z)) ≡ None)
+      ⊎ (IsAmong j now
       ⊎ ((at : IsListed (IsListCell entered) v j) × (at.cell ≢ c)))
-  links j z e =
+  links j z e kept =
       let was : value_at v j ≡ Some z = ap (λ (vs : List (Option Val)). slice_index_or vs j None) (sym values-same) ∙ e in
       elim (cases_eq j k) [
         | inl same ↦ inr (inl (among-last j (through_last es) (record { slot = k; value = x; tag = no_tag }) (sym same)))
@@ -189,7 +198,7 @@ module _ (d : ScriptState) (s : IsSound d) (whole : IsWhole d.world) (p c : ℕ)
                 | inl stay ↦ inr (inl (among-before j (through_last es) (record { slot = k; value = x; tag = no_tag }) stay))
                 | inr none ↦ inl none
               ]
-          | inr not ↦ elim (had.linked j z was) [
+          | inr not ↦ elim (had.linked j z was kept) [
             | inl none ↦ inl (ap held_in (link-still j z was not far) ∙ none)
             | inr at ↦ elim (cases_eq at.cell c) [
               | inl same ↦
@@ -208,9 +217,10 @@ module _ (d : ScriptState) (s : IsSound d) (whole : IsWhole d.world) (p c : ℕ)
       (record { named = is.named; list = list-in })))
       (number-in d s whole p live number k x puts.free puts.appended.free puts.body)
 
-  lists-now : HasLists (IsListCell entered) (IsSecondCell entered) last
+  lists-now : HasLists (IsListCell entered) (IsSecondCell entered) (IsStored entered.bags entered.world) last
   lists-now =
-      has-changed (IsListCell entered) (IsSecondCell entered) v last had c its.begins stays stays-gone es now list-in list-now numbers-now
+      has-changed (IsListCell entered) (IsSecondCell entered) (IsStored entered.bags entered.world) v last had c its.begins stays stays-gone es now list-in
+      list-now numbers-now
       (λ b y. absurd (its.single b y)) forward from links
 
   -- ---- the other owner is given up

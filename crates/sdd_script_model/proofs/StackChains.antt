@@ -10,7 +10,7 @@ use Rattle.sdd_participants.specs.declared.standing.Standing.{Standing}
 use Rattle.sdd_space.specs.Ledger.{Claim, owner_of, one, owner_held, IsLedger, Moves}
 use Rattle.sdd_space.specs.Ledger.Moves.{changes_cell, retires, releases}
 use Rattle.sdd_space.specs.World.{World, IsPlaceOf, standing_at, value_at}
-use Rattle.sdd_space.specs.WorldChanges.{owner_given, spilled, with_cell}
+use Rattle.sdd_space.specs.WorldChanges.{held_in, owner_given, spilled, with_cell}
 use Rattle.sdd_space.specs.WorldInvariant.{IsWhole}
 use Rattle.sdd_space.proofs.Ledger.{ledger-laws}
 use Rattle.sdd_lists.specs.Lists.{Entry, IsList, emptied, first_slot, is_deleted, is_deleting, left, let_go_first, linked_in, removed, trimmed}
@@ -18,16 +18,18 @@ use Rattle.sdd_lists.specs.Marks.{retagged}
 use Rattle.sdd_lists.proofs.Lists.{bare, behind}
 use Rattle.sdd_lists.proofs.Marking.{retagged-list}
 use Rattle.sdd_lists.proofs.Popping.{apart-first, stays-of}
+use Rattle.sdd_script_model.specs.Bags.{AreSpare, IsStored}
 use Rattle.sdd_script_model.specs.Listed.{AreNumbers, Begins, HasLists, IsListed, IsNumber}
 use Rattle.sdd_script_model.specs.ScriptState.{ScriptState, IsListCell, IsSecondCell}
 use Rattle.sdd_script_model.specs.Sound.{contained}
 use Rattle.sdd_script_model.specs.Val.{Val, body_of, holdings_of, link_of}
 use Rattle.sdd_script_model.proofs.Attending.{keeps-live}
-use Rattle.sdd_script_model.proofs.Chains.{IsMidway, list-right, own-midway, retags-link}
+use Rattle.sdd_script_model.proofs.Chains.{IsMidway, among-apart, link-apart-from, list-apart-from, list-right, own-midway, owned-apart, retags-link}
 use Rattle.sdd_script_model.proofs.Entry.{at-other}
-use Rattle.sdd_script_model.proofs.Frames.{Frames, IsQuiet, frames-on}
+use Rattle.sdd_script_model.proofs.Frames.{Frames, IsQuiet, frames-on, quiet-less}
 use Rattle.sdd_script_model.proofs.Links.{null, same-once}
 use Rattle.sdd_script_model.proofs.Listed.{link-apart}
+use Rattle.sdd_script_model.proofs.Storing.{BagsStay, IsReserved, Spares, off-among, off-link, reserved-was, spare-on, stays-on}
 use Rattle.sdd_script_model.proofs.ListChanges.{has-let_go, has-put_in}
 
 -- a list begins in the cell, and has no second cell
@@ -38,25 +40,32 @@ pub record IsSingle (d : ScriptState) (c : ℕ) : Type 0 where
 -- the same without a word on lists
 pub record IsBetween (d : ScriptState) (w : World Val) (outside : Claim → ℕ) : Type 0 where
   pub ledger : IsLedger holdings_of (λ u. outside u + contained d u) w
+  pub bags : BagsStay d.bags d.world w
+  pub spare : AreSpare w
   pub whole : IsWhole w
   pub frames : Frames d.world w
 
 pub between : {d : ScriptState} {w : World Val} {outside : Claim → ℕ} → IsMidway d w outside → IsBetween d w outside
-between m = record { ledger = m.ledger; whole = m.whole; frames = m.frames }
+between m = record { ledger = m.ledger; bags = m.bags; spare = m.spare; whole = m.whole; frames = m.frames }
 
-pub midway : {d : ScriptState} {w : World Val} {outside : Claim → ℕ} → IsBetween d w outside → HasLists (IsListCell d) (IsSecondCell d) w → IsMidway d w outside
-midway b lists = record { ledger = b.ledger; lists = lists; whole = b.whole; frames = b.frames }
+pub midway : {d : ScriptState} {w : World Val} {outside : Claim → ℕ} → IsBetween d w outside →
+    HasLists (IsListCell d) (IsSecondCell d) (IsStored d.bags d.world) w → IsMidway d w outside
+midway b lists = record { ledger = b.ledger; lists = lists; bags = b.bags; spare = b.spare; whole = b.whole; frames = b.frames }
 
 pub between-as : {d : ScriptState} {w : World Val} {outside now : Claim → ℕ} → IsBetween d w outside → ((u : Claim) → now u ≡ outside u) → IsBetween d w now
-between-as b same = record { ledger = λ u. omega (arith, b.ledger u, same u); whole = b.whole; frames = b.frames }
+between-as b same =
+    record { ledger = λ u. omega (arith, b.ledger u, same u); bags = b.bags; spare = b.spare; whole = b.whole; frames = b.frames }
 
 -- a quiet call
 pub goes-on : {d : ScriptState} {v w : World Val} {outside ins outs : Claim → ℕ} → IsBetween d v outside → (move : Moves holdings_of v ins w outs) →
-    IsQuiet move → (rest : Claim → ℕ) → ((u : Claim) → outside u ≡ rest u + ins u) → IsBetween d w (λ u. rest u + outs u)
-goes-on {d} {v} {w} {outside} {ins} {outs} b move quiet rest same =
+    IsQuiet move → Spares d move → (rest : Claim → ℕ) → ((u : Claim) → outside u ≡ rest u + ins u) → IsBetween d w (λ u. rest u + outs u)
+goes-on {d} {v} {w} {outside} {ins} {outs} b move quiet off rest same =
     let kept = (ledger-laws holdings_of v).kept b.whole ins outs w move in
+    let before : IsLedger holdings_of (λ u. rest u + contained d u + ins u) v = λ u. omega (arith, b.ledger u, same u) in
     record {
-      ledger = λ u. omega (arith, kept.ledger (λ x. rest x + contained d x) (λ x. omega (arith, b.ledger x, same x)) u);
+      ledger = λ u. omega (arith, kept.ledger (λ x. rest x + contained d x) before u);
+      bags = stays-on d move b.whole rest before off b.bags;
+      spare = spare-on d move b.whole rest before off b.spare (quiet-less move quiet);
       whole = kept.whole;
       frames = frames-on b.frames b.whole move quiet;
     }
@@ -70,10 +79,10 @@ gives-up {d} {w} {outside} p live k b s is =
     elim stands [
       | inl owned ↦
           subst (λ x. IsBetween d (owner_given w p k x) outside) (sym owned.0 ∙ is)
-          (between-as (goes-on b (retires w p k live_there owned.0) tt outside (λ u. refl)) (λ u. omega arith))
+          (between-as (goes-on b (retires w p k live_there owned.0) tt tt outside (λ u. refl)) (λ u. omega arith))
       | inr shared ↦
           subst (λ x. IsBetween d (owner_given w p k x) outside) (sym shared.1 ∙ is)
-          (between-as (goes-on b (releases w p k shared.0 live_there shared.1) tt outside (λ u. refl)) (λ u. omega arith))
+          (between-as (goes-on b (releases w p k shared.0 live_there shared.1) tt tt outside (λ u. refl)) (λ u. omega arith))
     ]
 
 -- and so is what a cell held
@@ -83,8 +92,8 @@ spills-between p live None b = between-as b (λ u. omega arith)
 spills-between {d} {w} p live (Some k) b = gives-up p live k b (standing_at w k) refl
 
 -- the first entry of a list that begins in a cell, or in a link, is let go of
-module _ {d : ScriptState} {w : World Val} {outside : Claim → ℕ} (b : IsBetween d w outside) (p c : ℕ) (t : Tag) (live : IsPlaceOf d.world p) (e : Entry Val)
-    (es : List (Entry Val)) (list : IsList link_of w c t (e ∷ es)) where
+module _ {d : ScriptState} {w : World Val} {outside : Claim → ℕ} (b : IsBetween d w outside) (p c : ℕ) (t : Tag) (off : IsReserved d w c → ⊥)
+    (live : IsPlaceOf d.world p) (e : Entry Val) (es : List (Entry Val)) (list : IsList link_of w c t (e ∷ es)) where
   abbrev gone : CellContents
   gone = record { held = None; tag = Second }
 
@@ -94,10 +103,18 @@ module _ {d : ScriptState} {w : World Val} {outside : Claim → ℕ} (b : IsBetw
   abbrev first : World Val
   first = with_cell w (link_of e.value) gone
 
+  -- the entry is no storage, and its link is apart from those of storages
+  pub first-off : IsStored d.bags d.world e.slot → ⊥
+  first-off = off-among d w outside b.ledger b.bags c e.slot (e ∷ es) off (ap held_in list.begins) list.linked (inl refl)
+
+  pub link-off : IsReserved d w (link_of e.value) → ⊥
+  link-off = off-link d w outside b.ledger b.bags e.slot e.value list.linked.0.there first-off
+
   -- what the link held is in hand
   taken-out : IsBetween d first (λ u. outside u + owner_held (first_slot es) u)
   taken-out =
-      goes-on b (changes_cell w (link_of e.value) (record { held = first_slot es; tag = e.tag }) gone list.linked.0.linked) tt outside (λ u. omega arith)
+      goes-on b (changes_cell w (link_of e.value) (record { held = first_slot es; tag = e.tag }) gone list.linked.0.linked) tt link-off outside
+      (λ u. omega arith)
 
   -- the cell holds it, and the first entry's owner is in hand
   moved-up : IsBetween d (with_cell first c next) (λ u. outside u + one (owner_of e.slot) u)
@@ -105,11 +122,19 @@ module _ {d : ScriptState} {w : World Val} {outside : Claim → ℕ} (b : IsBetw
       goes-on taken-out
       (changes_cell first c (record { held = Some e.slot; tag = t }) next
       (at-other w.cells (link_of e.value) c (Some gone) None (apart-first link_of w p c t e es list) ∙ list.begins))
-      tt outside (λ u. refl)
+      tt (λ r. off (reserved-was d w first c refl r)) outside (λ u. refl)
 
   -- it is given up
   pub first-goes : IsBetween d (let_go_first w p c t e.slot (link_of e.value) (first_slot es)) outside
   first-goes = gives-up p live e.slot moved-up (standing_at w e.slot) refl
+
+-- the values are as before where an entry is let go of
+first-values : (w : World Val) (p c : ℕ) (t : Tag) (e : Entry Val) (es : List (Entry Val)) →
+    (let_go_first w p c t e.slot (link_of e.value) (first_slot es)).values ≡ w.values
+first-values w p c t e es =
+    let u : World Val =
+    with_cell (with_cell w (link_of e.value) (record { held = None; tag = Second })) c (record { held = first_slot es; tag = t }) in
+    (bare u p e.slot (standing_at u e.slot)).values
 
 goes-if : {d : ScriptState} {outside : Claim → ℕ} (w u : World Val) → IsBetween d w outside → IsBetween d u outside → (b : Bool) →
     IsBetween d (if b then u else w) outside
@@ -117,13 +142,14 @@ goes-if w u here there true = there
 goes-if w u here there false = here
 
 -- and so are the deleted ones in front
-pub front-goes : {d : ScriptState} {outside : Claim → ℕ} (w : World Val) → IsBetween d w outside → (p c : ℕ) (t : Tag) → IsPlaceOf d.world p →
-    (es : List (Entry Val)) → IsList link_of w c t es → IsBetween d (trimmed link_of w p c t es) outside
-front-goes w b p c t live [] list = b
-front-goes w b p c t live (e ∷ es) list =
+pub front-goes : {d : ScriptState} {outside : Claim → ℕ} (w : World Val) → IsBetween d w outside → (p c : ℕ) (t : Tag) → (IsReserved d w c → ⊥) →
+    IsPlaceOf d.world p → (es : List (Entry Val)) → IsList link_of w c t es → IsBetween d (trimmed link_of w p c t es) outside
+front-goes w b p c t off live [] list = b
+front-goes {d} w b p c t off live (e ∷ es) list =
     let u : World Val = let_go_first w p c t e.slot (link_of e.value) (first_slot es) in
     goes-if w (trimmed link_of u p c t es) b
-    (front-goes u (first-goes b p c t live e es list) p c t live es (behind link_of w p c t e es list)) (is_deleted e)
+    (front-goes u (first-goes b p c t off live e es list) p c t (λ x. off (reserved-was d w u c (first-values w p c t e es) x)) live es
+    (behind link_of w p c t e es list)) (is_deleted e)
 
 module _ {d : ScriptState} {w : World Val} {outside : Claim → ℕ} (m : IsMidway d w outside) (p c : ℕ) (its : IsSingle d c) where
   apart-of : (k : ℕ) (x : Val) → value_at w k ≡ Some x → c ≢ link_of x
@@ -133,8 +159,9 @@ module _ {d : ScriptState} {w : World Val} {outside : Claim → ℕ} (m : IsMidw
   pub lets-go : (live : IsPlaceOf d.world p) (e : Entry Val) (es : List (Entry Val)) (list : Begins w c (e ∷ es)) (numbers : AreNumbers (e ∷ es)) →
       IsMidway d (let_go_first w p c no_tag e.slot (link_of e.value) (first_slot es)) outside
   lets-go live e es list numbers =
-      midway (first-goes (between m) p c no_tag live e es list)
-      (has-let_go (IsListCell d) (IsSecondCell d) w (λ u. outside u + contained d u) m.ledger (own-midway m) m.lists c its.begins its.single p e es list
+      midway (first-goes (between m) p c no_tag (list-apart-from m c its.begins) live e es list)
+      (has-let_go (IsListCell d) (IsSecondCell d) (IsStored d.bags d.world) w (λ u. outside u + contained d u) m.ledger (own-midway m) m.lists c its.begins
+      its.single p e es list
       numbers)
 
   -- ---- an item is put in front, of which one owner is in hand
@@ -148,20 +175,23 @@ module _ {d : ScriptState} {w : World Val} {outside : Claim → ℕ} (m : IsMidw
     behind_it = record { held = first_slot es; tag = no_tag }
 
     holds-it : IsBetween d (with_cell w c in_front) (λ u. rest u + owner_held (first_slot es) u)
-    holds-it = goes-on (between m) (changes_cell w c (record { held = first_slot es; tag = no_tag }) in_front list.begins) tt rest in_hand
+    holds-it = goes-on (between m) (changes_cell w c (record { held = first_slot es; tag = no_tag }) in_front list.begins) tt (list-apart-from m c its.begins)
+        rest in_hand
 
     linked-it : IsBetween d (with_cell (with_cell w c in_front) (link_of x) behind_it) rest
     linked-it =
         between-as (goes-on holds-it
         (changes_cell (with_cell w c in_front) (link_of x) null behind_it
         (at-other w.cells c (link_of x) (Some in_front) None (λ same. apart-of k x there (sym same)) ∙ clear))
-        tt rest (λ u. refl)) (λ u. omega arith)
+        tt (λ r. link-apart-from m k x there (owned-apart m k (omega (arith, in_hand (owner_of k), same-once k)))
+        (reserved-was d w (with_cell w c in_front) (link_of x) refl r)) rest (λ u. refl)) (λ u. omega arith)
 
     pub puts-in : IsMidway d (linked_in w c no_tag (link_of x) k (first_slot es)) rest
     puts-in =
         midway (subst (λ (cs : Entries CellContents). IsBetween d (record w { cells = cs }) rest)
         (set_comm w.cells c (link_of x) (Some in_front) (Some behind_it) (apart-of k x there)) linked-it)
-        (has-put_in (IsListCell d) (IsSecondCell d) w (λ u. outside u + contained d u) m.ledger (own-midway m) m.lists c its.begins its.single k x es list
+        (has-put_in (IsListCell d) (IsSecondCell d) (IsStored d.bags d.world) w (λ u. outside u + contained d u) m.ledger (own-midway m) m.lists c its.begins
+        its.single k x es list
         numbers there clear number alone)
 
 -- ---- one entry after another
@@ -216,6 +246,7 @@ module _ (d : ScriptState) (outside : Claim → ℕ) (p c : ℕ) (its : IsSingle
     deleted-midway : IsMidway d gone_first outside
     deleted-midway =
         retags-link in-front.midway e.slot e.value (record { held = first_slot rest; tag = e.tag }) marked
+        (among-apart in-front.midway c e.slot no_tag (e ∷ rest) (list-apart-from in-front.midway c its.begins) in-front.list (inl refl))
         in-front.list.linked.0.there in-front.list.linked.0.linked refl (λ same. absurd (cc))
         (λ is. absurd (let never : true ≡ false = ap is_deleting (sym is) ∙ stays-of es e rest first_left in cc))
 

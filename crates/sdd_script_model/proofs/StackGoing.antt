@@ -10,20 +10,21 @@ use Rattle.sdd_participants.specs.declared.standing.Standing.TheVariants as stan
 use Rattle.sdd_standings.specs.Slots.{is_waiting}
 use Rattle.sdd_space.specs.OwnerOrCell.{OwnerOrCell}
 use Rattle.sdd_space.specs.OwnerOrCell as holding
-use Rattle.sdd_space.specs.Ledger.{Claim, owner_of, right_to, one}
-use Rattle.sdd_space.specs.Ledger.Moves.{makes_cell, shares, spends_cell}
+use Rattle.sdd_space.specs.Ledger.{Claim, owner_of, right_to, one, IsLedger}
+use Rattle.sdd_space.specs.Ledger.Moves.{makes_cell, spends_cell}
 use Rattle.sdd_space.specs.World.{World, IsPlaceOf, standing_at, value_at}
 use Rattle.sdd_space.specs.WorldChanges.{nulled, with_standing}
 use Rattle.sdd_space.specs.WorldInvariant.{IsWhole}
 use Rattle.sdd_lists.specs.Lists.{Entry, emptied}
+use Rattle.sdd_script_model.specs.Bags.{IsStored}
 use Rattle.sdd_script_model.specs.Listed.{AreNumbers, IsNumber}
 use Rattle.sdd_script_model.specs.ScriptState.{ScriptState, IsDated, IsListCell, IsSecondCell, date_at, holding_at, in_world, shared_cell, with_owner, with_stack, without_stack}
 use Rattle.sdd_script_model.specs.Sound.{IsSound, SlotsHaveNames, contained, named}
 use Rattle.sdd_script_model.specs.Stacks.{Drains, IsStack, Takes, stack_closed}
 use Rattle.sdd_script_model.specs.Val.{Val, body_of, holdings_of, link_of}
 use Rattle.sdd_script_model.proofs.Attending.{left-entry, pushed-entry}
-use Rattle.sdd_script_model.proofs.Chains.{AtHome, IsMidway, LeavesSound, at_home-given, at_home-spent, finishes, list-right, moves, own-midway, sound-after, stacked-right, starts}
-use Rattle.sdd_script_model.proofs.Frames.{Frames, frames-on}
+use Rattle.sdd_script_model.proofs.Chains.{AtHome, IsMidway, LeavesSound, at_home-given, at_home-spent, finishes, left-apart, list-apart-from, list-right, own-midway, shares-one, sound-after, stacked-right, starts}
+use Rattle.sdd_script_model.proofs.Frames.{Frames, frames-on, quiet-less}
 use Rattle.sdd_space.proofs.Ledger.{ledger-laws}
 use Rattle.sdd_lists.proofs.Lists.{list-same}
 use Rattle.sdd_script_model.proofs.Counting.{tells, owner-given, some-holding, stack-given, stack-spent}
@@ -32,10 +33,11 @@ use Rattle.sdd_script_model.proofs.Entry.{at-other, at-pushed}
 use Rattle.sdd_script_model.proofs.Entry.{inside as inside-list}
 use Rattle.sdd_script_model.proofs.Layers.{layered-less}
 use Rattle.sdd_script_model.proofs.Links.{null, same-once}
-use Rattle.sdd_script_model.proofs.Listed.{same-list}
+use Rattle.sdd_script_model.proofs.Listed.{has-stored, same-list}
 use Rattle.sdd_script_model.proofs.ListChanges.{has-begun, has-ended}
 use Rattle.sdd_script_model.proofs.StackChains.{IsSingle, IsWith, between, empties, goes-on, in-front, removed-value, removes, trims}
 use Rattle.sdd_script_model.proofs.Stocked.{stocked-as}
+use Rattle.sdd_script_model.proofs.Storing.{bags-still, spare-on, stays-on, stored-still}
 
 -- ---- dates
 
@@ -137,15 +139,18 @@ module _ (d : ScriptState) (s : IsSound d) (whole : IsWhole d.world) (p c : ℕ)
 
   pub begun-leaves : IsEmptyAt d.world.cells c → LeavesSound d after_begun
   begun-leaves free =
-      let m = goes-on (between (starts d s whole)) (makes_cell d.world c null free) tt (named d) (λ u. omega arith) in
+      let m = goes-on (between (starts d s whole)) (makes_cell d.world c null free) tt tt (named d) (λ u. omega arith) in
       let dated = dated-same d after_begun refl refl in
+      let stored = stored-still d after_begun refl m.bags in
       record {
         line = refl;
         places = refl;
         sound = sound-after d after_begun s m.frames.passes (refl, refl, refl, refl, refl, refl) dated p live
-            (stocked-as d after_begun s.stocked refl refl dated.long m.frames.slots)
+            (stocked-as d after_begun s.stocked refl refl dated.long m.frames.slots stored)
             (λ u. omega (arith, m.ledger u, stack-given d.stacks its_cell c refl u))
-            (has-begun (IsListCell d) (IsListCell after_begun) (IsSecondCell d) d.world s.lists c free begun-or begun-old)
+            (has-stored stored (has-begun (IsListCell d) (IsListCell after_begun) (IsSecondCell d) (IsStored d.bags d.world) d.world s.lists c free begun-or
+            begun-old))
+            (bags-still d after_begun s.bags refl m.bags refl (λ k x. refl)) m.spare
             (layered-less d after_begun s.layered m.frames.values refl)
             (record {
               owners = s.home.owners;
@@ -199,17 +204,24 @@ module _ (d : ScriptState) (s : IsSound d) (whole : IsWhole d.world) (p c : ℕ)
           let kept = (ledger-laws holdings_of drained).kept m.whole _ _ after_stack_closed.world move in
           let frames = stack_closed-frames in
           let dated = dated-all d after_stack_closed s.stocked frames.slots.slots within in
+          let before : IsLedger holdings_of (λ u. named d u + contained (without_stack d n) u + one (right_to c) u) drained =
+          λ u. omega (arith, m.ledger u, one-less d s n c is.named u) in
+          let stay = stays-on (without_stack d n) move m.whole (named d) before tt m.bags in
+          let stored = stored-still d after_stack_closed refl stay in
           record {
             line = refl;
             places = refl;
             sound = sound-after d after_stack_closed s frames.passes (refl, refl, refl, refl, refl, refl) dated p live
-                (stocked-as d after_stack_closed s.stocked refl refl dated.long frames.slots)
+                (stocked-as d after_stack_closed s.stocked refl refl dated.long frames.slots stored)
                 (λ u. omega (
                   arith,
                   kept.ledger (λ x. named d x + contained after_stack_closed x) (λ x. omega (arith, m.ledger x, one-less d s n c is.named x)) u,
                 ))
-                (has-ended (IsListCell d) (IsListCell after_stack_closed) (IsSecondCell d) drained (λ u. named d u + contained d u) m.ledger (own-midway m)
-                m.lists c its.begins its.single all-gone.list (was-other d s n c is.named) (kept-other d s n c is.named))
+                (has-stored stored (has-ended (IsListCell d) (IsListCell after_stack_closed) (IsSecondCell d) (IsStored d.bags d.world) drained
+                (λ u. named d u + contained d u) m.ledger (own-midway m) m.lists c its.begins its.single all-gone.list (was-other d s n c is.named)
+                (kept-other d s n c is.named)))
+                (bags-still d after_stack_closed s.bags refl stay frames.slots.home (λ k x. refl))
+                (spare-on (without_stack d n) move m.whole (named d) before tt m.spare (quiet-less move tt))
                 (layered-less d after_stack_closed s.layered frames.values refl)
                 (rw frames.slots.home (record {
                   owners = s.home.owners;
@@ -250,7 +262,8 @@ module _ (d : ScriptState) (s : IsSound d) (whole : IsWhole d.world) (p c : ℕ)
 
       one-more : IsWith d outside p c its live owned_more es
       one-more = record {
-        midway = moves (starts d s whole) (shares d.world e.slot takes.owners takes.shared) tt (named d) (λ u. omega arith) (λ u never. absurd never);
+        midway = shares-one (starts d s whole) e.slot takes.owners takes.shared
+            (left-apart (starts d s whole) c e.slot no_tag es (list-apart-from (starts d s whole) c its.begins) is.list e takes.rest takes.first refl);
         list = list-same link_of d.world owned_more c no_tag es refl refl is.list;
         numbers = numbers;
       }

@@ -18,28 +18,31 @@ use Rattle.sdd_lists.specs.Queue.{IsSecond}
 use Rattle.sdd_lists.specs.Stack.{poured}
 use Rattle.sdd_lists.proofs.LetGo.{KeepsGone, gone-then, gone-written, other-free, other-tag, second-kept}
 use Rattle.sdd_lists.proofs.Lists.{linked-set}
+use Rattle.sdd_script_model.specs.Bags.{IsStored}
 use Rattle.sdd_script_model.specs.Listed.{AreNumbers, Begins, HasLists}
 use Rattle.sdd_script_model.specs.ScriptState.{ScriptState, IsListCell, IsSecondCell, in_world, shared_cell, with_stack}
 use Rattle.sdd_script_model.specs.Sound.{IsSound, contained, named}
 use Rattle.sdd_script_model.specs.Stacks.{IsStack}
 use Rattle.sdd_script_model.specs.Val.{Val, holdings_of, link_of}
-use Rattle.sdd_script_model.proofs.Chains.{LeavesSound, at_home-given, own-midway, sound-after, starts}
+use Rattle.sdd_script_model.proofs.Chains.{LeavesSound, at_home-given, list-apart-from, own-midway, sound-after, starts}
 use Rattle.sdd_script_model.proofs.Counting.{stack-given}
 use Rattle.sdd_script_model.proofs.Dates.{dated-same}
 use Rattle.sdd_script_model.proofs.Entry.{at-other, at-same}
 use Rattle.sdd_script_model.proofs.Entry.{inside as inside-list}
 use Rattle.sdd_script_model.proofs.Layers.{layered-less}
 use Rattle.sdd_script_model.proofs.Links.{null}
-use Rattle.sdd_script_model.proofs.Listed.{AreOwn, apart-own, link-apart, link-inside, same-list}
+use Rattle.sdd_script_model.proofs.Listed.{AreOwn, apart-own, has-stored, link-apart, link-inside, same-list}
 use Rattle.sdd_script_model.proofs.ListChanges.{apart-free, list-beside, off, third}
 use Rattle.sdd_script_model.proofs.StackChains.{IsBetween, between, goes-on}
 use Rattle.sdd_script_model.proofs.StackGoing.{begun-old, begun-or, is-single}
 use Rattle.sdd_script_model.proofs.Stocked.{stocked-as}
+use Rattle.sdd_script_model.proofs.Storing.{bags-still, stored-still}
 
 -- ---- of the list in a cell all is in another then, which was free
 
-module _ (begins more : ℕ → Type 0) (seconds : (c b : ℕ) → Type 0) (v : World Val) (outside : Claim → ℕ) (ledger : IsLedger holdings_of outside v)
-    (own : AreOwn begins seconds outside) (had : HasLists begins seconds v) (c : ℕ) (its : begins c) (single : (b : ℕ) → seconds c b → ⊥)
+module _ (begins more : ℕ → Type 0) (seconds : (c b : ℕ) → Type 0) (stored : ℕ → Type 0) (v : World Val) (outside : Claim →
+    ℕ) (ledger : IsLedger holdings_of outside v)
+    (own : AreOwn begins seconds outside) (had : HasLists begins seconds stored v) (c : ℕ) (its : begins c) (single : (b : ℕ) → seconds c b → ⊥)
     (es : List (Entry Val)) (list : Begins v c es) (k : ℕ) (free : IsEmptyAt v.cells k)
     (new : (b : ℕ) → more b → begins b ⊎ (b ≡ k)) (was : (b : ℕ) → begins b → more b) (there : more k) where
   abbrev now : CellContents
@@ -49,12 +52,12 @@ module _ (begins more : ℕ → Type 0) (seconds : (c b : ℕ) → Type 0) (v : 
   w = poured v c k es
 
   away : (b : ℕ) (y : CellContents) → entry_at v.cells b ≡ Some y → b ≢ k
-  away b y holds = off begins more seconds v had k free new was b y holds
+  away b y holds = off begins more seconds stored v had k free new was b y holds
 
   stays : (b : ℕ) → b ≢ c → (gs : List (Entry Val)) → Begins v b gs → Begins w b gs
   stays b far gs at =
       list-beside v w c k null now refl refl b gs far (away b _ at.begins) (apart-own v outside ledger c (own.first c its) gs at.linked)
-      (apart-free begins more seconds v had k free new was gs at.linked) at
+      (apart-free begins more seconds stored v had k free new was gs at.linked) at
 
   empty : Begins w c []
   empty = record {
@@ -66,7 +69,7 @@ module _ (begins more : ℕ → Type 0) (seconds : (c b : ℕ) → Type 0) (v : 
   all : Begins w k es
   all = record {
     begins = at-same (slice_set v.cells c (Some null)) k (Some now) None (omega (arith, free.0, length-set v.cells c (Some null)));
-    linked = linked-set link_of (nulled v c) w k (Some now) es refl refl (apart-free begins more seconds v had k free new was es list.linked)
+    linked = linked-set link_of (nulled v c) w k (Some now) es refl refl (apart-free begins more seconds stored v had k free new was es list.linked)
         (linked-set link_of v (nulled v c) c (Some null) es refl refl (apart-own v outside ledger c (own.first c its) es list.linked) list.linked);
   }
 
@@ -132,7 +135,7 @@ module _ (begins more : ℕ → Type 0) (seconds : (c b : ℕ) → Type 0) (v : 
       gone-then v (nulled v c) w (gone-written v c null (other-tag (entry_at v.cells c) now list.begins (λ same. absurd (cc))))
       (gone-written (nulled v c) k now (other-free (entry_at (nulled v c).cells k) room))
 
-  pub has-poured : HasLists more seconds w
+  pub has-poured : HasLists more seconds stored w
   has-poured = record {
     lists = λ b x. lists-now b (new b x) (cases_eq b c);
     apart = λ a b s fs gs x y one two at also.
@@ -141,7 +144,7 @@ module _ (begins more : ℕ → Type 0) (seconds : (c b : ℕ) → Type 0) (v : 
         where-at a b first.cell second.cell
         (had.apart first.cell second.cell s first.entries second.entries first.begun second.begun first.at second.at first.among second.among)
         first.now_at second.now_at);
-    linked = λ s z e. elim (had.linked s z e) [
+    linked = λ s z e not. elim (had.linked s z e not) [
       | inl none ↦
           inl (ap held_in (third v w c k null now refl refl (link_of z) (λ same. link-apart v outside ledger c s z (own.first c its) e (sym same))
           (link-far s z e)) ∙ none)
@@ -200,27 +203,30 @@ module _ (d : ScriptState) (s : IsSound d) (whole : IsWhole d.world) (p c k : �
   -- the first entry's owner is taken out of the cell, and goes into the new one
   out : IsBetween d (poured d.world c k es) (λ u. named d u + one (right_to k) u)
   out =
-      let taken = goes-on (between (starts d s whole)) (changes_cell d.world c (record { held = first_slot es; tag = no_tag }) null is.list.begins) tt (named d)
-      (λ u. omega arith) in
+      let taken = goes-on (between (starts d s whole)) (changes_cell d.world c (record { held = first_slot es; tag = no_tag }) null is.list.begins) tt
+      (list-apart-from (starts d s whole) c (inr (n, is.named))) (named d) (λ u. omega arith) in
       let room : IsEmptyAt (nulled d.world c).cells k =
       (omega (arith, free.0, length-set d.world.cells c (Some null)), at-other d.world.cells c k (Some null) None away-k ∙ free.1) in
-      goes-on taken (makes_cell (nulled d.world c) k (record { held = first_slot es; tag = no_tag }) room) tt (named d) (λ u. omega arith)
+      goes-on taken (makes_cell (nulled d.world c) k (record { held = first_slot es; tag = no_tag }) room) tt tt (named d) (λ u. omega arith)
 
   pub poured-leaves : LeavesSound d after_poured
   poured-leaves =
       let start = starts d s whole in
       let its = is-single d s n c is.named in
       let dated = dated-same d after_poured refl refl in
+      let stored = stored-still d after_poured refl out.bags in
       let there : IsListCell after_poured k =
       inr (length d.stacks, ap shared_cell (get_or_push d.stacks (Some new_cell) None (length d.stacks) refl)) in
       record {
         line = refl;
         places = refl;
         sound = sound-after d after_poured s out.frames.passes (refl, refl, refl, refl, refl, refl) dated p live
-            (stocked-as d after_poured s.stocked refl refl dated.long out.frames.slots)
+            (stocked-as d after_poured s.stocked refl refl dated.long out.frames.slots stored)
             (λ u. omega (arith, out.ledger u, stack-given d.stacks new_cell k refl u))
-            (has-poured (IsListCell d) (IsListCell after_poured) (IsSecondCell d) d.world (λ u. named d u + contained d u) start.ledger (own-midway start)
-            s.lists c its.begins its.single es is.list k free (begun-or d s whole p k live) (begun-old d s whole p k live) there)
+            (has-stored stored (has-poured (IsListCell d) (IsListCell after_poured) (IsSecondCell d) (IsStored d.bags d.world) d.world
+            (λ u. named d u + contained d u) start.ledger (own-midway start) s.lists c its.begins its.single es is.list k free
+            (begun-or d s whole p k live) (begun-old d s whole p k live) there))
+            (bags-still d after_poured s.bags refl out.bags refl (λ j x. refl)) out.spare
             (layered-less d after_poured s.layered out.frames.values refl)
             (record {
               owners = s.home.owners;

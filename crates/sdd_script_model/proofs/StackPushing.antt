@@ -11,7 +11,7 @@ use Rattle.sdd_standings.specs.Slots.{IsSharedBy, is_waiting}
 use Rattle.sdd_space.specs.OwnerOrCell.{OwnerOrCell}
 use Rattle.sdd_space.specs.OwnerOrCell as holding
 use Rattle.sdd_space.specs.Ledger.{Claim, owner_of, one}
-use Rattle.sdd_space.specs.Ledger.Moves.{releases, retires, shares}
+use Rattle.sdd_space.specs.Ledger.Moves.{releases, retires}
 use Rattle.sdd_space.specs.World.{World, IsPlaceOf, standing_at, value_at}
 use Rattle.sdd_space.specs.WorldChanges.{made_as, nulled, owner_given, with_cell, with_standing}
 use Rattle.sdd_space.specs.WorldInvariant.{IsWhole}
@@ -25,18 +25,18 @@ use Rattle.sdd_lists.proofs.Pushing.{list-made, trim-other, trim-values}
 use Rattle.sdd_script_text.specs.declared.call.Value.TheVariants as value
 use Rattle.sdd_script_model.specs.declared.val.Body.TheVariants.{Number}
 use Rattle.sdd_script_model.specs.declared.owner_kind.OwnerKind.TheVariants as ownership
+use Rattle.sdd_script_model.specs.Bags.{IsStored}
 use Rattle.sdd_script_model.specs.Listed.{Begins, IsListed, IsNumber}
-use Rattle.sdd_script_model.specs.Script.{AreCalls}
-use Rattle.sdd_script_model.specs.Script.AreCalls.{none as no_call, one_more}
 use Rattle.sdd_script_model.specs.ScriptState.{ScriptState, IsDated, IsListCell, IsSecondCell, in_world, with_item, with_owner}
 use Rattle.sdd_script_model.specs.Sound.{IsSound, contained, named, named_among}
 use Rattle.sdd_script_model.specs.Stacks.{IsStack, Pushes}
 use Rattle.sdd_script_model.specs.Val.{Val, body_of, holdings_of, link_of}
 use Rattle.sdd_script_model.proofs.Attending.{keeps-live}
-use Rattle.sdd_script_model.proofs.Chains.{AtHome, IsMidway, LeavesSound, finishes, midway-as, moves, starts}
+use Rattle.sdd_script_model.proofs.Chains.{AtHome, IsMidway, LeavesSound, finishes, midway-as, moves, owned-apart, shares-one, starts}
 use Rattle.sdd_script_model.proofs.Counting.{owner-given}
 use Rattle.sdd_script_model.proofs.Entry.{at-other, at-same}
 use Rattle.sdd_script_model.proofs.Entry.{inside as inside-list}
+use Rattle.sdd_script_model.proofs.Frames.{calls-then}
 use Rattle.sdd_script_model.proofs.Going.{made-leaves, made-whole}
 use Rattle.sdd_script_model.proofs.Gone.{given-other}
 use Rattle.sdd_script_model.proofs.Layers.{filled-long}
@@ -47,10 +47,6 @@ use Rattle.sdd_script_model.proofs.StackChains.{IsSingle, IsWith, puts-in, trims
 use Rattle.sdd_script_model.proofs.StackGoing.{IsDatedWithin, dated-all, is-single, numbers}
 
 -- ---- one after another
-
-pub calls-then : {u v w : World Val} → AreCalls u v → AreCalls v w → AreCalls u w
-calls-then a (no_call w) = a
-calls-then {u} a (one_more t v w calls step) = one_more u v w (calls-then a calls) step
 
 -- what is sound after one act and then another, is so after both
 pub leaves-then : {d mid new : ScriptState} → LeavesSound d mid → LeavesSound mid new → IsDated d new → LeavesSound d new
@@ -113,14 +109,17 @@ module _ (d : ScriptState) (s : IsSound d) (whole : IsWhole d.world) (p : ℕ) (
   pub list-mid : (c : ℕ) (es : List (Entry Val)) → Begins d.world c es → Begins mid.world c es
   list-mid c es list =
       list-made link_of (nulled d.world (link_of x)) c no_tag k x (Shared 1) es free-value
-      (stays-begun (IsListCell d) (IsListCell d) (IsSecondCell d) d.world s.lists (link_of x) free (λ b y. inl y) (λ b y. y) c es list)
+      (stays-begun (IsListCell d) (IsListCell d) (IsSecondCell d) (IsStored d.bags d.world) d.world s.lists (link_of x) free (λ b y. inl y) (λ b y. y) c es
+      list)
 
   -- a cell that was there is another than its link
   pub link-off : (b : ℕ) (y : CellContents) → entry_at d.world.cells b ≡ Some y → b ≢ link_of x
-  link-off b y holds = off (IsListCell d) (IsListCell d) (IsSecondCell d) d.world s.lists (link_of x) free (λ c z. inl z) (λ c z. z) b y holds
+  link-off b y holds = off (IsListCell d) (IsListCell d) (IsSecondCell d) (IsStored d.bags d.world) d.world s.lists (link_of x) free (λ c z. inl z) (λ c z. z)
+      b y holds
 
   pub link-off_all : (es : List (Entry Val)) → AreLinked link_of d.world es → Apart link_of (link_of x) es
-  link-off_all es linked = apart-free (IsListCell d) (IsListCell d) (IsSecondCell d) d.world s.lists (link_of x) free (λ c z. inl z) (λ c z. z) es linked
+  link-off_all es linked = apart-free (IsListCell d) (IsListCell d) (IsSecondCell d) (IsStored d.bags d.world) d.world s.lists (link_of x) free (λ c z. inl z)
+      (λ c z. z) es linked
 
   pub there-mid : value_at mid.world k ≡ Some x
   there-mid = at-same d.world.values k (Some x) None (omega (arith, slot.0, filled-long d.world.values d.world.standings whole.filled))
@@ -130,6 +129,12 @@ module _ (d : ScriptState) (s : IsSound d) (whole : IsWhole d.world) (p : ℕ) (
 
   pub stands-once : standing_at mid.world k ≡ Some (Shared 1)
   stands-once = at-same d.world.standings k (Some (Shared 1)) None slot.0
+
+  -- somebody outside owns it, so it is no storage of a bag
+  pub not-stored : IsStored mid.bags mid.world k → ⊥
+  not-stored =
+      owned-apart (starts mid made.sound mid-whole) k
+      (omega (arith, owner-given d.owners d.cells d.collectors owner k refl (owner_of k), same-once k))
 
   pub number-in : IsNumber (body_of x)
   number-in = subst (λ b. IsNumber b) (sym body) tt
@@ -183,7 +188,8 @@ module _ (d : ScriptState) (s : IsSound d) (whole : IsWhole d.world) (p : ℕ) (
 
 -- ---- a push
 
-module _ (d : ScriptState) (s : IsSound d) (whole : IsWhole d.world) (p c : ℕ) (live : IsPlaceOf d.world p) (n : ℕ) (es : List (Entry Val)) (is : IsStack d n c es)
+module _ (d : ScriptState) (s : IsSound d) (whole : IsWhole d.world) (p c : ℕ) (live : IsPlaceOf d.world p) (n : ℕ) (es : List (Entry Val))
+    (is : IsStack d n c es)
     (number k : ℕ) (w : World Val) (pushes : Pushes d.world p c es number k w) (dates : List ℕ) where
   abbrev x : Val
   x = pushes.entry
@@ -216,8 +222,8 @@ module _ (d : ScriptState) (s : IsSound d) (whole : IsWhole d.world) (p c : ℕ)
 
   in-hand : IsMidway entered twice outside
   in-hand =
-      moves (starts entered sound-in.sound (mid-whole d s whole p live number k x pushes.free pushes.pushed.free pushes.body))
-      (shares entered.world k 1 once) tt (named entered) (λ u. omega arith) (λ u never. absurd never)
+      shares-one (starts entered sound-in.sound (mid-whole d s whole p live number k x pushes.free pushes.pushed.free pushes.body)) k 1 once
+      (not-stored d s whole p live number k x pushes.free pushes.pushed.free pushes.body)
 
   its : IsSingle entered c
   its = is-single entered sound-in.sound n c is.named

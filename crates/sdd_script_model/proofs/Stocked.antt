@@ -7,6 +7,7 @@ use Rattle.std.proofs.lemmas.Bool.{false≢true}
 use Rattle.sdd_standings.specs.Slots.{is_waiting}
 use Rattle.sdd_space.proofs.Standings.{out-some, out-waits-not}
 use Rattle.sdd_script_model.specs.ScriptState.{ScriptState, IsThere, slot_at, name_at}
+use Rattle.sdd_script_model.specs.Bags.{IsStored}
 use Rattle.sdd_script_model.specs.Sound.{IsCalled, SlotsHaveNames}
 use Rattle.sdd_script_model.proofs.Entry.{at-same, at-other, at-pushed, at-end, as-each, inside, not-free, set-either}
 use Rattle.sdd_script_model.proofs.SmallSteps.{keeps-given, keeps-closed, keeps-all_given, keeps-all, keeps-opened}
@@ -115,17 +116,22 @@ module _ (w : World Val) where
     by None = start
     by (Some v) = keeps-all_given P retires frees_cell shares (vacated w k) p (holdings_of v) (slots-freed w (vacated w k) k refl refl refl)
 
+-- a bag's storage is one still
+abbrev pub KeepsStored : (d new : ScriptState) → Type 0
+KeepsStored d new = (s : ℕ) → IsStored d.bags d.world s → IsStored new.bags new.world s
+
 -- no item is made, and no slot is taken
 pub stocked-as : (d new : ScriptState) → SlotsHaveNames d → new.slots ≡ d.slots → new.names ≡ d.names → length new.dates ≡ length d.dates →
-    KeepsSlots d.world new.world → SlotsHaveNames new
-stocked-as d new i slots names dates none = record {
+    KeepsSlots d.world new.world → KeepsStored d new → SlotsHaveNames new
+stocked-as d new i slots names dates none stored = record {
   named = λ s t. called s (name_at d s) (i.named s (none.taken s t)) (ap (λ ns. slice_index_or ns s None) names) t;
   names = ap length names ∙ i.names ∙ sym none.slots;
   dates = dates ∙ i.dates ∙ sym none.slots;
   few = rw names i.few;
 } where
   called : (s : ℕ) (x : Option ℕ) → IsCalled d s x → name_at new s ≡ x → IsSome (standing_at new.world s) → IsCalled new s (name_at new s)
-  called s None waits is t = rw is (none.waits s waits t)
+  called s None (inl waits) is t = rw is (inl (none.waits s waits t))
+  called s None (inr at) is t = rw is (inr (stored s at))
   called s (Some i) (lt, its) is t = rw (is, slots) (lt, its)
 
 -- the next item is made in slot k, which was free
@@ -137,7 +143,7 @@ module _ (d : ScriptState) (k : ℕ) (i : SlotsHaveNames d) (empty : IsEmptyAt d
   called s = slice_index_or (slice_set d.names k (Some (length d.slots))) s None
 
   module _ (new : ScriptState) (first : Standing) (slots : new.slots ≡ more) (names : new.names ≡ slice_set d.names k (Some (length d.slots)))
-      (stands : new.world.standings ≡ with_entry d.world.standings k first) where
+      (stands : new.world.standings ≡ with_entry d.world.standings k first) (stored : KeepsStored d new) where
     own : IsCalled new k (name_at new k)
     own =
         let name : name_at new k ≡ Some (length d.slots) = ap (λ ns. slice_index_or ns k None) names
@@ -149,18 +155,19 @@ module _ (d : ScriptState) (k : ℕ) (i : SlotsHaveNames d) (empty : IsEmptyAt d
         let name : name_at new s ≡ x = ap (λ ns. slice_index_or ns s None) names ∙ at-other d.names k s (Some (length d.slots)) None ne ∙ is in
         subst (λ (y : Option ℕ). IsCalled new s y) (sym name) (by x was) where
           by : (x : Option ℕ) → IsCalled d s x → IsCalled new s x
-          by None waits =
-              ap (λ ss. is_waiting (slice_index_or ss s None)) stands ∙ ap is_waiting (at-other d.world.standings k s (Some first) None ne) ∙ waits
+          by None (inl waits) =
+              inl (ap (λ ss. is_waiting (slice_index_or ss s None)) stands ∙ ap is_waiting (at-other d.world.standings k s (Some first) None ne) ∙ waits)
+          by None (inr at) = inr (stored s at)
           by (Some n) (lt, its) = rw slots (omega (arith, lt, length_push d.slots k), at-pushed d.slots k 0 n (omega (arith, lt)) ∙ its)
 
   pub stocked-made : (new : ScriptState) (first : Standing) → new.slots ≡ d.slots ++ k ∷ [] → new.names ≡ slice_set d.names k (Some (length d.slots)) →
-      length new.dates ≡ length d.dates → new.world.standings ≡ with_entry d.world.standings k first → SlotsHaveNames new
-  stocked-made new first slots names dates stands = record {
+      length new.dates ≡ length d.dates → new.world.standings ≡ with_entry d.world.standings k first → KeepsStored d new → SlotsHaveNames new
+  stocked-made new first slots names dates stands stored = record {
     named = λ s t.
         elim (cases_eq s k) [
-          | inl e ↦ subst (λ (j : ℕ). IsCalled new j (name_at new j)) (sym e) (own new first slots names stands)
+          | inl e ↦ subst (λ (j : ℕ). IsCalled new j (name_at new j)) (sym e) (own new first slots names stands stored)
           | inr ne ↦
-              other new first slots names stands s ne (name_at d s) refl
+              other new first slots names stands stored s ne (name_at d s) refl
               (i.named s (rw (stands, at-other d.world.standings k s (Some first) None ne) at t))
         ];
     names = ap length names ∙ length-set d.names k (Some (length d.slots)) ∙ i.names ∙ sym (length-set d.world.standings k (Some first))
@@ -183,28 +190,30 @@ module _ (d : ScriptState) (i : SlotsHaveNames d) (s : ℕ) (some : IsSome (stan
       let lt = inside d.world.standings s some in
       (omega (arith, lt, i.names), omega (arith, lt, i.dates))
 
--- an item that doesn't wait has a name
+-- an item that doesn't wait has a name, if it is no storage of a bag
 pub record HasName (d : ScriptState) (s : ℕ) : Type 0 where
   pub name : ℕ
   pub is : name_at d s ≡ Some name
   pub given : name < length d.slots
   pub slot : slot_at d name ≡ s
 
-pub idle-named : (d : ScriptState) → SlotsHaveNames d → (s : ℕ) → IsSome (standing_at d.world s) → is_waiting (standing_at d.world s) ≡ false → HasName d s
-idle-named d i s some idle = by (name_at d s) refl (i.named s some) where
+pub idle-named : (d : ScriptState) → SlotsHaveNames d → (s : ℕ) → IsSome (standing_at d.world s) → is_waiting (standing_at d.world s) ≡ false →
+    (IsStored d.bags d.world s → ⊥) → HasName d s
+idle-named d i s some idle not = by (name_at d s) refl (i.named s some) where
   by : (x : Option ℕ) → name_at d s ≡ x → IsCalled d s x → HasName d s
-  by None is waits = absurd (false≢true (sym idle ∙ waits))
+  by None is (inl waits) = absurd (false≢true (sym idle ∙ waits))
+  by None is (inr at) = absurd (not at)
   by (Some n) is (lt, its) = record { name = n; is = is; given = lt; slot = its }
 
-pub out-named : (d : ScriptState) → SlotsHaveNames d → (s : ℕ) → is_out (standing_at d.world s) ≡ true → HasName d s
-out-named d i s out = idle-named d i s (out-some (standing_at d.world s) out) (out-waits-not (standing_at d.world s) out)
+pub out-named : (d : ScriptState) → SlotsHaveNames d → (s : ℕ) → is_out (standing_at d.world s) ≡ true → (IsStored d.bags d.world s → ⊥) → HasName d s
+out-named d i s out not = idle-named d i s (out-some (standing_at d.world s) out) (out-waits-not (standing_at d.world s) out) not
 
-pub name-some : (d : ScriptState) → SlotsHaveNames d → (s : ℕ) → is_out (standing_at d.world s) ≡ true → IsSome (name_at d s)
-name-some d i s out = ap is_some (out-named d i s out).is
+pub name-some : (d : ScriptState) → SlotsHaveNames d → (s : ℕ) → is_out (standing_at d.world s) ≡ true → (IsStored d.bags d.world s → ⊥) → IsSome (name_at d s)
+name-some d i s out not = ap is_some (out-named d i s out not).is
 
 -- a name is that of an item that was made
 pub name-given : (d : ScriptState) → SlotsHaveNames d → (s : ℕ) → IsSome (standing_at d.world s) → IfSome (name_at d s) (λ n. n < length d.slots)
 name-given d i s some = by (name_at d s) (i.named s some) where
   by : (x : Option ℕ) → IsCalled d s x → IfSome x (λ n. n < length d.slots)
-  by None waits = tt
+  by None called = tt
   by (Some n) (lt, its) = lt

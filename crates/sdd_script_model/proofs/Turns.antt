@@ -28,6 +28,8 @@ use Rattle.sdd_lists.specs.Queue.{queue_closed}
 use Rattle.sdd_lists.specs.Walk.{shown_of}
 use Rattle.sdd_script_model.specs.Stacks.{stack_closed}
 use Rattle.sdd_script_model.specs.Val.{link_of}
+use Rattle.sdd_lists.specs.Stack.{cell_in}
+use Rattle.sdd_script_model.proofs.BagTurns.{gives-bag_closed, gives-put, gives-took, gives-without_all}
 use Rattle.sdd_script_model.proofs.CopyTurns.{gives-queue_made, gives-queue_refused, gives-stack_made, gives-stack_refused}
 use Rattle.sdd_script_model.proofs.QueueTurns.{gives-dequeued, gives-enqueued, gives-queue_closed, gives-queue_drained}
 use Rattle.sdd_script_model.proofs.StackTurns.{gives-closed, gives-pushed, gives-taken, gives-trimmed}
@@ -276,7 +278,8 @@ module _ (d new : ScriptState) (whole : IsWhole d.world) (after : IsWhole new.wo
       still (λ k. (refl, refl, refl)) (still-cell d x (cell_as (Some (holding.atomic_shared 0 d.world.home.cells))) given new does)
   turn-does n (call.Load c g) (reply.Pointer i tag) valid (is, e) = still (λ k. (refl, refl, refl)) (same-desk d new e)
   turn-does n (call.Tag c) (reply.Tag tag) valid (is, e) = still (λ k. (refl, refl, refl)) (same-desk d new e)
-  turn-does n (call.Swap c x tag) (reply.Swapped o was) valid (k, cell, is, name, same, leaves) = still (λ k. (refl, refl, refl)) (time-left leaves, places-left leaves)
+  turn-does n (call.Swap c x tag) (reply.Swapped o was) valid (k, cell, is, name, same, leaves) =
+      still (λ k. (refl, refl, refl)) (time-left leaves, places-left leaves)
   turn-does n (call.TagIf c tag was) (reply.Truth b) valid (k, cell, is, same, leaves) =
       still (λ k. (refl, refl, refl)) (time-left leaves ∙ still-if b d.world k (record cell { tag = tag }), places-left leaves)
   turn-does n (call.Exchange c g i was x tag) (reply.Exchanged o) valid (k, cell, is, same, name, leaves) =
@@ -299,6 +302,27 @@ module _ (d new : ScriptState) (whole : IsWhole d.world) (after : IsWhole new.wo
   turn-does n call.Queue (reply.Queue q) valid (name, (cells, free, other, apart, leaves)) =
       still (λ k. (refl, refl, refl)) (time-left leaves, places-left leaves)
   turn-does n call.Queue (reply.Refused NoCell) valid (full, e) = still (λ k. (refl, refl, refl)) (same-desk d new e)
+  turn-does n call.Bag (reply.Bag b) valid (name, (bag, w, begins, leaves)) =
+      still (λ k. (refl, refl, refl)) (time-left leaves ∙ ap (λ (u : World Val). u.time) begins.world, places-left leaves)
+  turn-does n call.Bag (reply.Refused NoCell) valid (full, e) = still (λ k. (refl, refl, refl)) (same-desk d new e)
+  turn-does n (call.Add b number g) reply.Done valid (old, bag, w, is, puts, (same, lost)) =
+      gives w (λ k. (refl, refl, refl)) valid.0.0 (ap (λ (e : ScriptState). e.places) same) (ap (λ (e : ScriptState). e.world) same)
+      (gives-put (place_of d n.0) d.world number old bag w (live n.0 valid.0.0).0 puts)
+  turn-does n (call.Add b number g) (reply.Refused r) valid (is, e) = still (λ k. (refl, refl, refl)) (same-desk d new e)
+  turn-does n (call.Try b number) reply.Done valid (old, bag, is, cells, puts, leaves) =
+      still (λ k. (refl, refl, refl)) (time-left leaves, places-left leaves)
+  turn-does n (call.Try b number) (reply.Kept back) valid (same, full, e) = still (λ k. (refl, refl, refl)) (same-desk d new e)
+  turn-does n (call.Take b g) (reply.Value number) valid (old, bag, w, is, takes, leaves) =
+      gives w (λ k. (refl, refl, refl)) valid.0.0 (places-left leaves) (world-left leaves)
+      (gives-took (place_of d n.0) d.world number old bag w (live n.0 valid.0.0).0 takes)
+  turn-does n (call.Take b g) reply.Nothing valid (is, e) = still (λ k. (refl, refl, refl)) (same-desk d new e)
+  turn-does n (call.Drain b g) (reply.Numbers numbers) valid (up, (taken, shuffled, (old, bag, w, is, takes, leaves))) =
+      gives w (λ k. (refl, refl, refl)) valid.0.0 (places-left leaves) (world-left leaves)
+      (gives-without_all (place_of d n.0) takes.entries d.world (cell_in old.overflow.stack) w (live n.0 valid.0.0).0 takes.storages)
+  turn-does n (call.LenBag b g) (reply.Many many) valid (is, e) = still (λ k. (refl, refl, refl)) (same-desk d new e)
+  turn-does n (call.CloseBag b) reply.Done valid (bag, es, w, is, stands, closing, leaves) =
+      gives w (λ k. (refl, refl, refl)) valid.0.1.0 (places-left leaves) (world-left leaves)
+      (gives-bag_closed (place_of d n.0) d.world bag es w (live n.0 valid.0.1.0).0 closing)
   turn-does n (call.CloseQueue q) reply.Done valid (cells, es, second, is, leaves) =
       gives (queue_closed link_of d.world (place_of d n.0) cells es second) (λ k. (refl, refl, refl)) valid.0.1.0 (places-left leaves) (world-left leaves)
       (gives-queue_closed (place_of d n.0) d.world cells es second (live n.0 valid.0.1.0).0)

@@ -42,6 +42,7 @@ abbrev pub slot_held : Body → Option ℕ
 slot_held (body.Number n) = None
 slot_held (body.Owned o) = Some (owned.slot_of o)
 slot_held (body.Shared o) = Some (shared.slot_of o)
+slot_held (body.Storage s) = None
 
 -- the slots whose owner the body of a value is, if one is there
 abbrev pub slots_in : Option Val → List ℕ

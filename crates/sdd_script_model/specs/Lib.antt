@@ -8,6 +8,8 @@ pub mod Due
 pub mod Script
 pub mod Sound
 pub mod Held
+pub mod Bags
+pub mod BagLines
 pub mod Link
 pub mod Listed
 pub mod Stacks

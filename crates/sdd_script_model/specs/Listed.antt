@@ -8,14 +8,15 @@ use Rattle.sdd_lists.specs.Ends.{IsAmong}
 use Rattle.sdd_lists.specs.Lists.{Entry, IsList}
 use Rattle.sdd_lists.specs.Queue.{IsSecond}
 use Rattle.sdd_script_model.specs.declared.val.Body.{Body}
-use Rattle.sdd_script_model.specs.declared.val.Body.TheVariants.{Number, Owned, Shared}
+use Rattle.sdd_script_model.specs.declared.val.Body.TheVariants.{Number, Owned, Shared, Storage}
 use Rattle.sdd_script_model.specs.Val.{Val, body_of, link_of}
 
--- it is a number, and no owner
+-- it is a number, and no owner or storage
 abbrev pub IsNumber : Body → Type 0
 IsNumber (Number n) = Unit {0}
 IsNumber (Owned o) = ⊥
 IsNumber (Shared o) = ⊥
+IsNumber (Storage s) = ⊥
 
 -- each entry has a number
 abbrev pub AreNumbers : List (Entry Val) → Type 0
@@ -42,12 +43,12 @@ module _ (begins : ℕ → Type 0) where
     pub list : Begins w cell entries
     pub among : IsAmong s entries
 
-  -- and of some a second cell holds an entry of the list
-  pub record HasLists (seconds : (c b : ℕ) → Type 0) (w : World Val) : Type 0 where
+  -- and of some a second cell holds an entry of the list; the slots of storages are spoken of elsewhere
+  pub record HasLists (seconds : (c b : ℕ) → Type 0) (stored : ℕ → Type 0) (w : World Val) : Type 0 where
     pub lists : (c : ℕ) → begins c → (es : List (Entry Val)) × Begins w c es × AreNumbers es
     -- no entry is in two
     pub apart : (b c s : ℕ) (es fs : List (Entry Val)) → begins b → begins c → Begins w b es → Begins w c fs → IsAmong s es → IsAmong s fs → b ≡ c
     -- a link holds nothing, or is that of an entry of one
-    pub linked : (s : ℕ) (v : Val) → value_at w s ≡ Some v → (held_in (entry_at w.cells (link_of v)) ≡ None) ⊎ IsListed w s
+    pub linked : (s : ℕ) (v : Val) → value_at w s ≡ Some v → ¬ (stored s) → (held_in (entry_at w.cells (link_of v)) ≡ None) ⊎ IsListed w s
     -- a second cell is that of a list, and holds one of its entries, or one that it has let go of, or nothing
     pub second : (c b : ℕ) → seconds c b → begins c × ((es : List (Entry Val)) → Begins w c es → HoldsEntry w b es)

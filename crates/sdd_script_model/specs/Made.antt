@@ -1,5 +1,5 @@
 -- That an item of a script is made, or refused
-use Rattle.std.specs.Prelude.{ℕ, ◌≡◌, ◌∷◌, List, [], None, Option, Some, slice_set}
+use Rattle.std.specs.Prelude.{ℕ, ◌≡◌, ◌∷◌, List, [], IsSome, None, Option, Some, slice_set}
 use Rattle.sdd_core.specs.declared.refused.Refused.{Refused}
 use Rattle.sdd_core.specs.declared.refused.Refused.TheVariants.{NoSlot, NoCell}
 use Rattle.sdd_participants.specs.Slab.{IsEmptyAt, IsFull}
@@ -12,12 +12,12 @@ use Rattle.sdd_script_text.specs.declared.call.Value.TheVariants.{Number, Of}
 use Rattle.sdd_script_model.specs.declared.val.Body.{Body}
 use Rattle.sdd_script_model.specs.Val.{Val, body_of, owner_in, link_of, link_home}
 use Rattle.sdd_script_model.specs.declared.val.Body.TheVariants as body
-use Rattle.sdd_script_model.specs.ScriptState.{ScriptState, holding_at}
+use Rattle.sdd_script_model.specs.ScriptState.{ScriptState, holding_at, slot_of}
 
 -- what the line puts into an item is this
 abbrev pub IsPutIn : ScriptState → Value → Body → Type 0
 IsPutIn d (Number n) b = b ≡ body.Number n
-IsPutIn d (Of o) b = (h : OwnerOrCell) × (holding_at d.owners o.0 ≡ Some h) × (owner_in b ≡ h ∷ [])
+IsPutIn d (Of o) b = (h : OwnerOrCell) × (holding_at d.owners o.0 ≡ Some h) × IsSome (slot_of (Some h)) × (owner_in b ≡ h ∷ [])
 
 -- the owners that are left by what a line puts into an item: an owner that goes in is spent
 abbrev pub owners_left : List (Option OwnerOrCell) → Value → List (Option OwnerOrCell)

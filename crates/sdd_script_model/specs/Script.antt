@@ -43,6 +43,8 @@ use Rattle.sdd_lists.specs.Stack.{poured}
 use Rattle.sdd_lists.specs.Walk.{shown_of}
 use Rattle.sdd_script_model.specs.Link.{IsBehind, IsLink, Retags}
 use Rattle.sdd_script_model.specs.Stacks.{Drains, IsOwnedEnough, IsStack, Pushes, RefusesEntry, Takes, stack_closed}
+use Rattle.sdd_script_model.specs.BagLines as bags
+use Rattle.sdd_script_model.specs.BagLines.{Adds, AddsInside, HasMany, IsFullInside, MakesBag, RefusesAdd}
 use Rattle.sdd_script_model.specs.Copies.{CopiesQueue, CopiesStack, RefusesQueueCopy, RefusesStackCopy}
 use Rattle.sdd_script_model.specs.Containers.{HasNewest, IsContainer, TellsNumber}
 use Rattle.sdd_lists.specs.Queue.{HasOneAtMost, QueueCells, queue_closed}
@@ -51,7 +53,7 @@ use Rattle.sdd_script_model.specs.Made.{Makes, RefusesItem, put_in}
 use Rattle.sdd_script_model.specs.Shown.{RepliesValue, IsCell, item_held, item_in}
 use Rattle.sdd_script_model.specs.Collecting.{Collects}
 use Rattle.sdd_script_model.specs.InPlace.{OwnsNumber, Puts, Drops, RefusesDrop, IsRaw}
-use Rattle.sdd_script_model.specs.ScriptState.{ScriptState, OpenSince, IsStart, IsDated, IsThere, WaitsAt, Leaves, opening_at, holding_at, slot_at, date_at, job_date_at, place_of, since_of, slot_of, sole_slot, shared_slot, shared_cell, collector_of, in_world, with_owner, without_owner, with_collector, without_collector, with_item, with_job, with_queue, without_queue, with_stack, without_stack, with_newcomer, without_participant, with_guard, without_guard, later}
+use Rattle.sdd_script_model.specs.ScriptState.{ScriptState, OpenSince, IsStart, IsDated, IsThere, WaitsAt, Leaves, bag_at, opening_at, holding_at, slot_at, date_at, job_date_at, place_of, since_of, slot_of, sole_slot, shared_slot, shared_cell, collector_of, in_world, with_owner, without_owner, with_collector, without_collector, with_item, with_job, with_queue, without_queue, with_stack, without_stack, with_newcomer, without_participant, with_guard, without_guard, later}
 use Rattle.sdd_script_model.specs.ScriptState as desk
 use Rattle.sdd_script_model.specs.Due.{Line, NamesWhatIsDue}
 
@@ -102,6 +104,10 @@ IsQueueName d q = IsSome (shared_cell (holding_at d.queues q))
 abbrev pub IsListName : ScriptState → ListName → Type 0
 IsListName d (list.Queue q) = IsQueueName d q.0
 IsListName d (list.Stack s) = IsStackName d s.0
+
+-- the name is that of a bag
+abbrev pub IsBagName : ScriptState → ℕ → Type 0
+IsBagName d b = IsSome (bag_at d.bags b)
 
 -- what goes into a cell of this kind is none, or there and of its kind
 abbrev pub FitsCell : ScriptState → Option OwnerOrCell → Option OwnerName → Type 0
@@ -189,6 +195,13 @@ IsValid d n (call.Peek l g) = HasOpen d n g.0 × IsListName d l
 IsValid d n (call.Len l g) = HasOpen d n g.0 × IsListName d l
 IsValid d n (call.List l g) = HasOpen d n g.0 × IsListName d l
 IsValid d n (call.CloneList l g) = HasOpen d n g.0 × IsListName d l
+IsValid d n call.Bag = IsParticipant d n
+IsValid d n (call.Add b number g) = HasOpen d n g.0 × IsBagName d b.0
+IsValid d n (call.Try b number) = IsParticipant d n × IsBagName d b.0
+IsValid d n (call.Take b g) = HasOpen d n g.0 × IsBagName d b.0
+IsValid d n (call.Drain b g) = HasOpen d n g.0 × IsBagName d b.0
+IsValid d n (call.LenBag b g) = HasOpen d n g.0 × IsBagName d b.0
+IsValid d n (call.CloseBag b) = IsUnderGuard d n × IsBagName d b.0
 IsValid d n (call.CloseQueue q) = IsUnderGuard d n × IsQueueName d q.0
 IsValid d n (call.CloseStack s) = IsUnderGuard d n × IsStackName d s.0
 IsValid d n (call.CloseCell c) = IsParticipant d n × IsCellName d c.0
@@ -375,7 +388,8 @@ Does d n p (call.See i g) reply.Nothing new = ¬ (IsRaw d i.0) × (new ≡ d)
 Does d n p (call.See i g) given new = IsRaw d i.0 × RepliesValue d (slot_at d i.0) given × (new ≡ d)
 Does d n p (call.CellOwned x) given new = MakesCell d x (cell_as None) given new
 Does d n p (call.CellShared x) given new = MakesCell d x (cell_as (Some (atomic_shared 0 d.world.home.cells))) given new
-Does d n p (call.Load c g) (reply.Pointer i tag) new = ((k : ℕ) × (cell : CellContents) × IsCell d c.0 k cell × (i ≡ item_held d cell) × (tag ≡ cell.tag)) × (new ≡ d)
+Does d n p (call.Load c g) (reply.Pointer i tag) new = ((k : ℕ) × (cell : CellContents) × IsCell d c.0 k cell × (i ≡ item_held d cell) × (tag ≡ cell.tag))
+    × (new ≡ d)
 Does d n p (call.Tag c) (reply.Tag tag) new = ((k : ℕ) × (cell : CellContents) × IsCell d c.0 k cell × (tag ≡ cell.tag)) × (new ≡ d)
 Does d n p (call.Swap c x tag) (reply.Swapped o was) new =
     (k : ℕ) × (cell : CellContents) × IsCell d c.0 k cell × IsNameOf d cell.held o × (was ≡ cell.tag) × Swaps d c.0 k cell x tag new
@@ -386,7 +400,8 @@ Does d n p (call.Exchange c g i was x tag) (reply.Exchanged o) new =
     (k : ℕ) × (cell : CellContents) × IsCell d c.0 k cell × (cell ≡ record { held = slot_compared d i; tag = was }) × IsNameOf d cell.held o
     × Swaps d c.0 k cell x tag new
 Does d n p (call.Exchange c g i was x tag) (reply.Differs j now) new =
-    ((k : ℕ) × (cell : CellContents) × IsCell d c.0 k cell × (cell ≢ record { held = slot_compared d i; tag = was }) × (j ≡ item_held d cell) × (now ≡ cell.tag)) ×
+    ((k : ℕ) × (cell : CellContents) × IsCell d c.0 k cell × (cell ≢ record { held = slot_compared d i; tag = was }) × (j ≡ item_held d cell)
+    × (now ≡ cell.tag)) ×
     (new ≡ d)
 Does d n p (call.Into c) given new =
     (k : ℕ) × (cell : CellContents) × IsCell d c.0 k cell × IsGivenBack d cell.held given
@@ -454,6 +469,20 @@ Does d n p (call.CloneList (list.Queue q) g) (reply.Queue r) new = CopiesQueue d
 Does d n p (call.CloneList (list.Stack s) g) (reply.Stack r) new = CopiesStack d p s.0 r.0 new
 Does d n p (call.CloneList (list.Queue q) g) (reply.Refused refused) new = RefusesQueueCopy d p q.0 refused new
 Does d n p (call.CloneList (list.Stack s) g) (reply.Refused refused) new = RefusesStackCopy d p s.0 refused new
+-- two free cells are taken, whichever
+Does d n p call.Bag (reply.Bag b) new = MakesBag d b.0 new
+Does d n p call.Bag (reply.Refused NoCell) new = HasOneAtMost d.world.cells × (new ≡ d)
+-- for a storage more a free slot and two free cells are taken, whichever
+Does d n p (call.Add b number g) reply.Done new = Adds d p b.0 number new
+Does d n p (call.Add b number g) (reply.Refused refused) new = RefusesAdd d b.0 refused × (new ≡ d)
+Does d n p (call.Try b number) reply.Done new = AddsInside d b.0 number new
+Does d n p (call.Try b number) (reply.Kept back) new = (back ≡ number) × IsFullInside d b.0 × (new ≡ d)
+-- some number is taken, whichever
+Does d n p (call.Take b g) (reply.Value number) new = bags.Takes d p b.0 number new
+Does d n p (call.Take b g) reply.Nothing new = bags.IsEmpty d b.0 × (new ≡ d)
+Does d n p (call.Drain b g) (reply.Numbers numbers) new = bags.Drains d p b.0 numbers new
+Does d n p (call.LenBag b g) (reply.Many many) new = HasMany d b.0 many × (new ≡ d)
+Does d n p (call.CloseBag b) reply.Done new = bags.Closes d p b.0 new
 Does d n p (call.CloseQueue q) reply.Done new =
     (cells : QueueCells) × (es : List (Entry Val)) × (second : Option ℕ) × IsNamedQueue d q.0 cells es second
     × Leaves (in_world (without_queue d q.0) (queue_closed link_of d.world p cells es second)) new
@@ -544,7 +573,8 @@ LineStep old call answer new = Answers (later old) call answer new
 -- one line after another; after each, what waits goes in time
 abbrev pub Runs : ScriptState → List Call → List Answer → ScriptState → Type 0
 Runs old [] [] new = new ≡ old
-Runs old (call ∷ calls) (answer ∷ answers) new = (mid : ScriptState) × LineStep old call answer mid × GoesInTime holdings_of mid.world × Runs mid calls answers new
+Runs old (call ∷ calls) (answer ∷ answers) new = (mid : ScriptState) × LineStep old call answer mid × GoesInTime holdings_of mid.world
+    × Runs mid calls answers new
 Runs old [] (answer ∷ answers) new = ⊥
 Runs old (call ∷ calls) [] new = ⊥
 

@@ -6,12 +6,21 @@ use Rattle.sdd_standings.specs.Slots.{is_waiting}
 use Rattle.sdd_space.specs.OwnerOrCell.{OwnerOrCell, owned, shared, atomic_owned, atomic_shared, atomic_raw}
 use Rattle.sdd_space.specs.World.{World, IsNew, place_at, standing_at}
 use Rattle.sdd_core.specs.declared.limits.Limits.{Limits}
+use Rattle.sdd_bag.specs.Bag.{BagParts}
+use Rattle.sdd_script_model.specs.declared.val.Body.{Body}
 use Rattle.sdd_script_model.specs.Val.{Val}
 
 -- a place that is open, or was: since which line
 pub record OpenSince : Type 0 where
   pub place : ℕ
   pub since : ℕ
+
+-- a bag of numbers, and how many lie in it itself, and in each of its other storages, at most
+abbrev pub NumberBag : Type 0
+NumberBag = BagParts ℕ Body
+
+abbrev pub bag_length : ℕ
+bag_length = 32
 
 pub record ScriptState : Type 0 where
   -- how many lines there were, this one counted
@@ -33,6 +42,8 @@ pub record ScriptState : Type 0 where
   pub newest : List (Option OwnerOrCell)
   -- each stack, by its cell, until it is spent
   pub stacks : List (Option OwnerOrCell)
+  -- each bag, until it is spent
+  pub bags : List (Option NumberBag)
   -- of each item its slot
   pub slots : List ℕ
   -- of each slot the name of the item that it had last, if that had one
@@ -56,10 +67,14 @@ opening_at xs n = slice_index_or xs n None
 abbrev pub holding_at : List (Option OwnerOrCell) → ℕ → Option OwnerOrCell
 holding_at xs n = slice_index_or xs n None
 
+-- the bag of this name
+abbrev pub bag_at : List (Option NumberBag) → ℕ → Option NumberBag
+bag_at bs n = slice_index_or bs n None
+
 abbrev pub slot_at : ScriptState → ℕ → ℕ
 slot_at d i = slice_index_or d.slots i 0
 
--- the name of the item that a slot had last: one that a refused copy of a list made has none
+-- the name of the item that a slot had last: one that a refused copy of a list made has none, and neither has a bag's storage
 abbrev pub name_at : ScriptState → ℕ → Option ℕ
 name_at d s = slice_index_or d.names s None
 
@@ -243,6 +258,16 @@ with_stack d c = record d { stacks = d.stacks ++ Some (atomic_shared c d.world.h
 abbrev pub without_stack : ScriptState → ℕ → ScriptState
 without_stack d s = record d { stacks = slice_set d.stacks s None }
 
+-- the next bag is this, and another one is this
+abbrev pub with_bag : ScriptState → NumberBag → ScriptState
+with_bag d b = record d { bags = d.bags ++ Some b ∷ [] }
+
+abbrev pub with_bag_at : ScriptState → ℕ → NumberBag → ScriptState
+with_bag_at d n b = record d { bags = slice_set d.bags n (Some b) }
+
+abbrev pub without_bag : ScriptState → ℕ → ScriptState
+without_bag d n = record d { bags = slice_set d.bags n None }
+
 abbrev pub without_guard : ScriptState → ℕ → ScriptState
 without_guard d g = record d { guards = slice_set d.guards g None }
 
@@ -279,6 +304,7 @@ pub record IsStart (limits : Limits) (d : ScriptState) : Type 0 where
   pub queues : d.queues ≡ []
   pub newest : d.newest ≡ []
   pub stacks : d.stacks ≡ []
+  pub bags : d.bags ≡ []
   pub slots : d.slots ≡ []
   pub dates : d.dates ≡ replicate limits.slots 0
   pub jobs : d.jobs ≡ 0

@@ -12,7 +12,7 @@ use Rattle.sdd_script_text.specs.declared.answer.Reply.{Reply}
 use Rattle.sdd_script_text.specs.declared.answer.Reply.TheVariants as reply
 use Rattle.sdd_script_model.specs.declared.val.Body.{Body}
 use Rattle.sdd_script_model.specs.Val.{Val, body_of}
-use Rattle.sdd_script_model.specs.declared.val.Body.TheVariants.{Number, Owned, Shared}
+use Rattle.sdd_script_model.specs.declared.val.Body.TheVariants.{Number, Owned, Shared, Storage}
 use Rattle.sdd_script_model.specs.ScriptState.{ScriptState, cell_of, holding_at}
 
 -- the number of an item's name, if it has one
@@ -36,11 +36,12 @@ names_in names slots = filter_map (named_in names) slots
 abbrev pub job_in : List ℕ → ℕ → JobName
 job_in deferred k = record { 0 = slice_index deferred k }
 
--- a body as a reply: its number, or the item that it holds an owner of
+-- a body as a reply: its number, or the item that it holds an owner of; a storage tells nothing
 abbrev pub told_of : List (Option ℕ) → Body → Reply
 told_of names (Number n) = reply.Value n
 told_of names (Owned o) = reply.Holding (item_in names (owned.slot_of o))
 told_of names (Shared o) = reply.Holding (item_in names (shared.slot_of o))
+told_of names (Storage s) = reply.Done
 
 -- the value of the item in slot k, as a reply
 abbrev pub RepliesValue : ScriptState → ℕ → Reply → Type 0

@@ -1,5 +1,5 @@
 -- What is always true of a desk
-use Rattle.std.specs.Prelude.{ℕ, ◌+◌, ◌*◌, ◌^◌, ◌<◌, ◌≤◌, ◌≡◌, ◌==◌, Bool, false, IsTrue, IsSome, List, Option, None, Some, count_by, length, slice_index}
+use Rattle.std.specs.Prelude.{ℕ, ◌+◌, ◌*◌, ◌^◌, ◌<◌, ◌≤◌, ◌≡◌, ◌⊎◌, ◌==◌, Bool, false, IsTrue, IsSome, List, Option, None, Some, count_by, length, slice_index}
 use Rattle.sdd_participants.specs.EpochState.{is_open, phase_at}
 use Rattle.sdd_participants.specs.Slab.{Entries, IsEmptyAt, entry_at}
 use Rattle.sdd_standings.specs.Slots.{is_waiting}
@@ -10,19 +10,21 @@ use Rattle.sdd_space.specs.WorldInvariant.{IsWhole}
 use Rattle.sdd_space.specs.Ledger.{Claim, owner_of, right_to, is_right_to, IsLedger}
 use Rattle.sdd_space.specs.OwnerCounts.{is_owner_of, times_held}
 use Rattle.sdd_space.specs.UnderGuards.{CallsUnder, IsSafe}
+use Rattle.sdd_script_model.specs.Bags.{AreBags, AreSpare, IsStored, bagged}
 use Rattle.sdd_script_model.specs.Listed.{HasLists}
 use Rattle.sdd_script_model.specs.Shown.{number_in}
 use Rattle.sdd_script_model.specs.Val.{Val, holdings_of}
 use Rattle.sdd_script_model.specs.ScriptState.{ScriptState, OpenSince, IsListCell, IsSecondCell, opening_at, holding_at, slot_at, name_at, date_at, job_date_at}
 
--- the item in slot s has this name, which is that of no other slot; or it has none, and waits
+-- the item in slot s has this name, which is that of no other slot; or it has none, and waits, or is a bag's storage
 abbrev pub IsCalled : ScriptState → (s : ℕ) → Option ℕ → Type 0
-IsCalled d s None = IsTrue (is_waiting (standing_at d.world s))
+IsCalled d s None = IsTrue (is_waiting (standing_at d.world s)) ⊎ IsStored d.bags d.world s
 IsCalled d s (Some i) = (i < length d.slots) × (slot_at d i ≡ s)
 
 -- which item is in which slot
 pub record SlotsHaveNames (d : ScriptState) : Type 0 where
-  -- a slot that is not free is that of the item that it has, which waits where it has no name: so what is out as raw is out under its item's name
+  -- a slot that is not free is that of the item that it has, which has a name but where it waits or is a bag's storage: so what is out as raw is out
+  -- under its item's name
   pub named : (s : ℕ) → IsSome (standing_at d.world s) → IsCalled d s (name_at d s)
   pub names : length d.names ≡ length d.world.standings
   pub dates : length d.dates ≡ length d.world.standings
@@ -53,7 +55,7 @@ abbrev pub named_among : (owners cells collectors : List (Option OwnerOrCell)) �
 named_among owners cells collectors (owner_of k) = count_by (owns k) owners
 named_among owners cells collectors (right_to c) = count_by (has_right c) cells + count_by (has_right c) collectors
 
--- so many of each a script has outside its world, beside its queues and stacks
+-- so many of each a script has outside its world, beside its queues, stacks and bags
 abbrev pub named : ScriptState → Claim → ℕ
 named d = named_among d.owners d.cells d.collectors
 
@@ -62,9 +64,9 @@ abbrev pub stacked : List (Option OwnerOrCell) → Claim → ℕ
 stacked stacks (owner_of k) = 0
 stacked stacks (right_to c) = count_by (has_right c) stacks
 
--- so many its queues and stacks are together, of a queue both cells counted
+-- so many its queues, stacks and bags are together, of a queue and of a bag both cells counted
 abbrev pub contained : ScriptState → Claim → ℕ
-contained d u = stacked d.queues u + stacked d.newest u + stacked d.stacks u
+contained d u = stacked d.queues u + stacked d.newest u + stacked d.stacks u + bagged d.bags u
 
 -- what has a name is of the world's home
 abbrev pub AreAtHome : ScriptState → List (Option OwnerOrCell) → Type 0
@@ -88,8 +90,8 @@ pub record ParticipantsMatch (d : ScriptState) : Type 0 where
       (n : ℕ) × (x : OpenSince) × (opening_at d.places n ≡ Some x) × (x.place ≡ y.place) × (x.since ≤ y.since)
   -- in a line so far
   pub early : (n : ℕ) (x : OpenSince) → opening_at d.places n ≡ Some x → x.since ≤ d.moment
-  -- an item, a cell, a queue or a stack was made by some participant, and its place, or another, is not free
-  pub placed : 0 < length d.slots + length d.cells + length d.queues + length d.stacks → (p : ℕ) × IsSome (phase_at d.world.time p)
+  -- an item, a cell, a queue, a stack or a bag was made by some participant, and its place, or another, is not free
+  pub placed : 0 < length d.slots + length d.cells + length d.queues + length d.stacks + length d.bags → (p : ℕ) × IsSome (phase_at d.world.time p)
 
 -- what began to wait since a participant's last outermost opening can't go as long as a guard of it is open
 abbrev pub KeepsRecentItems : ScriptState → Type 0
@@ -133,8 +135,11 @@ pub record IsSound (d : ScriptState) : Type 0 where
   pub stocked : SlotsHaveNames d
   -- of each owner and each right to a cell there are as many as the world needs: those inside it, and those with names
   pub ledger : IsLedger holdings_of (λ u. named d u + contained d u) d.world
-  -- each queue and each stack is there, and a link that holds something is that of an entry of one
-  pub lists : HasLists (IsListCell d) (IsSecondCell d) d.world
+  -- each queue and each stack is there, and a link that holds something is that of an entry of one, or of a bag's storage
+  pub lists : HasLists (IsListCell d) (IsSecondCell d) (IsStored d.bags d.world) d.world
+  -- each bag is there, and the own cells of storages hold nothing
+  pub bags : AreBags d
+  pub spare : AreSpare d.world
   pub layered : HoldsOnlyOlder d
   pub home : NamesAreAtHome d
   pub attended : ParticipantsMatch d

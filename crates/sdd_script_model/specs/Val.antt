@@ -1,13 +1,15 @@
 -- What the value of a script's item is
-use Rattle.std.specs.Prelude.{ℕ, ◌≡◌, List, [], ◌∷◌, ◌++◌}
+use Rattle.std.specs.Prelude.{ℕ, ◌≡◌, List, [], ◌∷◌, ◌++◌, None, Option, Some}
 use Rattle.sdd_rights.specs.Units as token
 use Rattle.sdd_space.specs.Owned as owned
 use Rattle.sdd_space.specs.Shared as shared
 use Rattle.sdd_space.specs.OwnerOrCell.{OwnerOrCell}
+use Rattle.sdd_bag.specs.Storages as storages
+use Rattle.sdd_bag.specs.Storages.{StorageName}
 use Rattle.sdd_lists.specs.Entries as entries
 use Rattle.sdd_lists.specs.declared.linked_entry.LinkedEntry.{LinkedEntry, out-LinkedEntry}
 use Rattle.sdd_script_model.specs.declared.val.Body.{Body}
-use Rattle.sdd_script_model.specs.declared.val.Body.TheVariants.{Number, Owned, Shared}
+use Rattle.sdd_script_model.specs.declared.val.Body.TheVariants.{Number, Owned, Shared, Storage}
 
 abbrev pub Val : Type 0
 Val = LinkedEntry Body
@@ -21,17 +23,26 @@ link_of v = entries.link_of v
 abbrev pub link_home : Val → token.GhostName
 link_home v = entries.link_home_of v
 
--- the owner that a body is, if it is one
+-- what a body holds: the owner that it is, or a storage's cell
 abbrev pub owner_in : Body → List OwnerOrCell
 owner_in (Number n) = []
 owner_in (Owned o) = owned.holding_of o ∷ []
 owner_in (Shared o) = shared.holding_of o ∷ []
+owner_in (Storage s) = storages.holdings_of s
 
--- with another number; an owner stays
+-- the storage of a bag that a body is, if it is one
+abbrev pub storage_in : Body → Option StorageName
+storage_in (Number n) = None
+storage_in (Owned o) = None
+storage_in (Shared o) = None
+storage_in (Storage s) = Some s
+
+-- with another number; an owner and a storage stay
 abbrev pub renumbered : Body → ℕ → Body
 renumbered (Number m) n = Number n
 renumbered (Owned o) n = Owned o
 renumbered (Shared o) n = Shared o
+renumbered (Storage s) n = Storage s
 
 -- a value has this number in place of the one that it had, and the same link
 pub record Renumbers (was : Val) (number : ℕ) (now : Val) : Type 0 where
@@ -42,6 +53,6 @@ pub record Renumbers (was : Val) (number : ℕ) (now : Val) : Type 0 where
 abbrev pub link_holding : Val → OwnerOrCell
 link_holding v = shared.cell_holding (out-LinkedEntry Body v).next
 
--- it holds an owner or none, and its link
+-- it holds what its body does, and its link
 abbrev pub holdings_of : Val → List OwnerOrCell
 holdings_of v = owner_in (body_of v) ++ link_holding v ∷ []

@@ -1,3 +1,9 @@
+ghost use Rattle.std.specs.Prelude.{◌≡◌, MatchResult, None, Some, option_copied};
+ghost use Rattle.sdd_bag.specs.Storages.{holdings_of};
+ghost use Rattle.sdd_space.specs.OwnerOrCell.{SpaceId, AreOf};
+ghost use Rattle.sdd_script_model.specs.Val.{owner_in, storage_in};
+
+use sdd_bag::{Shelf, Storage};
 use sdd_lists::{CloneValue, LinkedEntry};
 use sdd_space::inner::{owner_of, right_of_owner, right_of_shared, shared_of};
 use sdd_space::{Giver, Item, Owned, Shared};
@@ -6,11 +12,12 @@ use std::alloc::AllocError;
 /// Stands for the value of the item whose owner a body is: its type has a body in it.
 pub struct Nested;
 
-/// What an item of a script holds beside its link: a number, or an owner of another item.
+/// What an item of a script holds beside its link: a number, an owner of another item, or places for a bag's numbers.
 pub enum Body {
     Number(u64),
     Owned(Owned<Nested>),
     Shared(Shared<Nested>),
+    Storage(Storage<u64, 32>),
 }
 
 /// The value of an item of a script: an entry with what it holds, and a cell for its link.
@@ -26,6 +33,36 @@ impl Item<Val> for Body {
             Body::Number(_) => {}
             Body::Owned(owner) => giver.owned(owner_of(right_of_owner(owner))),
             Body::Shared(owner) => giver.shared(shared_of(right_of_shared(owner))),
+            Body::Storage(storage) => storage.give_up(giver),
+        }
+    }
+}
+
+impl Shelf<u64, 32> for Body {
+    ghost shown = { storage_in };
+
+    fn with_storage(storage: Storage<u64, 32>) -> Self
+        ensures shown { storage_in result ≡ Some storage }
+        ensures held { (home : SpaceId) → AreOf home (holdings_of storage) → AreOf home (owner_in result) }
+    {
+        Body::Storage(storage)
+    }
+
+    fn storage(&self) -> Option<&Storage<u64, 32>>
+        ensures { option_copied result ≡ storage_in self.now }
+    {
+        match self {
+            Body::Storage(storage) => Some(storage),
+            _ => None,
+        }
+    }
+
+    fn into_storage(self) -> Result<Storage<u64, 32>, Self>
+        ensures { MatchResult result (λ storage. storage_in self ≡ Some storage) (λ back. (back ≡ self) × (storage_in self ≡ None)) }
+    {
+        match self {
+            Body::Storage(storage) => Ok(storage),
+            other => Err(other),
         }
     }
 }
@@ -67,7 +104,7 @@ impl Body {
         Body::Shared(shared_of(right_of_shared(owner)))
     }
 
-    /// Puts a number in the place of its number. An owner stays as it is, since it must be spent.
+    /// Puts a number in the place of its number. An owner stays as it is, since it must be spent, and so does a storage.
     pub fn put(&mut self, number: u64)
         ensures { self.new ≡ renumbered self.old number }
     {

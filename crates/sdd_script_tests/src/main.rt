@@ -27,7 +27,7 @@ use std::{fs, io};
 use verdict::Verdict;
 
 /// The folders of examples.
-const GROUPS: [&str; 15] = [
+const GROUPS: [&str; 16] = [
     // items that several own
     "shared_owners",
     // cells, of either kind
@@ -48,6 +48,8 @@ const GROUPS: [&str; 15] = [
     "queues",
     // stacks: their order, what they let go of and when, and their close
     "stacks",
+    // bags of numbers: what lies behind comes out first, when storages are made and let go of, and their close
+    "bags",
     // what a value held goes three changes after it, and is named then
     "nested_values",
     // participants end

@@ -27,7 +27,7 @@ use Rattle.sdd_script_text.specs.declared.call.Action.{Action}
 use Rattle.sdd_script_text.specs.declared.call.Action.TheVariants as action
 use Rattle.sdd_script_text.specs.declared.call.Value.TheVariants as value
 use Rattle.sdd_script_text.specs.declared.call.Argument.{Argument}
-use Rattle.sdd_script_text.specs.declared.call.Argument.TheVariants.{Number, Guard, Owner, Item, Cell, Collector, Queue, Stack, Tag, Word}
+use Rattle.sdd_script_text.specs.declared.call.Argument.TheVariants.{Number, Guard, Owner, Item, Cell, Collector, Queue, Stack, Bag, Tag, Word}
 use Rattle.sdd_script_text.specs.declared.call.Word.{Word as FixedWord}
 use Rattle.sdd_script_text.specs.declared.call.Word.TheVariants.{Owned, Shared, Of, If, Was, Now}
 use Rattle.sdd_script_text.specs.Call.{IsNumber, IsWordOf, joined, words, fixed, word_of, spoken, words_of, line_of, HasNumber, HasNumbers, IsTextOf, IsCallText}
@@ -148,6 +148,7 @@ argument_said (Cell c) h = name_said 99 c.0 h ∙ rw (number_at-decimal c.0 h) r
 argument_said (Collector k) h = name_said 107 k.0 h ∙ rw (number_at-decimal k.0 h) refl
 argument_said (Queue q) h = name_said 113 q.0 h ∙ rw (number_at-decimal q.0 h) refl
 argument_said (Stack s) h = name_said 115 s.0 h ∙ rw (number_at-decimal s.0 h) refl
+argument_said (Bag b) h = name_said 98 b.0 h ∙ rw (number_at-decimal b.0 h) refl
 argument_said (Tag t) h = tag_said t
 argument_said (Word w) h = fixed_said w
 
@@ -186,7 +187,8 @@ numbered_read (byte ∷ bytes) =
     (lettered_read 107 byte bytes (λ n. Collector (record { 0 = n })) _ (λ n h. h) (λ n. refl)
     (lettered_read 113 byte bytes (λ n. Queue (record { 0 = n })) _ (λ n h. h) (λ n. refl)
     (lettered_read 115 byte bytes (λ n. Stack (record { 0 = n })) _ (λ n h. h) (λ n. refl)
-    (by (number_at (byte ∷ bytes)) (number_read (byte ∷ bytes)))))))))
+    (lettered_read 98 byte bytes (λ n. Bag (record { 0 = n })) _ (λ n h. h) (λ n. refl)
+    (by (number_at (byte ∷ bytes)) (number_read (byte ∷ bytes))))))))))
   where
     by : (o : Option ℕ) → IfSome o (λ n. IsNumber n × (decimal n ≡ byte ∷ bytes)) → IsReadAs (byte ∷ bytes) (o >>= λ n. Some (Number n))
     by None read = tt
@@ -348,6 +350,10 @@ with_said (Stack s ∷ []) = search rules
 with_said (Stack s ∷ Guard g ∷ []) = search rules
 with_said (Stack s ∷ Number n ∷ Guard g ∷ []) = search rules
 with_said (Stack s ∷ Number n ∷ Number m ∷ Guard g ∷ []) = search rules
+with_said (Bag b ∷ []) = search rules
+with_said (Bag b ∷ Guard g ∷ []) = search rules
+with_said (Bag b ∷ Number n ∷ []) = search rules
+with_said (Bag b ∷ Number n ∷ Guard g ∷ []) = search rules
 with_said (Item (Some i) ∷ Guard g ∷ []) = search rules
 with_said (Owner (Some o) ∷ Number n ∷ []) = search rules
 with_said (Cell c ∷ Guard g ∷ []) = search rules

@@ -6,12 +6,12 @@ use Rattle.sdd_core.specs.Refused.{number_of}
 use Rattle.sdd_core.specs.declared.refused.Refused.{Refused as Refusal}
 use Rattle.sdd_core.specs.declared.refused.Refused.TheVariants.{NoSlot, NoCell, NoJob, NoPlace, NoMemory, TooManyGuards, GuardOpen, NotAlone, OwnerOut, Contended, TooManyOwners, BadLimits}
 use Rattle.sdd_script_text.specs.Call.{joined}
-use Rattle.sdd_script_text.specs.Name.{place, guard, owner, item, cell, collector, queue, stack, job, tag}
+use Rattle.sdd_script_text.specs.Name.{place, guard, owner, item, cell, collector, queue, stack, bag, job, tag}
 use Rattle.sdd_script_text.specs.declared.name.OwnerName.{OwnerName}
 use Rattle.sdd_script_text.specs.declared.name.ItemName.{ItemName}
 use Rattle.sdd_script_text.specs.declared.answer.Answer.{Answer}
 use Rattle.sdd_script_text.specs.declared.answer.Reply.{Reply}
-use Rattle.sdd_script_text.specs.declared.answer.Reply.TheVariants.{Place, Tally, Guard, Epoch, Truth, Done, Job, Collector, Queue, Stack, Popped, Kept, KeptEntry, Numbers, Item, Owner, Nothing, Raw, Value, Holding, Cell, Pointer, Tag, Swapped, Exchanged, Differs, Refused, Invalid}
+use Rattle.sdd_script_text.specs.declared.answer.Reply.TheVariants.{Place, Tally, Guard, Epoch, Truth, Done, Job, Collector, Queue, Stack, Bag, Popped, Many, Kept, KeptEntry, Numbers, Item, Owner, Nothing, Raw, Value, Holding, Cell, Pointer, Tag, Swapped, Exchanged, Differs, Refused, Invalid}
 
 -- the name of a refusal
 abbrev pub refusal : Refusal → List ℕ
@@ -55,7 +55,9 @@ words_of_reply (Job j) = job j ∷ []
 words_of_reply (Collector k) = collector k ∷ []
 words_of_reply (Queue q) = queue q ∷ []
 words_of_reply (Stack s) = stack s ∷ []
+words_of_reply (Bag b) = bag b ∷ []
 words_of_reply (Popped o n) = owner o ∷ decimal n ∷ []
+words_of_reply (Many n) = decimal n ∷ []
 words_of_reply (Kept n) = codes "kept" ∷ decimal n ∷ []
 words_of_reply (KeptEntry o n) = codes "kept" ∷ owner o ∷ decimal n ∷ []
 words_of_reply (Numbers ns) = words_of_numbers ns

@@ -2,14 +2,14 @@
 use Rattle.std.specs.Prelude.{◌≡◌, ℕ, ◌^◌, ◌<◌, ◌==◌, List, [], ◌∷◌, Some, None, codes, map}
 use Rattle.std.specs.List.{join_with_byte, slice_split, AllByRecursion}
 use Rattle.std.specs.Fmt.{decimal}
-use Rattle.sdd_script_text.specs.Name.{place, guard, owner, item, cell, collector, queue, stack, tag}
+use Rattle.sdd_script_text.specs.Name.{place, guard, owner, item, cell, collector, queue, stack, bag, tag}
 use Rattle.sdd_script_text.specs.declared.name.ListName.{ListName}
 use Rattle.sdd_script_text.specs.declared.name.ListName.TheVariants as list
 use Rattle.sdd_script_text.specs.declared.call.Action.{Action}
 use Rattle.sdd_script_text.specs.declared.call.Action.TheVariants as action
 use Rattle.sdd_script_text.specs.declared.call.Value.TheVariants as value
 use Rattle.sdd_script_text.specs.declared.call.Argument.{Argument}
-use Rattle.sdd_script_text.specs.declared.call.Argument.TheVariants.{Number, Guard, Owner, Item, Cell, Collector, Queue, Stack, Tag, Word}
+use Rattle.sdd_script_text.specs.declared.call.Argument.TheVariants.{Number, Guard, Owner, Item, Cell, Collector, Queue, Stack, Bag, Tag, Word}
 use Rattle.sdd_script_text.specs.declared.call.Word.{Word as FixedWord}
 use Rattle.sdd_script_text.specs.declared.call.Word.TheVariants.{Owned, Shared, Of, If, Was, Now}
 use Rattle.sdd_script_text.specs.declared.call.Call.{Call}
@@ -44,6 +44,7 @@ word_of (Cell c) = cell c
 word_of (Collector k) = collector k
 word_of (Queue q) = queue q
 word_of (Stack s) = stack s
+word_of (Bag b) = bag b
 word_of (Tag t) = tag t
 word_of (Word w) = fixed w
 
@@ -95,6 +96,7 @@ spoken (action.LinkTag i) = (codes "linktag", Item (Some i) ∷ [])
 spoken (action.Next i g) = (codes "next", Item (Some i) ∷ Guard g ∷ [])
 spoken action.Queue = (codes "queue", [])
 spoken action.Stack = (codes "stack", [])
+spoken action.Bag = (codes "bag", [])
 spoken (action.Push l n g) = (codes "push", named l ∷ Number n ∷ Guard g ∷ [])
 spoken (action.PushIf l n m g) = (codes "pushif", named l ∷ Number n ∷ Number m ∷ Guard g ∷ [])
 spoken (action.Pop l g) = (codes "pop", named l ∷ Guard g ∷ [])
@@ -104,11 +106,17 @@ spoken (action.Peek l g) = (codes "peek", named l ∷ Guard g ∷ [])
 spoken (action.Len l g) = (codes "len", named l ∷ Guard g ∷ [])
 spoken (action.List l g) = (codes "list", named l ∷ Guard g ∷ [])
 spoken (action.CloneList l g) = (codes "clonelist", named l ∷ Guard g ∷ [])
+spoken (action.Add b n g) = (codes "add", Bag b ∷ Number n ∷ Guard g ∷ [])
+spoken (action.Try b n) = (codes "try", Bag b ∷ Number n ∷ [])
+spoken (action.Take b g) = (codes "take", Bag b ∷ Guard g ∷ [])
+spoken (action.Drain b g) = (codes "drain", Bag b ∷ Guard g ∷ [])
+spoken (action.LenBag b g) = (codes "len", Bag b ∷ Guard g ∷ [])
 spoken (action.Close g) = (codes "close", Guard g ∷ [])
 spoken (action.CloseCell c) = (codes "close", Cell c ∷ [])
 spoken (action.CloseCollector k) = (codes "close", Collector k ∷ [])
 spoken (action.CloseQueue q) = (codes "close", Queue q ∷ [])
 spoken (action.CloseStack s) = (codes "close", Stack s ∷ [])
+spoken (action.CloseBag b) = (codes "close", Bag b ∷ [])
 spoken action.End = (codes "end", [])
 
 -- a place, a verb and its arguments
@@ -139,6 +147,7 @@ HasNumber (Cell c) = IsNumber c.0
 HasNumber (Collector k) = IsNumber k.0
 HasNumber (Queue q) = IsNumber q.0
 HasNumber (Stack s) = IsNumber s.0
+HasNumber (Bag b) = IsNumber b.0
 HasNumber argument = Unit {0}
 
 -- the numbers of a call have 64 bits each

@@ -11,6 +11,7 @@ use Rattle.sdd_script_text.specs.declared.name.CellName.{CellName}
 use Rattle.sdd_script_text.specs.declared.name.CollectorName.{CollectorName}
 use Rattle.sdd_script_text.specs.declared.name.QueueName.{QueueName}
 use Rattle.sdd_script_text.specs.declared.name.StackName.{StackName}
+use Rattle.sdd_script_text.specs.declared.name.BagName.{BagName}
 use Rattle.sdd_script_text.specs.declared.name.JobName.{JobName}
 
 abbrev pub place : PlaceName → List ℕ
@@ -36,6 +37,9 @@ queue name = codes "q" ++ decimal name.0
 
 abbrev pub stack : StackName → List ℕ
 stack name = codes "s" ++ decimal name.0
+
+abbrev pub bag : BagName → List ℕ
+bag name = codes "b" ++ decimal name.0
 
 abbrev pub job : JobName → List ℕ
 job name = codes "j" ++ decimal name.0

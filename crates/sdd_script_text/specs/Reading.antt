@@ -13,7 +13,7 @@ use Rattle.sdd_script_text.specs.declared.call.Action.{Action}
 use Rattle.sdd_script_text.specs.declared.call.Action.TheVariants as action
 use Rattle.sdd_script_text.specs.declared.call.Value.TheVariants as value
 use Rattle.sdd_script_text.specs.declared.call.Argument.{Argument}
-use Rattle.sdd_script_text.specs.declared.call.Argument.TheVariants.{Number, Guard, Owner, Item, Cell, Collector, Queue, Stack, Tag, Word}
+use Rattle.sdd_script_text.specs.declared.call.Argument.TheVariants.{Number, Guard, Owner, Item, Cell, Collector, Queue, Stack, Bag, Tag, Word}
 use Rattle.sdd_script_text.specs.declared.call.Word.TheVariants.{Owned, Shared, Of, If, Was, Now}
 use Rattle.sdd_script_text.specs.declared.call.Call.{Call}
 use Rattle.sdd_script_text.specs.declared.call.Call.TheVariants.{Register, Tally, At}
@@ -47,6 +47,7 @@ numbered_argument_at (byte ∷ bytes) =
     else if byte == 107 then (number_at bytes >>= λ n. Some (Collector (record { 0 = n })))
     else if byte == 113 then (number_at bytes >>= λ n. Some (Queue (record { 0 = n })))
     else if byte == 115 then (number_at bytes >>= λ n. Some (Stack (record { 0 = n })))
+    else if byte == 98 then (number_at bytes >>= λ n. Some (Bag (record { 0 = n })))
     else (number_at (byte ∷ bytes) >>= λ n. Some (Number n))
 
 -- the arguments without a number
@@ -87,7 +88,7 @@ with_list_number l n g = action.Push l n g ∷ action.PopIf l n g ∷ []
 
 -- the actions with these arguments
 abbrev pub with_arguments : List Argument → List Action
-with_arguments [] = action.Open ∷ action.Collector ∷ action.Queue ∷ action.Stack ∷ action.End ∷ []
+with_arguments [] = action.Open ∷ action.Collector ∷ action.Queue ∷ action.Stack ∷ action.Bag ∷ action.End ∷ []
 with_arguments (Number n ∷ []) = action.Owned (value.Number n) ∷ action.Shared (value.Number n) ∷ []
 with_arguments (Guard g ∷ []) = action.Epoch g ∷ action.Garbage g ∷ action.Set g ∷ action.Accelerate g ∷ action.Defer g ∷ action.Close g ∷ []
 with_arguments (Owner (Some o) ∷ []) = action.Read o ∷ action.Retire o ∷ action.Release o ∷ action.Clone o ∷ action.Drop o ∷ action.Raw o ∷ []
@@ -102,6 +103,10 @@ with_arguments (Stack s ∷ []) = action.CloseStack s ∷ []
 with_arguments (Stack s ∷ Guard g ∷ []) = action.All s g ∷ with_list (list.Stack s) g
 with_arguments (Stack s ∷ Number n ∷ Guard g ∷ []) = with_list_number (list.Stack s) n g
 with_arguments (Stack s ∷ Number n ∷ Number m ∷ Guard g ∷ []) = action.PushIf (list.Stack s) n m g ∷ []
+with_arguments (Bag b ∷ []) = action.CloseBag b ∷ []
+with_arguments (Bag b ∷ Guard g ∷ []) = action.Take b g ∷ action.Drain b g ∷ action.LenBag b g ∷ []
+with_arguments (Bag b ∷ Number n ∷ []) = action.Try b n ∷ []
+with_arguments (Bag b ∷ Number n ∷ Guard g ∷ []) = action.Add b n g ∷ []
 with_arguments (Item (Some i) ∷ Guard g ∷ []) = action.Look i g ∷ action.Upgrade i g ∷ action.See i g ∷ action.Next i g ∷ []
 with_arguments (Owner (Some o) ∷ Number n ∷ []) = action.Put o n ∷ []
 with_arguments (Cell c ∷ Guard g ∷ []) = action.Load c g ∷ action.Copy c g ∷ action.Share c g ∷ []

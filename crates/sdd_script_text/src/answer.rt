@@ -5,8 +5,8 @@ ghost use Rattle.sdd_script_text.specs.Name.{tag as word_of_tag};
 ghost use Rattle.sdd_script_text.specs.Answer.{refusal, ending, text_of, text_of_all, text_of_fault};
 
 use crate::name::{
-    CellName, CollectorName, GuardName, ItemName, JobName, Names, OwnerName, PlaceName, QueueName,
-    StackName,
+    BagName, CellName, CollectorName, GuardName, ItemName, JobName, Names, OwnerName, PlaceName,
+    QueueName, StackName,
 };
 use crate::numbers::Numbers;
 use sdd_core::inner::number_of_refusal;
@@ -38,19 +38,23 @@ pub enum Reply {
     Queue(QueueName),
     /// `s0`: a new stack.
     Stack(StackName),
+    /// `b0`: a new bag.
+    Bag(BagName),
     /// `o0 7`: the owner of an entry that was taken out, and its number.
     Popped(OwnerName, u64),
-    /// `kept 7`: a number that was not pushed.
+    /// `7`: how many numbers there are.
+    Many(u128),
+    /// `kept 7`: a number that was not put in.
     Kept(u64),
     /// `kept o0 7`: the owner of an entry that was not taken out, and its number.
     KeptEntry(OwnerName, u64),
-    /// `1 2 3`, or `none`: the numbers of entries, in order.
+    /// `1 2 3`, or `none`: numbers in order, as those of entries.
     Numbers(Numbers),
     /// `o0 i0`: a new owner of a new item.
     Item(OwnerName, ItemName),
     /// `o0`: an owner of an item that was there.
     Owner(OwnerName),
-    /// `none`: no owner, or nothing to see.
+    /// `none`: no owner, no number, or nothing to see.
     Nothing,
     /// `i0`: the item that is out as raw.
     Raw(ItemName),
@@ -100,7 +104,9 @@ impl fmt::Display for Reply {
             Reply::Collector(collector) => write!(f, "{collector}"),
             Reply::Queue(queue) => write!(f, "{queue}"),
             Reply::Stack(stack) => write!(f, "{stack}"),
+            Reply::Bag(bag) => write!(f, "{bag}"),
             Reply::Popped(owner, number) => write!(f, "{owner} {number}"),
+            Reply::Many(many) => write!(f, "{many}"),
             Reply::Kept(number) => write!(f, "kept {number}"),
             Reply::KeptEntry(owner, number) => write!(f, "kept {owner} {number}"),
             Reply::Numbers(ref numbers) => write!(f, "{numbers}"),

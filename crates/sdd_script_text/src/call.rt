@@ -4,8 +4,8 @@ mod arguments;
 pub(crate) mod reading;
 
 use crate::name::{
-    CellName, CollectorName, GuardName, ItemName, ListName, OwnerName, PlaceName, QueueName,
-    StackName,
+    BagName, CellName, CollectorName, GuardName, ItemName, ListName, OwnerName, PlaceName,
+    QueueName, StackName,
 };
 use sdd_core::Tag;
 use std::str;
@@ -97,6 +97,8 @@ pub enum Action {
     Queue,
     /// `stack`: an empty stack of numbers.
     Stack,
+    /// `bag`: an empty bag of numbers.
+    Bag,
     /// `push L n G`: puts a number behind a queue's entries, or in front of a stack's.
     Push(ListName, u64, GuardName),
     /// `pushif L n m G`: puts the first number among a container's, if the newest that isn't deleted is the second.
@@ -115,6 +117,16 @@ pub enum Action {
     List(ListName, GuardName),
     /// `clonelist L G`: a copy of a container, with its numbers that aren't deleted, in order.
     CloneList(ListName, GuardName),
+    /// `add B n G`: puts a number into a bag.
+    Add(BagName, u64, GuardName),
+    /// `try B n`: puts a number among those that lie in the bag itself, if there is room.
+    Try(BagName, u64),
+    /// `take B G`: takes some number out of a bag.
+    Take(BagName, GuardName),
+    /// `drain B G`: takes all numbers out of a bag.
+    Drain(BagName, GuardName),
+    /// `len B G`: how many numbers are in a bag.
+    LenBag(BagName, GuardName),
     /// `close G`: closes a guard.
     Close(GuardName),
     /// `close C`: closes a cell, and gives up what it holds.
@@ -125,6 +137,8 @@ pub enum Action {
     CloseQueue(QueueName),
     /// `close S`: closes a stack, and lets go of its entries.
     CloseStack(StackName),
+    /// `close B`: closes a bag, with the numbers in it.
+    CloseBag(BagName),
     /// `end`: the participant takes part no more.
     End,
 }
@@ -151,6 +165,7 @@ pub(crate) enum Argument {
     Collector(CollectorName),
     Queue(QueueName),
     Stack(StackName),
+    Bag(BagName),
     Tag(Tag),
     Word(Word),
 }

@@ -22,8 +22,8 @@ pub use call::{Action, Call, Value};
 pub use device::{Fault, ReadEnd, Reader, Sink, Source, Writer, read_to_end, write_all};
 pub use ended::Ended;
 pub use name::{
-    CellName, CollectorName, GuardName, ItemName, JobName, ListName, Names, OwnerName, PlaceName,
-    QueueName, StackName,
+    BagName, CellName, CollectorName, GuardName, ItemName, JobName, ListName, Names, OwnerName,
+    PlaceName, QueueName, StackName,
 };
 pub use numbers::Numbers;
 pub use outcome::{Outcome, after_printing, failure, line, status, without_arguments};

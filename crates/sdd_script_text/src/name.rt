@@ -38,6 +38,10 @@ pub struct QueueName(pub u64);
 #[derive(Clone, Copy, Debug, PartialEq, Eq, PartialOrd, Ord)]
 pub struct StackName(pub u64);
 
+/// The name of a bag, as `b0`.
+#[derive(Clone, Copy, Debug, PartialEq, Eq, PartialOrd, Ord)]
+pub struct BagName(pub u64);
+
 /// The name of a container of entries: of a queue, as `q0`, or of a stack, as `s0`.
 #[derive(Clone, Copy, Debug, PartialEq, Eq)]
 pub enum ListName {
@@ -134,6 +138,17 @@ impl fmt::Display for StackName {
 
     fn fmt<W: fmt::Write>(&self, f: &mut fmt::Formatter<W>) -> fmt::Result {
         write!(f, "s{}", self.0)
+    }
+}
+
+impl fmt::Display for BagName {
+    ghost use Rattle.std.specs.Prelude.{Some};
+    ghost use Rattle.sdd_script_text.specs.Name.{bag};
+
+    ghost output = { λ name. Some (bag name) };
+
+    fn fmt<W: fmt::Write>(&self, f: &mut fmt::Formatter<W>) -> fmt::Result {
+        write!(f, "b{}", self.0)
     }
 }
 

@@ -49,6 +49,13 @@ impl Numbers {
         }
     }
 
+    /// These numbers, in their order.
+    pub fn of(items: Vec<u64>) -> Numbers
+        ensures { result ≡ items.items }
+    {
+        Numbers { items }
+    }
+
     /// Adds a number at the end. An `Err` changes nothing.
     pub fn push(&mut self, number: u64) -> Result<(), AllocError>
         ensures ok { OnOk result (self.new ≡ self.old ++ number ∷ []) }

@@ -123,6 +123,27 @@ p0 len s0 1 g0
 p0 len c0 g0
 p0 list s0
 p0 list g0
+p0 bag b0
+p0 bag 32
+p0 add b0 1
+p0 add b0 g0
+p0 add b0 g0 1
+p0 add q0 1 g0
+p0 add b0 none g0
+p0 add b0 18446744073709551616 g0
+p0 try b0
+p0 try b0 1 g0
+p0 try s0 1
+p0 take b0
+p0 take b00 g0
+p0 take s0 g0
+p0 drain b0
+p0 drain b0 g0 g0
+p0 push b0 1 g0
+p0 pop b0 g0
+p0 list b0 g0
+p0 len b0
+p0 close b
 p0 cell none
 p0 cell owned
 p0 load c0

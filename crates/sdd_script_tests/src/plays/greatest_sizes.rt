@@ -2,7 +2,8 @@
 
 use sdd_core::Limits;
 use sdd_script::{
-    Action, Call, Ended, ItemName, OwnerName, PlaceName, Reader, Reply, Value, Writer, play, run,
+    Action, Answer, BagName, Call, Ended, GuardName, ItemName, OwnerName, PlaceName, Reader, Reply,
+    Value, Writer, play, run,
 };
 use sdd_script_text::USUAL_LIMITS;
 use std::alloc::{AllocError, Global};
@@ -18,6 +19,13 @@ const GREATEST: Limits = Limits {
     tries: 65_535,
 };
 
+/// As many storages as a sixteenth of the most numbers of a script lie in, as more take minutes.
+const FOR_ONE_BAG: Limits = Limits {
+    slots: 128,
+    cells: 258,
+    ..USUAL_LIMITS
+};
+
 /// A text of as many lines as a script may have: a first one, and then the same again and again.
 fn most_lines(alloc: Global, first: &str, line: &str) -> Result<String, AllocError> {
     let mut text = String::new(alloc);
@@ -26,6 +34,21 @@ fn most_lines(alloc: Global, first: &str, line: &str) -> Result<String, AllocErr
         text.push_str(line)?;
     }
     Ok(text)
+}
+
+/// One that registers, makes a bag and opens a guard; then 4,128 that put a number into the bag each, and one that takes all out.
+fn many_numbers(alloc: Global) -> Result<Vec<Call>, AllocError> {
+    let mut calls = Vec::new(alloc);
+    calls.push(Call::Register)?;
+    calls.push(Call::At(PlaceName(0), Action::Bag))?;
+    calls.push(Call::At(PlaceName(0), Action::Open))?;
+    for number in 0..4_128 {
+        let add = Action::Add(BagName(0), number, GuardName(0));
+        calls.push(Call::At(PlaceName(0), add))?;
+    }
+    let drain = Action::Drain(BagName(0), GuardName(0));
+    calls.push(Call::At(PlaceName(0), drain))?;
+    Ok(calls)
 }
 
 /// One that registers, and then 65,535 that make an item each.
@@ -62,6 +85,30 @@ fn a_run_has_the_greatest_limits_and_the_most_calls(rt: HostRuntime) -> Result<(
     for answer in &answers {
         assert!(rt; is_reply_to(number, &answer.reply));
         number = number.wrapping_add(1);
+    }
+    Ok(())
+}
+
+/// 4,128 numbers lie in the bag itself and in 128 storages. They have 15,402 digits, and a space between each two.
+#[test]
+fn a_drain_tells_many_numbers(rt: HostRuntime) -> Result<(), Fail> {
+    let calls = many_numbers(rt.alloc())?;
+    let (answers, scene) = run(rt.alloc(), FOR_ONE_BAG, calls.as_slice())?;
+    let tally = scene.close();
+    assert!(rt; (tally.made, tally.reclaimed) == (128, 128));
+    match answers.as_slice().last() {
+        Some(
+            Answer {
+                reply: Reply::Numbers(numbers),
+                ..
+            },
+        ) => {
+            let told = format!(in rt.alloc(); "{numbers}")?;
+            assert!(rt; told.as_bytes().starts_with(b"0 1 2 3 "));
+            assert!(rt; told.as_bytes().ends_with(b" 4126 4127"));
+            assert!(rt; told.len() == 19_529);
+        }
+        _ => assert!(rt; false),
     }
     Ok(())
 }

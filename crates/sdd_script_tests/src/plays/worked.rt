@@ -15,6 +15,12 @@ const SHORTEST_WAY: &str = "register\np0 owned 7\np0 retire o0\n\
 const ITS_ANSWERS: &str =
     "p0\no0 i0\nok\ng0 epoch 0\nok\nok\ng1 epoch 1\nok\nok\ng2 epoch 2\nok\nok\ng3 epoch 3 reclaimed i0\nfalse\nmade 1 reclaimed 1 in place 0\n";
 
+/// A bag has a number in each way that one comes in, all are taken out, and the bag is closed.
+const BAG: &str =
+    "register\np0 bag\np0 try b0 7\np0 open\np0 add b0 3 g0\np0 drain b0 g0\np0 take b0 g0\np0 close b0\n";
+
+const ITS_REPLIES: &str = "p0\nb0\nok\ng0 epoch 0\nok\n3 7\nnone\nok\n";
+
 /// How many calls of a device that moves three bytes are more than any play here needs.
 const AMPLE: u64 = 1000;
 
@@ -160,6 +166,7 @@ fn each_failed_write_leaves_a_beginning(rt: HostRuntime) {
 fn only_want_of_memory_ends_a_play_early(rt: HostRuntime) {
     for (text, end, written) in [
         (SHORTEST_WAY, Ended::Played, ITS_ANSWERS),
+        (BAG, Ended::Played, ITS_REPLIES),
         ("p0\n", Ended::NotACall(1), "line 1: not a call\n"),
     ] {
         let Ok((ended, page)) = played(rt.alloc(), USUAL_LIMITS, text) else {

@@ -10,8 +10,8 @@ use super::arguments::Arguments;
 use super::{Action, Argument, Call, Value, Word};
 use crate::first::split_word;
 use crate::name::{
-    CellName, CollectorName, GuardName, ItemName, ListName, OwnerName, PlaceName, QueueName,
-    StackName,
+    BagName, CellName, CollectorName, GuardName, ItemName, ListName, OwnerName, PlaceName,
+    QueueName, StackName,
 };
 use sdd_core::Tag;
 
@@ -70,6 +70,7 @@ fn numbered_argument(word: &str) -> Option<Argument>
         [b'k', ..] => Some(Argument::Collector(CollectorName(numbered('k', word)?))),
         [b'q', ..] => Some(Argument::Queue(QueueName(numbered('q', word)?))),
         [b's', ..] => Some(Argument::Stack(StackName(numbered('s', word)?))),
+        [b'b', ..] => Some(Argument::Bag(BagName(numbered('b', word)?))),
         _ => Some(Argument::Number(number(word)?)),
     }
 }
@@ -100,6 +101,7 @@ fn spoken(verb: &str, arguments: &[Argument]) -> Option<Action>
             "collector" => Some(Action::Collector),
             "queue" => Some(Action::Queue),
             "stack" => Some(Action::Stack),
+            "bag" => Some(Action::Bag),
             "end" => Some(Action::End),
             _ => None,
         },
@@ -209,6 +211,10 @@ fn with_one(verb: &str, argument: Argument) -> Option<Action>
             "close" => Some(Action::CloseStack(stack)),
             _ => None,
         },
+        Argument::Bag(bag) => match verb {
+            "close" => Some(Action::CloseBag(bag)),
+            _ => None,
+        },
         Argument::Collector(collector) => match verb {
             "close" => Some(Action::CloseCollector(collector)),
             _ => None,
@@ -242,6 +248,18 @@ fn with_list_number(verb: &str, list: ListName, number: u64, guard: GuardName) -
     }
 }
 
+/// The verbs with a bag and a guard.
+fn with_bag(verb: &str, bag: BagName, guard: GuardName) -> Option<Action>
+    ensures { result ≡ called verb.now (with_arguments (Argument.Bag bag ∷ Argument.Guard guard ∷ [])) }
+{
+    match verb {
+        "take" => Some(Action::Take(bag, guard)),
+        "drain" => Some(Action::Drain(bag, guard)),
+        "len" => Some(Action::LenBag(bag, guard)),
+        _ => None,
+    }
+}
+
 /// The verbs with a guard behind another argument.
 fn with_guard_behind(verb: &str, first: Argument, guard: GuardName) -> Option<Action>
     ensures { result ≡ called verb.now (with_arguments (first ∷ Argument.Guard guard ∷ [])) }
@@ -259,6 +277,7 @@ fn with_guard_behind(verb: &str, first: Argument, guard: GuardName) -> Option<Ac
             "all" => Some(Action::All(stack, guard)),
             _ => with_list(verb, ListName::Stack(stack), guard),
         },
+        Argument::Bag(bag) => with_bag(verb, bag, guard),
         Argument::Cell(cell) => match verb {
             "load" => Some(Action::Load(cell, guard)),
             "copy" => Some(Action::Copy(cell, guard)),
@@ -309,6 +328,10 @@ fn with_two(verb: &str, first: Argument, second: Argument) -> Option<Action>
                 "put" => Some(Action::Put(owner, number)),
                 _ => None,
             },
+            Argument::Bag(bag) => match verb {
+                "try" => Some(Action::Try(bag, number)),
+                _ => None,
+            },
             _ => None,
         },
         _ => None,
@@ -330,6 +353,10 @@ fn with_three(verb: &str, first: Argument, second: Argument, third: Argument) ->
         (Argument::Stack(stack), Argument::Number(number), Argument::Guard(guard)) => {
             with_list_number(verb, ListName::Stack(stack), number, guard)
         }
+        (Argument::Bag(bag), Argument::Number(number), Argument::Guard(guard)) => match verb {
+            "add" => Some(Action::Add(bag, number, guard)),
+            _ => None,
+        },
         (Argument::Owner(Some(owner)), Argument::Guard(guard), Argument::Collector(collector)) =>
             match verb {
                 "collect" => Some(Action::Collect(owner, guard, collector)),

@@ -1,9 +1,17 @@
 use Rattle.std.proofs.Common.{rules}
 use Rattle.sdd_script_model.specs.Script.{Answers}
 use Rattle.sdd_script_model.specs.ScriptState.{later}
+use Rattle.sdd_script_model.proofs.Going.{sound-later}
+use Rattle.sdd_interpreter.specs.Interpreter.{desk_of}
 use Rattle.sdd_script.proofs.line.step.Goals as goal
 
 pub returns : goal.returns
 returns c =
     let answers : Answers (later c.args.stage.now) c.args.call.now c.in_ok-answer.answer c.answer_to.new.stage = search rules in
     record { step = (answers, rw (← c.stage-2.view_is) c.reclaims_in_time.ensures.in_time) }
+
+pub invariant_of-stage : goal.invariant_of-stage
+invariant_of-stage c = record {
+  sound = sound-later (desk_of c.stage.inside.hand) c.stage.invariant.sound;
+  guards = c.stage.invariant.guards;
+}

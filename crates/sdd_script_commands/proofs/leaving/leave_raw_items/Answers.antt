@@ -8,5 +8,6 @@ returns-clause-gone c =
     let d = desk_of c.stage.inside.hand in
     let was = rw (← c.stage.view_is) at c.loop-item.invariant.raw in
     let gone = rw (← c.stage.view_is) at c.loop-item.invariant.gone in
+    let none = rw (← c.stage.view_is) at c.requires.none in
     let end : length d.slots ≤ c.loop-item.item = omega (arith, c.loop-item-test.false, c.len-item-end.ensures) in
-    none-raw d c.stage.invariant.sound c.loop-item.stage.world was (λ i lt. gone i (omega (arith, lt, end)))
+    none-raw d c.stage.invariant.sound none c.loop-item.stage.world was (λ i lt. gone i (omega (arith, lt, end)))

@@ -9,14 +9,16 @@ leave_collector-requires c = record { home = collector-home c.stage.inside.hand 
 pub invariant_of-stage : goal.invariant_of-stage
 invariant_of-stage c =
     let shut = rw (← c.stage.view_is) at c.requires.shut in
-    tied-spent_collector c.stage.inside.hand c.stage.invariant shut c.leave_collector.new.world c.take.new.self.entries c.args.collector _
+    let none = rw (← c.stage.view_is) at c.requires.none in
+    tied-spent_collector c.stage.inside.hand c.stage.invariant shut none c.leave_collector.new.world c.take.new.self.entries c.args.collector _
     c.in-Some.ensures.taken c.leave_collector.ensures.null c.leave_collector.ensures.left c.in-Some.ensures.spent
 
 pub returns-in-Some : goal.returns-in-Some
 returns-in-Some c =
     let shut = rw (← c.stage.view_is) at c.requires.shut in
+    let none = rw (← c.stage.view_is) at c.requires.none in
     rw (← c.stage.view_is)
-    (spends-collector c.stage.inside.hand c.stage.invariant shut c.leave_collector.new.world c.take.new.self.entries c.args.collector _
+    (spends-collector c.stage.inside.hand c.stage.invariant shut none c.leave_collector.new.world c.take.new.self.entries c.args.collector _
     c.in-Some.ensures.taken c.leave_collector.ensures.null c.leave_collector.ensures.left c.in-Some.ensures.spent)
 
 pub returns-in_default : goal.returns-in_default
@@ -25,5 +27,6 @@ returns-in_default c = rw (← c.stage.view_is) (record {
   owners = refl;
   cells = refl;
   guards = refl;
+  bags = refl;
   tally = refl;
 })

@@ -6,6 +6,7 @@ abbrev pub invariant-loop-collector : goal.invariant-loop-collector
 invariant-loop-collector l = record {
   spent : IsSpentTo l.collector (length l.initial.stage.collectors) l.stage.collectors;
   guards : l.stage.guards ≡ l.initial.stage.guards;
+  bags : l.stage.bags ≡ l.initial.stage.bags;
   owners : l.stage.owners ≡ l.initial.stage.owners;
   tally : l.stage.world.tally ≡ l.initial.stage.world.tally;
 }

@@ -14,24 +14,28 @@ leave_queue-requires-clause-home c = queue-home c.stage.inside.hand c.args.queue
 pub leave_queue-requires-clause-shut : goal.leave_queue-requires-clause-shut
 leave_queue-requires-clause-shut c =
     let shut = rw (← c.stage.view_is) at c.requires.shut in
+    let none = rw (← c.stage.view_is) at c.requires.none in
     unguarded (desk_of c.stage.inside.hand) c.stage.invariant.sound shut
 
 pub leave_queue-requires-clause-list : goal.leave_queue-requires-clause-list
 leave_queue-requires-clause-list c =
     let shut = rw (← c.stage.view_is) at c.requires.shut in
-    queue-under c.stage.inside.hand c.stage.invariant c.args.queue _ c.in-Some.ensures.taken shut
+    let none = rw (← c.stage.view_is) at c.requires.none in
+    queue-under c.stage.inside.hand c.stage.invariant c.args.queue _ c.in-Some.ensures.taken shut none
 
 pub invariant_of-stage : goal.invariant_of-stage
 invariant_of-stage c =
     let shut = rw (← c.stage.view_is) at c.requires.shut in
-    tied-spent_queue c.stage.inside.hand c.stage.invariant c.args.queue _ c.in-Some.ensures.taken shut c.leave_queue.new.world c.take.new.self.entries
+    let none = rw (← c.stage.view_is) at c.requires.none in
+    tied-spent_queue c.stage.inside.hand c.stage.invariant c.args.queue _ c.in-Some.ensures.taken shut none c.leave_queue.new.world c.take.new.self.entries
     c.leave_queue.ensures c.in-Some.ensures.spent
 
 pub returns-in-Some : goal.returns-in-Some
 returns-in-Some c =
     let shut = rw (← c.stage.view_is) at c.requires.shut in
+    let none = rw (← c.stage.view_is) at c.requires.none in
     rw (← c.stage.view_is)
-    (spends-queue c.stage.inside.hand c.stage.invariant c.args.queue _ c.in-Some.ensures.taken shut c.leave_queue.new.world c.take.new.self.entries
+    (spends-queue c.stage.inside.hand c.stage.invariant c.args.queue _ c.in-Some.ensures.taken shut none c.leave_queue.new.world c.take.new.self.entries
     c.leave_queue.ensures c.in-Some.ensures.spent)
 
 pub returns-in_default : goal.returns-in_default
@@ -42,6 +46,7 @@ returns-in_default c = rw (← c.stage.view_is) (record {
   cells = refl;
   collectors = refl;
   guards = refl;
+  bags = refl;
   others = λ j raw. raw;
   made = refl;
   in_place = refl;

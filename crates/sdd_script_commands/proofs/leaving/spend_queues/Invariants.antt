@@ -9,6 +9,7 @@ invariant-loop-queue l = record {
   spent : IsSpentTo l.queue (length l.initial.stage.queues) l.stage.queues;
   newest : IsSpentTo l.queue (length l.initial.stage.newest) l.stage.newest;
   guards : l.stage.guards ≡ l.initial.stage.guards;
+  bags : l.stage.bags ≡ l.initial.stage.bags;
   owners : l.stage.owners ≡ l.initial.stage.owners;
   cells : l.stage.cells ≡ l.initial.stage.cells;
   collectors : l.stage.collectors ≡ l.initial.stage.collectors;

@@ -8,6 +8,7 @@ abbrev pub invariant-loop-stack : goal.invariant-loop-stack
 invariant-loop-stack l = record {
   spent : IsSpentTo l.stack (length l.initial.stage.stacks) l.stage.stacks;
   guards : l.stage.guards ≡ l.initial.stage.guards;
+  bags : l.stage.bags ≡ l.initial.stage.bags;
   owners : l.stage.owners ≡ l.initial.stage.owners;
   cells : l.stage.cells ≡ l.initial.stage.cells;
   collectors : l.stage.collectors ≡ l.initial.stage.collectors;

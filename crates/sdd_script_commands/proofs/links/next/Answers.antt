@@ -43,7 +43,9 @@ list_step_at-next-requires-clause-asked c =
     let found = c.in-Some.ensures.found in
     let slot = c.in-Some-slot_since.ensures.1 ∙ ap (λ slots. slice_index_or slots c.args.item.0 0) c.as_slice-slots.ensures.value in
     let shown = rw slot at c.value_shown-entry.ensures.shown in
-    let its = behind h c.stage.invariant c.is_whole.ensures c.args.name _ found.0 c.args.item c.value_shown-entry.result.now shown in
+    let can = points h c.args.name.0 _ found.0 c.args.item.0
+    (rw (c.as_slice-slots.ensures.value, c.as_slice-names.ensures.value, c.as_slice-dates.ensures.value) at c.in-Some-slot_since.ensures.0) in
+    let its = behind h c.stage.invariant c.is_whole.ensures c.args.name _ found.0 c.args.item c.value_shown-entry.result.now shown can in
     rw c.value_shown-entry.ensures.world (
       c.value_shown-entry.ensures.home,
       reader-is h c.stage.invariant c.args.guard.0 _ _ found.1 found.2,
@@ -57,10 +59,12 @@ item_seen-item-requires c =
     let value = c.value_shown-entry.result.now in
     let slot = c.in-Some-slot_since.ensures.1 ∙ ap (λ slots. slice_index_or slots c.args.item.0 0) c.as_slice-slots.ensures.value in
     let shown = rw slot at c.value_shown-entry.ensures.shown in
-    let its = behind h c.stage.invariant c.is_whole.ensures c.args.name _ found.0 c.args.item value shown in
+    let can = points h c.args.name.0 _ found.0 c.args.item.0
+    (rw (c.as_slice-slots.ensures.value, c.as_slice-names.ensures.value, c.as_slice-dates.ensures.value) at c.in-Some-slot_since.ensures.0) in
+    let its = behind h c.stage.invariant c.is_whole.ensures c.args.name _ found.0 c.args.item value shown can in
     let did = rw c.value_shown-entry.ensures.world at c.list_step_at-next.ensures.done in
     record {
-      named = rw c.as_slice-2.ensures.value (next-named h c.stage.invariant c.is_whole.ensures c.args.name _ found.0 c.args.item value shown
+      named = rw c.as_slice-2.ensures.value (next-named h c.stage.invariant c.is_whole.ensures c.args.name _ found.0 c.args.item value shown can
           c.list_step_at-next.result (did its.0 its.1 its.2.list).0);
     }
 
@@ -70,14 +74,15 @@ told : (c : goal.After-drop-waited) → Does (desk_of c.stage.inside.hand) (At c
 told c =
     let h = c.stage.inside.hand in
     let found = c.in-Some.ensures.found in
-    let can = rw (c.as_slice-slots.ensures.value, c.as_slice-names.ensures.value, c.as_slice-dates.ensures.value) at c.in-Some-slot_since.ensures.0 in
+    let can = points h c.args.name.0 _ found.0 c.args.item.0
+    (rw (c.as_slice-slots.ensures.value, c.as_slice-names.ensures.value, c.as_slice-dates.ensures.value) at c.in-Some-slot_since.ensures.0) in
     let slot = c.in-Some-slot_since.ensures.1 ∙ ap (λ slots. slice_index_or slots c.args.item.0 0) c.as_slice-slots.ensures.value in
     let shown = rw slot at c.value_shown-entry.ensures.shown in
     let did = rw c.value_shown-entry.ensures.world at c.list_step_at-next.ensures.done in
     let told_so : AreTold h c.in_ok-waited.waited.items = λ s lt. c.in_ok-waited.ensures.each s (omega (arith, lt, ap length c.as_slice-names.ensures.value)) in
-    acts-next h c.stage.invariant c.is_whole.ensures c.args.name _ found.0 c.args.item c.value_shown-entry.result.now shown c.args.guard
+    acts-next h c.stage.invariant c.is_whole.ensures c.args.name _ found.0 c.args.item c.value_shown-entry.result.now shown can c.args.guard
     c.in_ok-waited.waited.items c.list_step_at-next.new.world c.date_new.new.dates c.list_step_at-next.result c.item_seen-item.result
-    c.in-Some.ensures.valid (points h c.args.name.0 _ found.0 c.args.item.0 can) told_so did (rw c.as_slice-2.ensures.value at c.item_seen-item.ensures)
+    c.in-Some.ensures.valid told_so did (rw c.as_slice-2.ensures.value at c.item_seen-item.ensures)
     (rw c.as_slice.ensures.value at c.date_new.ensures.dated, c.date_new.ensures.long)
 
 pub invariant_of-stage : goal.invariant_of-stage
