@@ -102,7 +102,8 @@ waiting-link : (d : ScriptState) → IsSound d → (k : ℕ) (v : Val) → value
     held_in (entry_at d.world.cells (link_of v)) ≡ None
 waiting-link d s k v there waits = elim (s.lists.linked k v there not-stored) [
   | inl none ↦ none
-  | inr at ↦
+  | inr (inr loose) ↦ ?
+  | inr (inl at) ↦
       (let inner = listed-inside d.world (λ u. named d u + contained d u) s.ledger (IsListCell d) k at in
       let stands = (tells d s).stands k (omega (arith, inner)) in
       let out : is_out (standing_at d.world k) ≡ true = elim stands [ inl owned ↦ ap is_out owned.0 | inr shared ↦ ap is_out shared.1 ] in

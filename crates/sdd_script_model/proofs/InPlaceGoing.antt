@@ -36,7 +36,7 @@ use Rattle.sdd_script_model.proofs.Dates.{dated-same, dated-stands, dated-kept, 
 use Rattle.sdd_script_model.specs.Listed.{IsListed}
 use Rattle.sdd_script_model.proofs.Links.{same-once}
 use Rattle.sdd_script_model.proofs.Counting.{accounts, owner-given, owner-spent, some-holding}
-use Rattle.sdd_script_model.proofs.Chains.{LeavesSound, alone-unlisted, at_home-given, at_home-spent, edited, finishes, moves, owned-apart, starts}
+use Rattle.sdd_script_model.proofs.Chains.{LeavesSound, at_home-given, at_home-spent, edited, finishes, moves, owned-apart, starts}
 use Rattle.sdd_script_model.specs.Bags.{IsStored}
 use Rattle.sdd_script_model.proofs.Storing.{spare-bare}
 use Rattle.sdd_script_model.proofs.Gone.{times_in, body-waits, value-times}
@@ -79,7 +79,7 @@ module _ (d : ScriptState) (s : IsSound d) (whole : IsWhole d.world) (p k : ℕ)
   -- the link of an item that is in no list holds nothing
   unlisted-bare : (j : ℕ) (v : Val) → value_at d.world j ≡ Some v → (IsStored d.bags d.world j → ⊥) → (IsListed (IsListCell d) d.world j → ⊥) →
       held_in (entry_at d.world.cells (link_of v)) ≡ None
-  unlisted-bare j v there off not = elim (s.lists.linked j v there off) [ inl none ↦ none | inr at ↦ absurd (not at) ]
+  unlisted-bare j v there off not = elim (s.lists.linked j v there off) [ inl none ↦ none | inr (inl at) ↦ absurd (not at) | inr (inr loose) ↦ ? ]
 
   -- ---- an item goes raw
   module _ (o : ℕ) (owner : sole_slot (holding_at d.owners o) ≡ Some k) (stands : standing_at d.world k ≡ Some Owned) where
@@ -155,7 +155,7 @@ module _ (d : ScriptState) (s : IsSound d) (whole : IsWhole d.world) (p k : ℕ)
     gave j now idle =
         let start = starts d s whole in
         let mine = owner-outside d o k (ap slot_of named ∙ slot) in
-        let bare = unlisted-bare k v there (owned-apart start k mine) (alone-unlisted start k may.alone mine) in
+        let bare = unlisted-bare k v there (owned-apart start k mine) ? in
         let waits = ap (λ (x : Option Val). is_waiting (standing_at (dropped_out holdings_of d.world p k x) j)) (sym there) ∙ now in
         subst (λ ks. 1 ≤ times_in j ks) (held-slots (body_of v))
         (body-waits (vacated d.world k) p (link_of v) j (link_home v) (body_of v) bare (spare-bare d.world s.spare k v there) (vacated-idle j idle) waits)
