@@ -1,3 +1,4 @@
 pub mod SlotsKept
 pub mod CellsKept
 pub mod Contents
+pub mod HeldSlots
