@@ -1,4 +1,3 @@
 pub mod SlotsKept
 pub mod CellsKept
 pub mod Contents
-pub mod HeldSlots
