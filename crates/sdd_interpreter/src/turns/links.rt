@@ -1,5 +1,5 @@
 //! Links of entries, in a turn at a world.
-ghost use Rattle.std.specs.Prelude.{◌≡◌, ◌↔◌, IsTrue};
+ghost use Rattle.std.specs.Prelude.{◌≡◌, ◌≢◌, ◌↔◌, IsTrue};
 ghost use Rattle.sdd_space.specs.CallerId.{reader_at};
 ghost use Rattle.sdd_space.specs.Guard.{reader_of};
 ghost use Rattle.sdd_space.specs.UnderGuards.{CannotGo};
@@ -19,7 +19,7 @@ use sdd_world::inner::is_in_cell;
 use sdd_world::{Place, World};
 
 /// The item in a slot may be put behind another: it is a number, neither marked nor deleted, with nothing behind it, and no cell holds it.
-pub fn is_loose(world: &mut World<Val>, place: &Place, guard: &Guard, slot: u32) -> bool
+fn is_loose(world: &mut World<Val>, place: &Place, guard: &Guard, slot: u32) -> bool
     requires place { IsPlaceOf world.old (index_of place.now) }
     requires reader { reader_of guard.now ≡ reader_at world.old (index_of place.now) }
     requires stays { CannotGo world.old (index_of place.now) slot }
@@ -32,4 +32,21 @@ pub fn is_loose(world: &mut World<Val>, place: &Place, guard: &Guard, slot: u32)
     }
     let link = cell_step_at(world, place, ReadLink { entry, guard });
     link.held.is_none() && link.tag == Tag::None
+}
+
+/// The same, and the slot is another than this one.
+pub fn is_loose_beside(
+    world: &mut World<Val>,
+    place: &Place,
+    guard: &Guard,
+    slot: u32,
+    other: u32,
+) -> bool
+    requires place { IsPlaceOf world.old (index_of place.now) }
+    requires reader { reader_of guard.now ≡ reader_at world.old (index_of place.now) }
+    requires stays { CannotGo world.old (index_of place.now) slot }
+    ensures loose { IsTrue result ↔ (IsLooseEntry world.old slot × (slot ≢ other)) }
+    ensures world { world.new ≡ world.old }
+{
+    slot != other && is_loose(world, place, guard, slot)
 }
