@@ -10,7 +10,7 @@ ghost use Rattle.sdd_script_model.specs.Val.{Val, body_of};
 ghost use Rattle.sdd_script_model.specs.Shown.{told_of, item_in, names_in};
 ghost use Rattle.sdd_script_model.specs.Listed.{IsNumber};
 ghost use Rattle.sdd_interpreter.specs.Environment.{date_now, IsOfNamed, CanPointAt, CanCompareAt, dated_if_waiting};
-ghost use Rattle.sdd_script_model.specs.Held.{owners_in, slots_among, slots_waiting_for, waits_among, slot_held};
+ghost use Rattle.sdd_script_model.specs.Held.{slots_among, slots_waiting_for};
 ghost use Rattle.sdd_script_model.specs.declared.val.Body.TheVariants.{Number};
 ghost use Rattle.sdd_script_text.specs.declared.name.ItemName.{ItemName as Named};
 ghost use Rattle.sdd_participants.specs.Collecting.{is_private_to};
@@ -24,7 +24,7 @@ use sdd_script_model::{Body, Val};
 use sdd_script_text::{ItemName, Reply, Value};
 use sdd_space::{Owned, Shared};
 use sdd_world::World;
-use sdd_world::inner::{standing_of, value_in};
+use sdd_world::inner::standing_of;
 use std::alloc::{AllocError, Global};
 
 /// What the value of an item holds, as a reply.
@@ -141,18 +141,6 @@ pub fn number_of(value: &Val) -> Option<u64>
     }
 }
 
-/// The slot of the item whose owner a value holds, if it holds one.
-pub fn slot_given(value: &Val) -> Option<u32>
-    ensures { result ≡ slot_held (body_of value.now) }
-{
-    match value.as_ref() {
-        Body::Number(_) => None,
-        Body::Owned(owner) => Some(slot_of_sole(owner)),
-        Body::Shared(owner) => Some(slot_of_share(owner)),
-        Body::Storage(_) => None,
-    }
-}
-
 /// The slots of the items among what waits.
 pub fn slots_among(alloc: Global, waiting: &[LimboEntry]) -> Result<Vec<u32>, AllocError>
     ensures { IfOk result (λ found. found.items ≡ slots_among waiting.now) }
@@ -196,23 +184,19 @@ fn waits_for(world: &World<Val>, slot: u32, collector: u32) -> bool
     }
 }
 
-/// The items with names that these slots had last, in ascending order, and the slots whose owners their values hold.
+/// The items with names that these slots had last, in ascending order.
 pub fn items_in(
     alloc: Global,
-    world: &World<Val>,
     slots: &[u32],
     names: &[Option<u64>],
-) -> Result<(Vec<ItemName>, Vec<u32>), AllocError>
+) -> Result<Vec<ItemName>, AllocError>
     requires named { All (λ slot. slot < length names.now) slots.now }
-    requires taken { All (λ slot. IsSome (value_at world.now slot)) slots.now }
-    ensures items { IfOk result (λ found. IsPermutation (names_in names.now slots.now) found.0.items) }
-    ensures ascending { IfOk result (λ found. IsNonDecreasingBy (λ (i : Named). i.0) found.0.items) }
-    ensures owners { IfOk result (λ found. found.1.items ≡ owners_in world.now slots.now) }
+    ensures items { IfOk result (λ found. IsPermutation (names_in names.now slots.now) found.items) }
+    ensures ascending { IfOk result (λ found. IsNonDecreasingBy (λ (i : Named). i.0) found.items) }
 {
     let mut items = names_of(alloc, slots, names)?;
-    let owners = owners_in(alloc, world, slots)?;
     items.sort_unstable();
-    Ok((items, owners))
+    Ok(items)
 }
 
 /// The names of the items that these slots had last, of those that had one.
@@ -231,37 +215,6 @@ fn names_of(
         }
     }
     Ok(found)
-}
-
-/// The slots whose owners the values in these slots hold.
-fn owners_in(alloc: Global, world: &World<Val>, slots: &[u32]) -> Result<Vec<u32>, AllocError>
-    requires taken { All (λ slot. IsSome (value_at world.now slot)) slots.now }
-    ensures { IfOk result (λ found. found.items ≡ owners_in world.now slots.now) }
-{
-    let mut found = Vec::with_capacity(alloc, slots.len())?;
-    for slot in slots {
-        match value_in(world, *slot).as_ref() {
-            Body::Number(_) => {}
-            Body::Owned(owner) => found.push_reserved(slot_of_sole(owner)),
-            Body::Shared(owner) => found.push_reserved(slot_of_share(owner)),
-            Body::Storage(_) => {}
-        }
-    }
-    Ok(found)
-}
-
-/// The items of these slots that wait began to do so in this line.
-pub fn date_waiting(dates: &mut Vec<u64>, world: &World<Val>, slots: &[u32], line: u64)
-    requires inside { All (λ slot. slot < length dates.old.items) slots.now }
-    ensures dated { (s : ℕ) → slice_index dates.new.items s
-        ≡ (if waits_among world.now slots.now s then line else slice_index dates.old.items s) }
-    ensures long { length dates.new.items ≡ length dates.old.items }
-{
-    for slot in slots {
-        if is_waiting(world, *slot) {
-            dates[*slot as usize] = line;
-        }
-    }
 }
 
 /// The item in this slot, if it waits now, began to do so in this line.

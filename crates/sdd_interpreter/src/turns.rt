@@ -8,6 +8,7 @@ pub mod copies;
 pub mod exchanges;
 pub mod guards;
 pub mod items;
+pub mod links;
 pub mod owners;
 pub mod queues;
 pub mod stacks;

@@ -1,5 +1,5 @@
 -- What each action of a collector leaves in hand: it is sound, and it is what the call means
-use Rattle.std.proofs.Common.{◌≡◌, ℕ, ◌<◌, if◌then◌else◌, List, [], ◌∷◌, ◌++◌, Option, Some, None, IsSome, is_some, map, length, slice_index, slice_index_or, slice_set, refl, sym, ap, ◌∙◌, subst}
+use Rattle.std.proofs.Common.{◌≡◌, ℕ, ◌<◌, Bool, List, [], ◌∷◌, ◌++◌, Option, Some, None, IsSome, is_some, map, length, slice_index, slice_index_or, slice_set, refl, sym, ap, ◌∙◌, subst}
 use Rattle.std.specs.List.Sorted.{IsPermutation, IsNonDecreasingBy}
 use Rattle.std.specs.Option.{option_map}
 use Rattle.std.specs.Global.{Vec}
@@ -30,7 +30,7 @@ use Rattle.sdd_script_text.specs.declared.answer.Reply.TheVariants as reply
 use Rattle.sdd_script_model.specs.Val.{Val, holdings_of}
 use Rattle.sdd_script_model.specs.Collecting.{Collects}
 use Rattle.sdd_script_model.specs.ScriptState.{ScriptState, IsDated, collector_of, holding_at, in_world, opening_at, slot_of, without_collector}
-use Rattle.sdd_script_model.specs.Held.{owners_in, slots_waiting_for, waits_among}
+use Rattle.sdd_script_model.specs.Held.{slots_waiting_for}
 use Rattle.sdd_script_model.specs.Script.{Acts, Answers, HasOpen, IsCollector, IsOwnerName, IsParticipant, Meets}
 use Rattle.sdd_script_model.specs.Shown.{names_in}
 use Rattle.sdd_interpreter.specs.declared.holding.AnyOwner.{AnyOwner}
@@ -41,8 +41,9 @@ use Rattle.sdd_interpreter.specs.Environment.{attending, dated_if_waiting}
 use Rattle.sdd_interpreter.specs.declared.interpreter.Environment.{Environment}
 use Rattle.sdd_interpreter.specs.Interpreter.{IsTied, desk_of}
 use Rattle.sdd_script_model.proofs.Collected.{after_given, collecting-leaves, owner-inside, sound-given}
+use Rattle.sdd_script_commands.proofs.StackActs.{AreDatedNow, AreTold, dated-within}
 use Rattle.sdd_script_model.proofs.Chains.{LeavesSound}
-use Rattle.sdd_script_model.proofs.CollectorGoing.{dated-uncollected, goes-uncollected, runs-uncollected, uncollected-leaves}
+use Rattle.sdd_script_model.proofs.CollectorGoing.{goes-uncollected, runs-uncollected, uncollected-leaves}
 use Rattle.sdd_interpreter.proofs.Collectors.{number-is, collectors-spent}
 use Rattle.sdd_interpreter.proofs.Acts.{Does, Goes, goes, leads, in_range, is, is-there, named-owner, owner-spent, still}
 
@@ -165,9 +166,8 @@ module _ (h : Environment) (t : IsTied h) (whole : IsWhole h.world) (name : Plac
       (quiet : ¬ (AnyGuardOpen h.world)) (null : IsNullCell h.world (collector.collector_of x)) (w : World Val)
       (collectors : Vec (Option (PrivateCollector Val))) (dates : Vec ℕ)
       (world : w ≡ collector_closed holdings_of h.world p (collector.collector_of x))
-      (taken : collectors.items ≡ slice_set h.collectors.entries.items r.0 None) (long : length dates.items ≡ length h.dates.items)
-      (dated : (s : ℕ) → slice_index dates.items s ≡ (if waits_among w
-      (owners_in h.world (slots_waiting_for h.world (collector.collector_of x) (length h.names.items))) s then h.moment else slice_index h.dates.items s)) where
+      (taken : collectors.items ≡ slice_set h.collectors.entries.items r.0 None) (waited : List Bool) (told : AreTold h waited)
+      (now : AreDatedNow h w waited dates) where
     abbrev c : ℕ
     c = collector.collector_of x
 
@@ -186,14 +186,10 @@ module _ (h : Environment) (t : IsTied h) (whole : IsWhole h.world) (name : Plac
     bare : held_in (entry_at h.world.cells c) ≡ None
     bare = ap held_in null.1 ∙ null.2
 
-    is-dated : IsDated (desk_of h) closed
-    is-dated =
-        dated-uncollected (desk_of h) t.sound whole p c r.0 live number bare quiet dates.items long
-        (subst (λ (u : World Val). (s : ℕ) → slice_index dates.items s
-        ≡ (if waits_among u (owners_in h.world slots) s then h.moment else slice_index h.dates.items s)) world dated)
-
     left : LeavesSound (desk_of h) closed
-    left = uncollected-leaves (desk_of h) t.sound whole p c r.0 live number bare quiet dates.items is-dated
+    left =
+        uncollected-leaves (desk_of h) t.sound whole p c r.0 live number bare quiet dates.items
+        (dated-within h t waited told closed.world dates (subst (λ (u : World Val). AreDatedNow h u waited dates) world now))
 
     closes-to : Goes after_close closed
     closes-to =
@@ -211,7 +207,7 @@ module _ (h : Environment) (t : IsTied h) (whole : IsWhole h.world) (name : Plac
         subst (Answers d (At name (call.CloseCollector r)) (record { reply = reply.Done; reclaimed = sorted; ran = [] })) (sym closes-to.desk) (record {
           acts = record {
             meets = ((here, ap is_some number), rw (is h t whole name a there) (c, number, quiet, refl));
-            dated = is-dated;
+            dated = left.dated;
             line = refl;
             calls = left.calls;
           };

@@ -40,9 +40,11 @@ use Rattle.sdd_script_model.specs.Script.AreCalls.{none as no_call, one_more}
 use Rattle.sdd_script_model.specs.Shown.{names_in, job_in}
 use Rattle.sdd_interpreter.specs.Environment.{attending, guarding, opened_since}
 use Rattle.sdd_interpreter.specs.Interpreter.{desk_of, IsTied, GuardsIn}
-use Rattle.sdd_script_model.specs.Held.{owners_in, slots_among, places_among, waits_among}
+use Rattle.sdd_script_model.specs.Held.{slots_among, places_among}
 use Rattle.sdd_script_model.proofs.Entry.{as-each, at-other, at-pushed, at-end, at-default}
 use Rattle.sdd_script_model.proofs.Dates.{dated-same}
+use Rattle.sdd_script_model.proofs.StackGoing.{IsDatedWithin}
+use Rattle.sdd_script_commands.proofs.StackActs.{AreDatedNow, AreTold, dated-within}
 use Rattle.sdd_script_model.proofs.Going.{sound-opened, dated-opened, home-opened, names-go, names-run, not-under, not-run-under, deferred-leaves, stirred-leaves, accelerated-leaves, sound-registered, sound-ended, sound-closed}
 use Rattle.sdd_interpreter.proofs.Acts as stage
 use Rattle.sdd_interpreter.proofs.Acts.{Goes, Does, does, goes, leads, still, place}
@@ -226,14 +228,17 @@ module _ (h : Environment) (t : IsTied h) (whole : IsWhole h.world) where
         (entries : map attending places.items ≡ noted (is_open (time.place_at h.world.time p)))
         (pushed : guards.items ≡ h.guards.entries.items ++ Some held ∷ []) (own : held.place ≡ p)
         (reader : reader_of held.guard ≡ reader_at h.world p) (since : held.since ≡ h.moment) (participant : held.participant ≡ n)
-        (world : w ≡ opened holdings_of h.world p) (line : BeginsLine d) (long : length dates.items ≡ length h.dates.items)
-        (dated : (s : ℕ) → slice_index dates.items s
-        ≡ (if waits_among (opened holdings_of h.world p) (owners_in h.world slots) s then h.moment else slice_index h.dates.items s)) where
+        (world : w ≡ opened holdings_of h.world p) (line : BeginsLine d) (waited : List Bool) (told : AreTold h waited)
+        (now_dated : AreDatedNow h w waited dates) where
       abbrev pub after_opening : Environment
       after_opening = record h { world = w; places = record { entries = places }; guards = record { entries = guards }; dates = dates }
 
       abbrev opened_desk : ScriptState
       opened_desk = record (in_world (with_guard d n p) (opened holdings_of h.world p)) { dates = dates.items }
+
+      within : IsDatedWithin d opened_desk
+      within =
+          dated-within h t waited told (opened holdings_of h.world p) dates (subst (λ (u : World Val). AreDatedNow h u waited dates) world now_dated)
 
       opens-to : Goes after_opening opened_desk
       opens-to =
@@ -243,7 +248,7 @@ module _ (h : Environment) (t : IsTied h) (whole : IsWhole h.world) where
           let b = is_open (time.place_at h.world.time p) in
           let home = home-opened d t.sound whole p in
           goes (cc (world, entries, more_guards))
-          (sound-opened d t.sound whole n (record { place = p; since = a.since }) (sym there) slots are dates.items long dated line)
+          (sound-opened d t.sound whole n (record { place = p; since = a.since }) (sym there) dates.items within line)
           (λ k. rw (pushed, home) (given (GuardsIn h.world.home.readers (noted b)) h.guards.entries.items held
           (record {
             own = place-kept b held.participant ∙ ap (λ m. option_map place (opening_at d.places m)) participant
@@ -278,7 +283,7 @@ module _ (h : Environment) (t : IsTied h) (whole : IsWhole h.world) where
                   refl,
                 ),
               );
-              dated = dated-opened d t.sound whole n (record { place = p; since = a.since }) (sym there) slots are dates.items long dated;
+              dated = dated-opened d t.sound whole n (record { place = p; since = a.since }) (sym there) dates.items within;
               line = refl;
               calls = one_more h.world h.world _ (no_call h.world) (opens h.world p in_range);
             };

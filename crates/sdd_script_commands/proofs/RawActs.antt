@@ -1,5 +1,5 @@
 -- What each action on an item in its place, or on a raw one, leaves in hand: it is sound, and it is what the call means
-use Rattle.std.proofs.Common.{◌≡◌, ◌≢◌, ℕ, true, false, List, [], ◌∷◌, ◌++◌, Option, Some, None, IsSome, is_some, map, length, slice_index, slice_index_or, slice_set, refl, sym, ap, ◌∙◌, subst, arith}
+use Rattle.std.proofs.Common.{◌≡◌, ◌≢◌, ℕ, Bool, true, false, List, [], ◌∷◌, ◌++◌, Option, Some, None, IsSome, is_some, map, length, slice_index, slice_index_or, slice_set, refl, sym, ap, ◌∙◌, subst, arith}
 use Rattle.std.specs.Option.{option_map}
 use Rattle.std.specs.Global.{Vec}
 use Rattle.std.proofs.Math.ListN.{get_or-map}
@@ -15,6 +15,7 @@ use Rattle.sdd_space.specs.WorldChanges.{with_standing}
 use Rattle.sdd_space.specs.WorldInvariant.{IsWhole}
 use Rattle.sdd_space.specs.World.{World, standing_at, value_at}
 use Rattle.sdd_space.specs.Owned as owned
+use Rattle.sdd_space.specs.Shared as shared
 use Rattle.sdd_world.specs.Place.{index_of}
 use Rattle.sdd_script_text.specs.declared.name.PlaceName.{PlaceName}
 use Rattle.sdd_script_text.specs.declared.name.GuardName.{GuardName}
@@ -28,7 +29,6 @@ use Rattle.sdd_script_model.specs.declared.val.Body.{Body}
 use Rattle.sdd_script_model.specs.Val.{Val, body_of}
 use Rattle.sdd_script_model.specs.declared.val.Body.TheVariants as body
 use Rattle.sdd_script_model.specs.ScriptState.{ScriptState, IsThere, opening_at, holding_at, slot_at, slot_of, sole_slot}
-use Rattle.sdd_script_model.specs.Held.{slot_held}
 use Rattle.sdd_script_model.specs.InPlace.{OwnsNumber, Puts, Drops, RefusesDrop, IsRaw}
 use Rattle.sdd_script_model.specs.Script.{Acts, Meets, HasOpen, IsOwnerName}
 use Rattle.sdd_script_model.specs.Shown.{told_of}
@@ -36,22 +36,14 @@ use Rattle.sdd_interpreter.specs.declared.holding.AnyOwner.{AnyOwner}
 use Rattle.sdd_interpreter.specs.declared.holding.AnyOwner.TheVariants.{Sole, Share}
 use Rattle.sdd_interpreter.specs.declared.participants.NamedParticipant.{NamedParticipant}
 use Rattle.sdd_interpreter.specs.declared.interpreter.Environment.{Environment}
-use Rattle.sdd_interpreter.specs.Environment.{attending, dated_if_waiting, CanPointAt}
+use Rattle.sdd_interpreter.specs.Environment.{attending, CanPointAt}
 use Rattle.sdd_interpreter.specs.Owners.{owner_holding}
 use Rattle.sdd_interpreter.specs.Interpreter.{desk_of, IsTied}
-use Rattle.sdd_script_model.proofs.CellGoing.{dates_spilled}
-use Rattle.sdd_script_model.proofs.InPlaceGoing.{raw-leaves, back-leaves, put-leaves, after_drop, drop-leaves, value-held-out}
+use Rattle.sdd_script_model.proofs.InPlaceGoing.{raw-leaves, back-leaves, put-leaves, after_drop, drop-leaves}
 use Rattle.sdd_script_model.specs.Shown.{item_in}
-use Rattle.sdd_script_model.proofs.Stocked.{slot-inside}
-use Rattle.sdd_script_model.proofs.Counting.{out-there}
-use Rattle.std.specs.Prelude.{IfSome, ◌<◌}
+use Rattle.sdd_script_commands.proofs.StackActs.{AreDatedNow, AreTold, dated-within}
 use Rattle.sdd_interpreter.proofs.Acts.{Does, leads, still, is, is-there, in_range, named-owner, owner-spent, owner-more}
 use Rattle.sdd_interpreter.proofs.Missing.{invalid}
-
--- what is told of a slot's dates is the same
-dated-spilled : (d : ScriptState) (w : World Val) (held : Option ℕ) → dated_if_waiting w held d.moment d.dates ≡ dates_spilled d w held
-dated-spilled d w None = refl
-dated-spilled d w (Some k) = refl
 
 some-slot : (x : AnyOwner) (k : ℕ) (o : Option OwnerOrCell) → o ≡ Some (owner_holding x) → slot_of (Some (owner_holding x)) ≡ Some k → slot_of o ≡ Some k
 some-slot x k o e slot = ap slot_of e ∙ slot
@@ -83,13 +75,10 @@ same-desk h w owners world same =
     ap (λ (u : World Val). record (desk_of h) { world = u; owners = map (option_map owner_holding) owners.items }) world
     ∙ ap (λ (os : List (Option OwnerOrCell)). record (desk_of h) { owners = os }) same
 
--- the item whose owner a value holds has a date
-pub held-dated : (h : Environment) → IsTied h → (k : ℕ) (v : Val) → value_at h.world k ≡ Some v → (held : Option ℕ) → slot_held (body_of v) ≡ held →
-    IfSome held (λ m. m < length h.dates.items)
-held-dated h t k v shown None same = tt
-held-dated h t k v shown (Some m) same =
-    let out = value-held-out (desk_of h) t.sound k v shown m same in
-    (slot-inside (desk_of h) t.sound.stocked m (out-there h.world m out)).1
+-- the slot of an owner's item
+its-slot : (x : AnyOwner) → (k : ℕ) × (slot_of (Some (owner_holding x)) ≡ Some k)
+its-slot (Sole x) = (owned.slot_of x, refl)
+its-slot (Share x) = (shared.slot_of x, refl)
 
 -- one name stands for one owner, of one item
 pub one-held : (x y : AnyOwner) (o : Option AnyOwner) → Some x ≡ o → Some y ≡ o → x ≡ y
@@ -199,19 +188,17 @@ module _ (h : Environment) (t : IsTied h) (whole : IsWhole h.world) (name : Plac
         none own.2 (ap body_of value ∙ own.5))
 
     -- an owner goes, alone or with its item
-    pub acts-dropped : (k : ℕ) (v : Val) (given : Reply) (w : World Val) (owners : Vec (Option AnyOwner)) (dates : Vec ℕ) →
-        slot_of (Some (owner_holding x)) ≡ Some k → value_at h.world k ≡ Some v → Drops h.world p (owner_holding x) given w →
-        owners.items ≡ slice_set h.owners.entries.items o.0 None →
-        dates.items ≡ dated_if_waiting w (slot_held (body_of v)) h.moment h.dates.items →
+    pub acts-dropped : (given : Reply) (waited : List Bool) (w : World Val) (owners : Vec (Option AnyOwner)) (dates : Vec ℕ) → AreTold h waited →
+        Drops h.world p (owner_holding x) given w → owners.items ≡ slice_set h.owners.entries.items o.0 None → AreDatedNow h w waited dates →
         Does d (At name (call.Drop o)) given (record h { world = w; owners = record { entries = owners }; dates = dates })
-    acts-dropped k v given w owners dates slot shown did taken become =
+    acts-dropped given waited w owners dates told did taken now =
+        let (k, slot) = its-slot x in
         let live = in_range h t whole name a there in
-        let left = drop-leaves d t.sound whole p live o.0 k v shown (owner_holding x) given w entry slot did in
+        let left = drop-leaves d t.sound whole p live o.0 k dates.items (owner_holding x) given w entry slot did (dated-within h t waited told w dates now) in
         let gone = owner-spent h t whole owners o.0 taken in
-        let now : dates.items ≡ dates_spilled d w (slot_held (body_of v)) = become ∙ dated-spilled d w (slot_held (body_of v)) in
-        leads h t (At name (call.Drop o)) given refl (cc (gone, now)) left (by (owner_holding x) given did refl) where
+        leads h t (At name (call.Drop o)) given refl (cc gone) left (by (owner_holding x) given did refl) where
           said : Reply → Type 0
-          said r = Meets d (At name (call.Drop o)) r (after_drop d t.sound whole p (in_range h t whole name a there) o.0 k v shown w)
+          said r = Meets d (At name (call.Drop o)) r (after_drop d t.sound whole p (in_range h t whole name a there) o.0 (its-slot x).0 dates.items w)
 
           tells : (z : OwnerOrCell) → owner_holding x ≡ z → holding_at d.owners o.0 ≡ Some z
           tells z e = entry ∙ ap Some e

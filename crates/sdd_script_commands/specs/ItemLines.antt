@@ -65,6 +65,7 @@ IsLinkAct (call.Mark item) = Unit {0}
 IsLinkAct (call.Unmark item) = Unit {0}
 IsLinkAct (call.Delete item) = Unit {0}
 IsLinkAct (call.LinkTag item) = Unit {0}
+IsLinkAct (call.Append item owner mark guard) = Unit {0}
 IsLinkAct (call.Next item guard) = Unit {0}
 IsLinkAct other = ⊥
 

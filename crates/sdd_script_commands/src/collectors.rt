@@ -1,17 +1,16 @@
 //! What participants do with collectors.
 #![tactic(auto, using(sdd_interpreter::proofs::Taken::in_hand))]
 
-ghost use Rattle.std.specs.Prelude.{◌≡◌, ◌<◌, ◌≤◌, ◌^◌, All, IsSome, IfOk, MatchResult, length, map};
+ghost use Rattle.std.specs.Prelude.{◌≡◌, ◌<◌, ◌≤◌, ◌^◌, All, IfOk, MatchResult, length};
 ghost use Rattle.std.specs.List.Sorted.{IsPermutation, IsNonDecreasingBy};
-ghost use Rattle.sdd_space.specs.World.{value_at};
 ghost use Rattle.sdd_script_text.specs.declared.name.ItemName.{ItemName as Named};
-ghost use Rattle.sdd_script_model.specs.Held.{owners_in, slots_waiting_for};
+ghost use Rattle.sdd_script_model.specs.Held.{slots_waiting_for};
 ghost use Rattle.sdd_script_model.specs.Shown.{names_in};
 ghost use Rattle.sdd_script_model.specs.Script.{Acts, Answers};
 
 use sdd_core::Refused;
 use sdd_interpreter::Interpreter;
-use sdd_interpreter::items::{date_if_waiting, date_waiting, items_in, slots_for};
+use sdd_interpreter::items::{date_if_waiting, date_new, items_in, slots_for, waiting_by_slot};
 use sdd_interpreter::participants::under;
 use sdd_interpreter::turns::collectors::{close_at, collector_at, give_to};
 use sdd_script_model::Val;
@@ -91,7 +90,8 @@ pub fn close_collector(
     stage.hand.world.is_whole();
     let names = stage.hand.names.as_slice();
     let collected = number_of_collector(held);
-    let (gone, given) = found_for(stage.hand.alloc, &stage.hand.world, names, collected)?;
+    let gone = found_for(stage.hand.alloc, &stage.hand.world, names, collected)?;
+    let waited = waiting_by_slot(stage.hand.alloc, &stage.hand.world, names.len())?;
     let Some(held) = stage.hand.collectors.take(collector.0) else {
         unreachable!()
     };
@@ -100,10 +100,10 @@ pub fn close_collector(
         return Ok(stage.answer(Reply::Refused(refused)));
     }
     let line = stage.hand.moment;
-    date_waiting(
+    date_new(
         &mut stage.hand.dates,
         &stage.hand.world,
-        given.as_slice(),
+        waited.as_slice(),
         line,
     );
     Ok(Answer {
@@ -113,21 +113,19 @@ pub fn close_collector(
     })
 }
 
-/// The items with names that wait for a collector, in ascending order, and the slots whose owners they hold.
+/// The items with names that wait for a collector, in ascending order.
 fn found_for(
     alloc: Global,
     world: &World<Val>,
     names: &[Option<u64>],
     collector: u32,
-) -> Result<(Vec<ItemName>, Vec<u32>), AllocError>
+) -> Result<Vec<ItemName>, AllocError>
     requires small { length names.now ≤ 2 ^ 32 }
     requires named { All (λ slot. slot < length names.now) (slots_waiting_for world.now collector (length names.now)) }
-    requires taken { All (λ slot. IsSome (value_at world.now slot)) (slots_waiting_for world.now collector (length names.now)) }
     ensures items { IfOk result (λ found.
-        IsPermutation (names_in names.now (slots_waiting_for world.now collector (length names.now))) found.0.items) }
-    ensures ascending { IfOk result (λ found. IsNonDecreasingBy (λ (i : Named). i.0) found.0.items) }
-    ensures owners { IfOk result (λ found. found.1.items ≡ owners_in world.now (slots_waiting_for world.now collector (length names.now))) }
+        IsPermutation (names_in names.now (slots_waiting_for world.now collector (length names.now))) found.items) }
+    ensures ascending { IfOk result (λ found. IsNonDecreasingBy (λ (i : Named). i.0) found.items) }
 {
     let slots = slots_for(alloc, world, collector, names.len())?;
-    items_in(alloc, world, slots.as_slice(), names)
+    items_in(alloc, slots.as_slice(), names)
 }

@@ -1,28 +1,25 @@
 //! What participants do with guards.
 #![tactic(auto, using(sdd_interpreter::proofs::Taken::in_hand))]
 
-ghost use Rattle.std.specs.Prelude.{◌≡◌, ◌<◌, All, IsSome, IfOk, MatchResult, length, map};
+ghost use Rattle.std.specs.Prelude.{◌≡◌, ◌<◌, All, IfOk, MatchResult, length};
 ghost use Rattle.std.specs.List.Sorted.{IsPermutation, IsNonDecreasingBy};
-ghost use Rattle.sdd_space.specs.World.{value_at};
 ghost use Rattle.sdd_script_text.specs.declared.name.ItemName.{ItemName as Named};
-ghost use Rattle.sdd_script_model.specs.Held.{owners_in, slots_among};
+ghost use Rattle.sdd_script_model.specs.Held.{slots_among};
 ghost use Rattle.sdd_script_model.specs.Shown.{names_in};
 ghost use Rattle.sdd_script_model.specs.ScriptState.{BeginsLine};
 ghost use Rattle.sdd_script_model.specs.Script.{Acts, Answers};
 
 use sdd_interpreter::Interpreter;
-use sdd_interpreter::items::{date_waiting, items_in, slots_among};
+use sdd_interpreter::items::{date_new, items_in, slots_among, waiting_by_slot};
 use sdd_interpreter::jobs::jobs_among;
 use sdd_interpreter::participants::{NamedGuard, note_opening, under};
 use sdd_interpreter::turns::guards::{
     accelerate_at, close_at, defer_at, epoch_at, garbage_at, open_at, stir_at,
 };
 use sdd_participants::LimboEntry;
-use sdd_script_model::Val;
 use sdd_script_text::{
     Action, Answer, Call, GuardName, ItemName, JobName, Names, PlaceName, Reply,
 };
-use sdd_world::World;
 use sdd_world::inner::{is_open, reclaims_next};
 use std::alloc::{AllocError, Global};
 
@@ -41,7 +38,8 @@ pub fn open(stage: &mut Interpreter, name: PlaceName) -> Result<Answer, AllocErr
     let names = stage.hand.names.as_slice();
     let deferred = stage.hand.deferred.as_slice();
     let ran = jobs_among(stage.hand.alloc, waiting, deferred)?;
-    let (due, given) = items_among(stage.hand.alloc, &stage.hand.world, waiting, names)?;
+    let due = items_among(stage.hand.alloc, waiting, names)?;
+    let waited = waiting_by_slot(stage.hand.alloc, &stage.hand.world, names.len())?;
     let is_nested = is_open(&stage.hand.world, &attending.place);
     let (guard, epoch) = match open_at(&mut stage.hand.world, &attending.place) {
         Ok(opened) => opened,
@@ -49,10 +47,10 @@ pub fn open(stage: &mut Interpreter, name: PlaceName) -> Result<Answer, AllocErr
     };
     let place = attending.place.index();
     let since = stage.hand.moment;
-    date_waiting(
+    date_new(
         &mut stage.hand.dates,
         &stage.hand.world,
-        given.as_slice(),
+        waited.as_slice(),
         since,
     );
     note_opening(&mut stage.hand.places, name.0, since, is_nested);
@@ -160,19 +158,16 @@ pub fn close_guard(stage: &mut Interpreter, name: PlaceName, guard: GuardName) -
     Reply::Done
 }
 
-/// The items with names among what waits, in ascending order, and the slots whose owners they hold.
+/// The items with names among what waits, in ascending order.
 fn items_among(
     alloc: Global,
-    world: &World<Val>,
     waiting: &[LimboEntry],
     names: &[Option<u64>],
-) -> Result<(Vec<ItemName>, Vec<u32>), AllocError>
+) -> Result<Vec<ItemName>, AllocError>
     requires named { All (λ slot. slot < length names.now) (slots_among waiting.now) }
-    requires taken { All (λ slot. IsSome (value_at world.now slot)) (slots_among waiting.now) }
-    ensures items { IfOk result (λ found. IsPermutation (names_in names.now (slots_among waiting.now)) found.0.items) }
-    ensures ascending { IfOk result (λ found. IsNonDecreasingBy (λ (i : Named). i.0) found.0.items) }
-    ensures owners { IfOk result (λ found. found.1.items ≡ owners_in world.now (slots_among waiting.now)) }
+    ensures items { IfOk result (λ found. IsPermutation (names_in names.now (slots_among waiting.now)) found.items) }
+    ensures ascending { IfOk result (λ found. IsNonDecreasingBy (λ (i : Named). i.0) found.items) }
 {
     let slots = slots_among(alloc, waiting)?;
-    items_in(alloc, world, slots.as_slice(), names)
+    items_in(alloc, slots.as_slice(), names)
 }

@@ -50,7 +50,7 @@ pub fn act_on_raw(
 {
     Ok(Some(match action {
         Action::Put(owner, number) => raw::put(stage, name, owner, number),
-        Action::Drop(owner) => raw::drop_owner(stage, name, owner),
+        Action::Drop(owner) => raw::drop_owner(stage, name, owner)?,
         Action::Raw(owner) => raw::put_out_raw(stage, name, owner),
         Action::Unraw(item) => raw::take_back_raw(stage, name, item)?,
         Action::See(item, guard) => raw::see(stage, name, item, guard),
@@ -123,6 +123,9 @@ pub fn act_on_link(
         Action::Unmark(item) => links::change_link(stage, name, item, LinkChange::Unmark),
         Action::Delete(item) => links::change_link(stage, name, item, LinkChange::Delete),
         Action::LinkTag(item) => links::link_tag(stage, name, item),
+        Action::Append(item, owner, mark, guard) => {
+            links::append(stage, name, item, owner, mark, guard)
+        }
         Action::Next(item, guard) => links::next(stage, name, item, guard)?,
         _ => return Ok(None),
     }))

@@ -8,7 +8,7 @@ use sdd_core::Refused;
 use sdd_interpreter::Interpreter;
 use sdd_interpreter::commands::raw::{ComeBack, DropOwner, GoRaw, PutNumber, SeeRaw};
 use sdd_interpreter::holding::{AnyOwner, slot_of_sole};
-use sdd_interpreter::items::{date_if_waiting, is_number, item_at, slot_given, slot_since, told};
+use sdd_interpreter::items::{date_new, is_number, item_at, slot_since, told, waiting_by_slot};
 use sdd_interpreter::owners::{take_sole, value_of};
 use sdd_interpreter::participants::under;
 use sdd_interpreter::turns::{in_place_step_at, raw_step_at};
@@ -48,28 +48,39 @@ pub fn put(stage: &mut Interpreter, name: PlaceName, owner: OwnerName, number: u
 }
 
 /// `P drop O`: an owner is given up, and the item of one that is alone dropped in its place. `GuardOpen` is a reply, and then the owner keeps its name.
-pub fn drop_owner(stage: &mut Interpreter, name: PlaceName, owner: OwnerName) -> Reply
-    ensures acts { Acts stage.old (Call.At name (Action.Drop owner)) result stage.new }
+/// Refused where memory to tell what begins to wait is, and then nothing has changed.
+pub fn drop_owner(
+    stage: &mut Interpreter,
+    name: PlaceName,
+    owner: OwnerName,
+) -> Result<Reply, AllocError>
+    ensures acts { MatchResult result (λ reply. Acts stage.old (Call.At name (Action.Drop owner)) reply stage.new) (λ _. stage.new ≡ stage.old) }
 {
     let Some(attending) = stage.hand.places.get(name.0) else {
-        return Reply::Invalid;
+        return Ok(Reply::Invalid);
     };
-    let Some(held) = stage.hand.owners.take(owner.0) else {
-        return Reply::Invalid;
-    };
+    let names = stage.hand.names.len();
     stage.hand.world.is_whole();
-    let given = slot_given(value_of(&held, &stage.hand.world));
+    let waited = waiting_by_slot(stage.hand.alloc, &stage.hand.world, names)?;
+    let Some(held) = stage.hand.owners.take(owner.0) else {
+        return Ok(Reply::Invalid);
+    };
     let place = &attending.place;
     let reply = match in_place_step_at(&mut stage.hand.world, place, DropOwner { owner: held }) {
         Ok(reply) => reply,
         Err((held, refused)) => {
             stage.hand.owners.put_back(owner.0, held);
-            return Reply::Refused(refused);
+            return Ok(Reply::Refused(refused));
         }
     };
     let line = stage.hand.moment;
-    date_if_waiting(&mut stage.hand.dates, &stage.hand.world, given, line);
-    reply
+    date_new(
+        &mut stage.hand.dates,
+        &stage.hand.world,
+        waited.as_slice(),
+        line,
+    );
+    Ok(reply)
 }
 
 /// `P raw O`: the item of its one owner is out as raw, and the owner's name spent.

@@ -22,7 +22,6 @@ use Rattle.sdd_script_text.specs.declared.name.PlaceName.{PlaceName}
 use Rattle.sdd_script_text.specs.declared.call.Action.TheVariants as call
 use Rattle.sdd_script_text.specs.declared.call.Call.TheVariants.{At}
 use Rattle.sdd_script_text.specs.declared.answer.Reply.TheVariants as reply
-use Rattle.sdd_script_model.specs.Held.{owners_in, slots_among, waits_among}
 use Rattle.sdd_script_model.specs.Val.{Val, holdings_of, link_of}
 use Rattle.sdd_script_model.specs.ScriptState.{ScriptState, OpenSince, IsDated, date_at, holding_at, collector_of, in_world, opening_at, slot_at, without_collector}
 use Rattle.sdd_script_model.specs.Script.{NamesWhatGoes, NamesWhatRuns}
@@ -30,12 +29,11 @@ use Rattle.sdd_script_model.specs.Shown.{names_in}
 use Rattle.sdd_script_model.specs.Sound.{IsSound, named_among}
 use Rattle.sdd_script_model.proofs.Chains.{LeavesSound, at_home-spent, finishes, moves, starts}
 use Rattle.sdd_script_model.proofs.Counting.{accounts, collector-spent, some-holding, tells}
-use Rattle.sdd_script_model.proofs.Dates.{dated-among}
 use Rattle.sdd_space.proofs.Whole.{times_among}
-use Rattle.sdd_script_model.proofs.Going.{open-guard, waiting-bare}
-use Rattle.sdd_script_model.proofs.Gone.{Waiting, all-give, among-slots, counted-contains, given-out, slots-contain, times_in}
-use Rattle.sdd_script_model.proofs.Links.{freed-bare, same-once}
-use Rattle.sdd_script_model.proofs.WaitingFor.{names-waiting, owners-found, private-waits, slots_for, stands-for}
+use Rattle.sdd_script_model.proofs.Going.{open-guard}
+use Rattle.sdd_script_model.proofs.Links.{same-once}
+use Rattle.sdd_script_model.proofs.StackGoing.{IsDatedWithin, dated-all}
+use Rattle.sdd_script_model.proofs.WaitingFor.{names-waiting, slots_for}
 
 -- ---- a collector is closed
 
@@ -44,43 +42,6 @@ module _ (d : ScriptState) (s : IsSound d) (whole : IsWhole d.world) (p c n : �
     (quiet : AnyGuardOpen d.world → ⊥) (new_dates : List ℕ) where
   abbrev pub after_uncollected : ScriptState
   after_uncollected = record (in_world (without_collector d n) (collector_closed holdings_of d.world p c)) { dates = new_dates }
-
-  abbrev start : World Val
-  start = freed_collector d.world c
-
-  abbrev gone : List LimboEntry
-  gone = waiting_for d.world c
-
-  -- these items wait
-  waits-for : (k : ℕ) → 1 ≤ times_among k gone → Waiting d.world k
-  waits-for k some =
-      private-waits c (standing_at d.world k)
-      (stands-for d.world c k (slots-contain gone k (counted-contains k (slots_among gone) (omega (arith, some, among-slots k gone)))))
-
-  -- what begins to wait was given up by the values of these items
-  begins-given : (k : ℕ) → is_waiting (standing_at after_uncollected.world k) ≡ true → is_waiting (standing_at d.world k) ≡ false →
-      1 ≤ times_in k (owners_in d.world (slots_among gone))
-  begins-given k now idle =
-      all-give p d.world k gone start (λ j some. waits-for j some) (record {
-        bare = λ j v e waits.
-            (let its = waiting-bare d s j v e waits in
-            (freed-bare d.world.cells c (link_of v) its.0, λ st is. freed-bare d.world.cells c st.cell (its.1 st is)));
-        values = λ j v h. h;
-        idle = idle;
-      }) now
-
-  -- the slots of what waits for it are found
-  abbrev slots : List ℕ
-  slots = slots_for d s.stocked whole c
-
-  -- what begins to wait gets the date of this line
-  pub dated-uncollected : length new_dates ≡ length d.dates →
-      ((k : ℕ) → slice_index new_dates k ≡ (if waits_among after_uncollected.world (owners_in d.world slots) k then d.moment else date_at d k)) →
-      IsDated d after_uncollected
-  dated-uncollected long dates =
-      dated-among d after_uncollected (owners_in d.world slots) dates long
-      (λ k now idle. owners-found d s.stocked whole c k (begins-given k now idle))
-      (λ k some. out-waits-not (standing_at d.world k) (given-out d p live.0 s.stocked (waiting-bare d s) whole (accounts d s) slots k (omega (arith, some))))
 
   -- its cell holds nothing
   null-cell : IsNullCell d.world c
@@ -92,14 +53,15 @@ module _ (d : ScriptState) (s : IsSound d) (whole : IsWhole d.world) (p c n : �
         by None e some = absurd (cc)
         by (Some cell) e some = (cell, e, ap held_in (sym e) ∙ bare)
 
-  pub uncollected-leaves : IsDated d after_uncollected → LeavesSound d after_uncollected
-  uncollected-leaves dated =
+  pub uncollected-leaves : IsDatedWithin d after_uncollected → LeavesSound d after_uncollected
+  uncollected-leaves within =
       let left = slice_set d.collectors n None in
       let h = some-holding collector_of refl (holding_at d.collectors n) c named in
-      finishes d after_uncollected.world d.owners d.cells left new_dates s
-      (moves (starts d s whole) (closes_collector d.world p c live quiet null-cell) tt (named_among d.owners d.cells left)
-      (collector-spent d.owners d.cells d.collectors n c h.0 h.1 h.2) (λ u never. absurd never))
-      (λ u. omega arith) (s.home.owners, s.home.cells, at_home-spent d.world.home d.collectors n s.home.collectors) dated p live
+      let m = moves (starts d s whole) (closes_collector d.world p c live quiet null-cell) tt (named_among d.owners d.cells left)
+      (collector-spent d.owners d.cells d.collectors n c h.0 h.1 h.2) (λ u never. absurd never) in
+      finishes d after_uncollected.world d.owners d.cells left new_dates s m
+      (λ u. omega arith) (s.home.owners, s.home.cells, at_home-spent d.world.home d.collectors n s.home.collectors)
+      (dated-all d after_uncollected s.stocked m.frames.slots.slots within) p live
 
 -- ---- what the close of a collector answers
 

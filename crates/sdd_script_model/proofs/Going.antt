@@ -41,7 +41,7 @@ use Rattle.sdd_script_model.specs.Listed.{HasLists}
 use Rattle.sdd_script_model.specs.Made.{IsPutIn, owners_left, put_in}
 use Rattle.sdd_script_model.specs.Shown.{names_in, job_in}
 use Rattle.sdd_script_model.specs.Sound.{IsSound, ParticipantsMatch, contained, has_right, named, named_among, named_owners, owns}
-use Rattle.sdd_script_model.specs.Held.{owners_in, slots_among, places_among, standing_first, holding_first, waits_among}
+use Rattle.sdd_script_model.specs.Held.{slots_among, places_among, standing_first, holding_first}
 use Rattle.sdd_script_model.proofs.Entry.{at-other, at-same, not-free}
 use Rattle.sdd_script_model.proofs.Stocked.{stocked-as, stocked-made, slots-same, slots-opened}
 use Rattle.sdd_script_model.proofs.Links.{IsBareStorage, holds-so, less-shed, null, less-same}
@@ -62,6 +62,7 @@ use Rattle.sdd_space.proofs.Whole.{filled-there}
 use Rattle.sdd_script_model.proofs.Counting.{accounts, tells, owner-given, owner-spent, value-spent}
 use Rattle.sdd_script_model.proofs.Layers.{filled-long, layered-less, layered-made}
 use Rattle.sdd_script_model.proofs.Gone as gone
+use Rattle.sdd_script_model.proofs.StackGoing.{IsDatedWithin, dated-all}
 use Rattle.sdd_script_model.proofs.Deferred.{deferred-more, deferred-opened}
 use Rattle.sdd_script_model.proofs.Deferred as jobs
 use Rattle.sdd_script_model.proofs.JobDates.{job_dates-call, job_dates-deferred, job_dates-opened, job_dates-later, job_dates-start}
@@ -96,28 +97,6 @@ last-or-not false count x y some last = by (nat_lt 1 count) refl where
 none-there : {X : Type 0} (x : Option X) → is_some x ≡ false → x ≡ None
 none-there None none = refl
 none-there (Some x) none = absurd (cc)
-
--- the link of an item that waits holds nothing: what is in a list has an owner there
-waiting-link : (d : ScriptState) → IsSound d → (k : ℕ) (v : Val) → value_at d.world k ≡ Some v → is_waiting (standing_at d.world k) ≡ true →
-    held_in (entry_at d.world.cells (link_of v)) ≡ None
-waiting-link d s k v there waits = elim (s.lists.linked k v there not-stored) [
-  | inl none ↦ none
-  | inr (inr loose) ↦ ?
-  | inr (inl at) ↦
-      (let inner = listed-inside d.world (λ u. named d u + contained d u) s.ledger (IsListCell d) k at in
-      let stands = (tells d s).stands k (omega (arith, inner)) in
-      let out : is_out (standing_at d.world k) ≡ true = elim stands [ inl owned ↦ ap is_out owned.0 | inr shared ↦ ap is_out shared.1 ] in
-      absurd (let never : false ≡ true = sym (out-waits-not (standing_at d.world k) out) ∙ waits in cc))
-] where
-  not-stored : IsStored d.bags d.world k → ⊥
-  not-stored =
-      off-standing d d.world (named d) s.ledger (λ n b es is stands. stands) k
-      (λ sole. let never : false ≡ true = sym (ap is_waiting sole) ∙ waits in absurd (cc))
-
--- nor does the own cell of a storage
-pub waiting-bare : (d : ScriptState) → IsSound d → (k : ℕ) (v : Val) → value_at d.world k ≡ Some v → is_waiting (standing_at d.world k) ≡ true →
-    (held_in (entry_at d.world.cells (link_of v)) ≡ None) × IsBareStorage d.world (body_of v)
-waiting-bare d s k v there waits = (waiting-link d s k v there waits, spare-bare d.world s.spare k v there)
 
 module _ (d : ScriptState) (s : IsSound d) where
   -- an open guard's participant is open
@@ -425,18 +404,18 @@ module _ (d : ScriptState) (s : IsSound d) where
     pub home-opened : (p : ℕ) → (opened holdings_of d.world p).home ≡ d.world.home
     home-opened p = (slots-opened d.world p).home
 
-    module _ (n : ℕ) (x : OpenSince) (there : opening_at d.places n ≡ Some x) (slots : List ℕ) (are : slots ≡ slots_among (reclaims d.world x.place))
-        (new_dates : List ℕ) (long : length new_dates ≡ length d.dates)
-        (now : (k : ℕ) → slice_index new_dates k
-        ≡ (if waits_among (opened holdings_of d.world x.place) (owners_in d.world slots) k then d.moment else slice_index d.dates k)) where
-      abbrev after_opening : ScriptState
-      after_opening = record (in_world (with_guard d n x.place) (opened holdings_of d.world x.place)) { dates = new_dates }
+    abbrev pub after_opening : (n p : ℕ) → List ℕ → ScriptState
+    after_opening n p dates = record (in_world (with_guard d n p) (opened holdings_of d.world p)) { dates = dates }
 
-      pub dated-opened : IsDated d after_opening
-      dated-opened =
-          gone.dated-opened d x.place (s.attended.inside n x there).0 s.stocked (waiting-bare d s) whole (accounts d s) slots are after_opening refl long now
+    module _ (n : ℕ) (x : OpenSince) (there : opening_at d.places n ≡ Some x) (new_dates : List ℕ)
+        (within : IsDatedWithin d (after_opening n x.place new_dates)) where
+      abbrev after : ScriptState
+      after = after_opening n x.place new_dates
 
-      pub sound-opened : BeginsLine d → IsSound after_opening
+      pub dated-opened : IsDated d after
+      dated-opened = dated-all d after s.stocked (slots-opened d.world x.place).slots within
+
+      pub sound-opened : BeginsLine d → IsSound after
       sound-opened line =
           let live = s.attended.inside n x there in
           let shed = sheds-opened holdings_of x.place d.world in
@@ -444,18 +423,18 @@ module _ (d : ScriptState) (s : IsSound d) where
           let kept = (ledger-laws holdings_of d.world).kept whole nothing nothing _ (opens d.world x.place live) in
           let before : IsLedger holdings_of (λ u. named d u + contained d u + nothing u) d.world = λ u. omega (arith, s.ledger u) in
           let stay = stays-on d (opens d.world x.place live) whole (named d) before tt (λ m b es is stands. stands) in
-          let stored = stored-still d after_opening refl stay in
+          let stored = stored-still d after refl stay in
           record {
-            stocked = stocked-as d after_opening s.stocked refl refl long slots stored;
+            stocked = stocked-as d after s.stocked refl refl within.1 slots stored;
             ledger = λ u. omega (arith, kept.ledger (λ y. named d y + contained d y) (λ y. omega (arith, s.ledger y)) u);
             lists = has-stored stored
                 (has-still (opens d.world x.place live) whole (λ y. named d y + contained d y) (λ y. omega (arith, s.ledger y)) (λ u never. absurd never)
                 (IsListCell d) (IsSecondCell d) (IsStored d.bags d.world)
                 (are-own d d.world (λ y. named d y + contained d y) (λ y. named d y + contained d y) s.ledger (λ y. omega arith) (λ y. omega arith))
                 (λ c at never. never) (λ c b y never. never) s.lists (less-shed shed));
-            bags = bags-still d after_opening s.bags refl stay slots.home (λ j at. refl);
+            bags = bags-still d after s.bags refl stay slots.home (λ j at. refl);
             spare = spare-on d (opens d.world x.place live) whole (named d) before tt s.spare (less-shed shed);
-            layered = layered-less d after_opening s.layered (less-shed shed) refl;
+            layered = layered-less d after s.layered (less-shed shed) refl;
             home = record {
               owners = rw slots.home s.home.owners;
               cells = rw slots.home s.home.cells;
@@ -464,12 +443,12 @@ module _ (d : ScriptState) (s : IsSound d) where
               newest = rw slots.home s.home.newest;
               stacks = rw slots.home s.home.stacks;
             };
-            attended = attended-opened d s.attended n x there after_opening refl refl refl (omega arith);
-            kept = kept-opened d after_opening s.attended s.kept whole dated-opened line n x there refl refl;
-            early = early-dated d after_opening dated-opened (omega arith) s.early;
+            attended = attended-opened d s.attended n x there after refl refl refl (omega arith);
+            kept = kept-opened d after s.attended s.kept whole dated-opened line n x there refl refl;
+            early = early-dated d after dated-opened (omega arith) s.early;
             made = omega (arith, slots.made, s.made);
             deferred = deferred-opened d.world x.place whole live d.jobs d.deferred s.deferred;
-            jobs = job_dates-opened d after_opening s.jobs s.attended s.kept whole dated-opened line n x there refl refl refl refl;
+            jobs = job_dates-opened d after s.jobs s.attended s.kept whole dated-opened line n x there refl refl refl refl;
             few = s.few;
           }
 

@@ -1,4 +1,4 @@
--- What an opening does to a script's slots: which are freed, which begin to wait, and which names it answers
+-- What an opening does to a script's slots: which are freed, and which names it answers
 use Rattle.std.specs.List.{cons_option, filter_map}
 use Rattle.std.specs.Option.{option_map}
 use Rattle.std.specs.List.Sorted.{IsPermutation, IsNonDecreasingBy, IsStrictlyIncreasing}
@@ -34,7 +34,7 @@ use Rattle.sdd_script_model.specs.declared.val.Body.TheVariants.{Number, Owned, 
 use Rattle.sdd_script_model.specs.ScriptState.{ScriptState, IsThere, IsDated, slot_at, name_at, date_at}
 use Rattle.sdd_script_model.specs.Shown.{named_in, names_in}
 use Rattle.sdd_script_model.specs.Sound.{SlotsHaveNames, named_owners}
-use Rattle.sdd_script_model.specs.Held.{slots_of, slots_in, owners_in, slots_among, waits_among}
+use Rattle.sdd_script_model.specs.Held.{slots_among}
 use Rattle.sdd_script_model.proofs.Stocked.{item-there, slot-inside}
 use Rattle.sdd_script_model.proofs.Links.{IsBareStorage, body-given, closed-bare, freed-bare, waiting-there}
 
@@ -124,254 +124,11 @@ module _ (w : World Val) (p : ℕ) (whole : IsWhole w) where
       (is_waiting (standing_at w s) ≡ true) × IsSome (standing_at w s) × IsSome (value_at w s)
   reclaimed-waits s c = counted-waits s (reclaimed-counts w p s c)
 
--- the links of these items hold nothing, and the own cells of storages don't
-abbrev pub AreBare : World Val → (ℕ → Type 0) → Type 0
-AreBare w which =
-    (k : ℕ) (v : Val) → value_at w k ≡ Some v → which k → (held_in (entry_at w.cells (link_of v)) ≡ None) × IsBareStorage w (body_of v)
-
--- the item waits
-abbrev pub Waiting : World Val → ℕ → Type 0
-Waiting w k = is_waiting (standing_at w k) ≡ true
-
--- ---- what begins to wait was given up
-
 -- an owner that is given changes no other slot
 pub given-other : (w : World Val) (p k s : ℕ) (t : Option Standing) → standing_at w k ≡ t → s ≢ k → standing_at (owner_given w p k t) s ≡ standing_at w s
 given-other w p k s t is ne =
     owner-given (λ u. standing_at u s ≡ standing_at w s) w p k t is refl (λ out. at-other w.standings k s (Some Retired) None ne)
     (λ n several more. at-other w.standings k s (Some (standing_shared (n - 1))) None ne)
-
-itself : (k : ℕ) → one_where (is_of_slot k (Item k)) ≡ 1
-itself k = grind (arith, nat_tests)
-
--- what begins to wait when p is given what a value held is the item whose owner the body was
-pub body-waits : (w : World Val) (p c s : ℕ) (home : GhostName) (b : Body) → held_in (entry_at w.cells c) ≡ None → IsBareStorage w b →
-    is_waiting (standing_at w s) ≡ false →
-    is_waiting (standing_at (given_all w p (owner_in b ++ atomic_shared c home ∷ [])) s) ≡ true → 1 ≤ times_in s (slots_of (owner_in b))
-body-waits w p c s home b bare spare idle waits = by b spare waits where
-  closes : (u : World Val) → u.cells ≡ w.cells → standing_at (cell_closed u p c) s ≡ standing_at u s
-  closes u cells =
-      let nothing : held_in (entry_at u.cells c) ≡ None = rw cells bare in
-      ap (λ v. standing_at v s) (closed-bare u p c nothing)
-
-  given : (k : ℕ) → is_waiting (standing_at (cell_closed (owner_given w p k (standing_at w k)) p c) s) ≡ true → 1 ≤ times_in s (k ∷ [])
-  given k waits =
-      elim (cases_eq s k) [
-        | inl e ↦ counted-there (λ j. j == s) (k ∷ []) k (0, omega arith, refl) (eq-eqb k s (sym e))
-        | inr ne ↦
-            (let g = given-same w p k (standing_at w k) refl in
-            let same = closes (owner_given w p k (standing_at w k)) g.1 ∙ given-other w p k s (standing_at w k) refl ne in
-            let never : false ≡ true = sym idle ∙ ap is_waiting (sym same) ∙ waits in absurd (cc))
-      ]
-
-  by : (b : Body) → IsBareStorage w b → is_waiting (standing_at (given_all w p (owner_in b ++ atomic_shared c home ∷ [])) s) ≡ true →
-      1 ≤ times_in s (slots_of (owner_in b))
-  by (Number n) spare waits = let never : false ≡ true = sym idle ∙ ap is_waiting (sym (closes w refl)) ∙ waits in absurd (cc)
-  by (Owned o) spare waits = given (owned.slot_of o) waits
-  by (Shared o) spare waits = given (shared.slot_of o) waits
-  by (Storage st) spare waits =
-      let first = closed-bare w p st.cell (spare st refl) in
-      let second = closed-bare (record w { cells = without_entry w.cells st.cell }) p c (freed-bare w.cells st.cell c bare) in
-      let same : standing_at (cell_closed (cell_closed w p st.cell) p c) s ≡ standing_at w s =
-      ap (λ v. standing_at (cell_closed v p c) s) first ∙ ap (λ v. standing_at v s) second in
-      let never : false ≡ true = sym idle ∙ ap is_waiting (sym same) ∙ waits in absurd (cc)
-
-module _ (p : ℕ) (start : World Val) (s : ℕ) where
-  -- the item of slot s doesn't wait yet; the values that are still there are those of the start
-  pub record IsBefore (w : World Val) : Type 0 where
-    pub bare : AreBare w (Waiting start)
-    pub values : (k : ℕ) (v : Val) → value_at w k ≡ Some v → value_at start k ≡ Some v
-    pub idle : is_waiting (standing_at w s) ≡ false
-
-  freed-idle : (w : World Val) (k : ℕ) → is_waiting (standing_at w s) ≡ false → is_waiting (standing_at (freed w k) s) ≡ false
-  freed-idle w k idle =
-      elim (cases_eq s k) [
-        | inl e ↦ rw (e, at-default w.standings k None) refl
-        | inr ne ↦ rw (at-other w.standings k s None None ne) idle
-      ]
-
-  -- a value is taken out: who waits then was its owner's
-  out-gives : (w : World Val) (k : ℕ) (v : Option Val) → ((u : Val) → v ≡ Some u → value_at w k ≡ Some u) → Waiting start k → IsBefore w →
-      is_waiting (standing_at (taken_out holdings_of w p k v) s) ≡ true → 1 ≤ times_in s (slots_in (value_at start k))
-  out-gives w k None is was i waits = let never : false ≡ true = sym i.idle ∙ waits in absurd (cc)
-  out-gives w k (Some v) is was i waits =
-      let there = is v refl in
-      let bare = i.bare k v there was in
-      rw (i.values k v there) (body-waits (freed w k) p (link_of v) s (link_home v) (body_of v) bare.0 bare.1 (freed-idle w k i.idle) waits)
-
-  -- and each value that is there then was there before
-  out-values : (w : World Val) (k : ℕ) (v : Option Val) → ((u : Val) → v ≡ Some u → value_at w k ≡ Some u) → Waiting start k → AreBare w (Waiting start) →
-      (j : ℕ) (u : Val) → value_at (taken_out holdings_of w p k v) j ≡ Some u → value_at w j ≡ Some u
-  out-values w k None is was i j u h = h
-  out-values w k (Some v) is was i j u h =
-      let there = is v refl in
-      let bare = i k v there was in
-      let g = body-given (freed w k) p (link_of v) (link_home v) (body_of v) bare.0 bare.1 in
-      let left : slice_index_or (slice_set w.values k None) j None ≡ Some u = sym (ap (λ vs. slice_index_or vs j None) g.values) ∙ h in
-      elim (cases_eq j k) [
-        | inl e ↦ absurd (let none : None ≡ Some u = sym (at-default w.values k None) ∙ ap (λ n. slice_index_or (slice_set w.values k None) n None) (sym e)
-            ∙ left in cc)
-        | inr ne ↦ sym (at-other w.values k j None None ne) ∙ left
-      ]
-
-  -- links stay bare
-  out-bare : (w : World Val) (k : ℕ) (v : Option Val) → ((u : Val) → v ≡ Some u → value_at w k ≡ Some u) → Waiting start k →
-      AreBare w (Waiting start) → AreBare (taken_out holdings_of w p k v) (Waiting start)
-  out-bare w k None is was i s x e waits = i s x e waits
-  out-bare w k (Some v) is was i s x e waits =
-      let bare = i k v (is v refl) was in
-      let g = body-given (freed w k) p (link_of v) (link_home v) (body_of v) bare.0 bare.1 in
-      let its = i s x (out-values w k (Some v) is was i s x e) waits in
-      (g.bare (link_of x) its.0, (λ st is. g.bare st.cell (its.1 st is)))
-
-  -- all that begins to wait was its owner's whose value was among these
-  pub all-give : (xs : List LimboEntry) (w : World Val) → ((k : ℕ) → 1 ≤ times_among k xs → Waiting start k) → IsBefore w →
-      is_waiting (standing_at (all_reclaimed holdings_of w p xs) s) ≡ true →
-      1 ≤ times_in s (owners_in start (slots_among xs))
-  all-give (Job j ∷ xs) w were i waits =
-      all-give xs (reclaimed holdings_of w p (Job j)) (λ k some. were k (omega (arith, some, count-cons (is_of_slot k) (Job j) xs)))
-      (record { bare = i.bare; values = i.values; idle = i.idle }) waits
-  all-give [] w were i waits = let never : false ≡ true = sym i.idle ∙ waits in absurd (cc)
-  all-give (Item k ∷ xs) w were i waits =
-      by (is_waiting (standing_at u s)) refl (λ now. all-give xs u (λ j some. were j (omega (arith, some, count-cons (is_of_slot j) (Item k) xs))) now waits)
-    where
-      ks : List ℕ
-      ks = slots_among xs
-
-      u : World Val
-      u = reclaimed holdings_of w p (Item k)
-
-      here : List ℕ
-      here = slots_in (value_at start k)
-
-      both : times_in s (here ++ owners_in start ks) ≡ times_in s here + times_in s (owners_in start ks)
-      both = sum_by-append (λ j. one_where (j == s)) here (owners_in start ks)
-
-      is : (v : Val) → waiting_value w k (standing_at w k) ≡ Some v → value_at w k ≡ Some v
-      is = waiting-there w k (standing_at w k)
-
-      mine : Waiting start k
-      mine = were k (omega (arith, count-cons (is_of_slot k) (Item k) xs, itself k))
-
-      by : (b : Bool) → is_waiting (standing_at u s) ≡ b → (IsBefore u → 1 ≤ times_in s (owners_in start ks)) →
-          1 ≤ times_in s (here ++ owners_in start ks)
-      by true now rest = omega (arith, both, out-gives w k (waiting_value w k (standing_at w k)) is mine i now)
-      by false idle rest =
-          let more = rest (record {
-            bare = out-bare w k (waiting_value w k (standing_at w k)) is mine i.bare;
-            values = λ j v h. i.values j v (out-values w k (waiting_value w k (standing_at w k)) is mine i.bare j v h);
-            idle = idle;
-          }) in
-          omega (arith, both, more)
-
--- the owners that a body holds are those that its value holds
-body-times : (s c : ℕ) (home : GhostName) (b : Body) →
-    times_in s (slots_of (owner_in b)) ≤ count_by (is_owner_of s) (owner_in b ++ atomic_shared c home ∷ [])
-body-times s c home (Number n) = omega arith
-body-times s c home (Owned o) =
-    let one = count-cons (λ k. k == s) (owned.slot_of o) [] in
-    let all = count-cons (is_owner_of s) (owned.holding_of o) (atomic_shared c home ∷ []) in
-    omega (arith, one, all)
-body-times s c home (Shared o) =
-    let one = count-cons (λ k. k == s) (shared.slot_of o) [] in
-    let all = count-cons (is_owner_of s) (shared.holding_of o) (atomic_shared c home ∷ []) in
-    omega (arith, one, all)
-body-times s c home (Storage st) = omega arith
-
-pub value-times : (s : ℕ) (v : Option Val) → times_in s (slots_in v) ≤ times_held holdings_of s v
-value-times s None = omega arith
-value-times s (Some v) = body-times s (link_of v) (link_home v) (body_of v)
-
--- who is among the owners that these values hold is held by one of them
-held-by-one : (w : World Val) (s : ℕ) (slots : List ℕ) → 1 ≤ times_in s (owners_in w slots) → (j : ℕ) × (1 ≤ times_held holdings_of s (value_at w j))
-held-by-one w s [] some = absurd (omega (arith, some))
-held-by-one w s (j ∷ js) some =
-    elim (cases_lt 0 (times_held holdings_of s (value_at w j))) [
-      | inl here ↦ (j, here)
-      | inr none ↦
-          (let here : List ℕ = slots_in (value_at w j) in
-          let both : times_in s (here ++ owners_in w js) ≡ times_in s here + times_in s (owners_in w js) =
-          sum_by-append (λ k. one_where (k == s)) here (owners_in w js) in
-          held-by-one w s js (omega (arith, some, both, none, value-times s (value_at w j))))
-    ]
-
--- ---- an opening of p, whose desk is sound
-
-module _ (d : ScriptState) (p : ℕ) (l : p < length d.world.time.places) (stocked : SlotsHaveNames d) (bare : AreBare d.world (Waiting d.world))
-    (whole : IsWhole d.world)
-    (accounts : IsAccounted holdings_of (named_owners d) d.world) where
-  abbrev after : World Val
-  after = steps.opened holdings_of d.world p
-
-  -- whose owner a value holds is out
-  pub given-out : (slots : List ℕ) (s : ℕ) → 1 ≤ times_in s (owners_in d.world slots) → is_out (standing_at d.world s) ≡ true
-  given-out slots s some =
-      let held = held-by-one d.world s slots some in
-      in_value-out holdings_of d.world held.0 s (named_owners d) accounts held.1
-
-  -- and has a date
-  pub given-inside : (slots : List ℕ) → All (λ s. s < length d.dates) (owners_in d.world slots)
-  given-inside slots k e lt =
-      let s = slice_index_or (owners_in d.world slots) k e in
-      let some = counted-there (λ j. j == s) (owners_in d.world slots) s (Contains-get_or (owners_in d.world slots) k e lt) (eq-eqb s s refl) in
-      (slot-inside d stocked s (out-some (standing_at d.world s) (given-out slots s some))).1
-
-  -- slots are reclaimed
-  module _ (slots : List ℕ) (are : slots ≡ slots_among (reclaims d.world p)) where
-    begins-if : (s : ℕ) → is_waiting (standing_at d.world s) ≡ false → is_waiting (standing_at after s) ≡ true →
-        Nests holdings_of d.world p ⊎ IsChange holdings_of d.world p → 1 ≤ times_in s (owners_in d.world slots)
-    begins-if s idle waits (inl n) =
-        let never : false ≡ true = sym idle ∙ ap (λ (u : World Val). is_waiting (standing_at u s)) (sym n.nests) ∙ waits in absurd (cc)
-    begins-if s idle waits (inr c) =
-        let first = before holdings_of d.world p in
-        let due : due_next (place_at (steps.nested d.world p) p) ≡ reclaims d.world p = due-here holdings_of d.world p l ∙ sym c.due in
-        let now : is_waiting (standing_at (all_reclaimed holdings_of first p (reclaims d.world p)) s) ≡ true =
-        ap (λ xs. is_waiting (standing_at (all_reclaimed holdings_of first p xs) s)) (sym due)
-        ∙ ap (λ (u : World Val). is_waiting (standing_at u s)) (sym c.change) ∙ waits in
-        subst (λ ks. 1 ≤ times_in s (owners_in d.world ks)) (sym are)
-        (all-give p d.world s (reclaims d.world p) first (λ k some. reclaims-wait d.world p k whole some) (record {
-          bare = bare;
-          values = λ k v h. h;
-          idle = idle;
-        }) now)
-
-    -- what begins to wait was given up by the values of these slots to p, and has seen no change
-    pub begins-waiting : (s : ℕ) → is_waiting (standing_at after s) ≡ true → is_waiting (standing_at d.world s) ≡ false →
-        (1 ≤ times_in s (owners_in d.world slots)) × Waits after p s 0
-    begins-waiting s waits idle =
-        let given = begins-if s idle waits (how holdings_of d.world p l) in
-        elim ((opens-keeps p s holdings_of d.world l whole (given-out slots s given)).1) [
-          | inl out ↦ absurd (let never : false ≡ true = sym (out-waits-not (standing_at after s) out) ∙ waits in cc)
-          | inr fresh ↦ (given, fresh.1)
-        ]
-
-    -- ---- the dates
-    dates-at : (old line s : ℕ) (b c : Bool) → is_waiting (standing_at after s) ≡ b → is_waiting (standing_at d.world s) ≡ c →
-        (if waits_among after (owners_in d.world slots) s then line else old) ≡ (if b then (if c then old else line) else old)
-    dates-at old line s false c now was = rw now (either-off (nat_lt 0 (times_in s (owners_in d.world slots)))) where
-      either-off : (b : Bool) → (if b && false then line else old) ≡ old
-      either-off true = refl
-      either-off false = refl
-    dates-at old line s true true now was =
-        let none : nat_lt 0 (times_in s (owners_in d.world slots)) ≡ false = none-given (cases_lt 0 (times_in s (owners_in d.world slots))) in
-        rw (now, none) refl where
-          none-given : (0 < times_in s (owners_in d.world slots)) ⊎ (times_in s (owners_in d.world slots) ≤ 0) →
-              nat_lt 0 (times_in s (owners_in d.world slots)) ≡ false
-          none-given (inl some) =
-              absurd (let never : false ≡ true = sym (out-waits-not (standing_at d.world s) (given-out slots s some)) ∙ was in cc)
-          none-given (inr none) = grind (arith, nat_tests)
-    dates-at old line s true false now was =
-        let some : nat_lt 0 (times_in s (owners_in d.world slots)) ≡ true =
-        lt-ltb 0 (times_in s (owners_in d.world slots)) (begins-waiting s now was).0 in
-        rw (now, some) refl
-
-    -- what begins to wait gets the date of this line
-    pub dated-opened : (new : ScriptState) → new.world ≡ after → length new.dates ≡ length d.dates →
-        ((s : ℕ) → date_at new s ≡ (if waits_among after (owners_in d.world slots) s then d.moment else date_at d s)) → IsDated d new
-    dated-opened new world long dates = record {
-      dated = λ s. rw world (dates s ∙ dates-at (date_at d s) d.moment s (is_waiting (standing_at after s)) (is_waiting (standing_at d.world s)) refl refl);
-      long = long;
-    }
 
 -- ---- the names that an opening answers
 
@@ -495,14 +252,11 @@ module _ (d : ScriptState) (p : ℕ) (stocked : SlotsHaveNames d) (whole : IsWho
     slot-before : (s : ℕ) → Contains slots s → (is_waiting (standing_at d.world s) ≡ true) × IsSome (standing_at d.world s) × IsSome (value_at d.world s)
     slot-before s c = reclaimed-waits d.world p whole s (slot-reclaimed s c)
 
-    -- each of them has a name, and a value
+    -- each of them has a name
     pub slots-inside : All (λ s. s < length d.names) slots
     slots-inside k e lt =
         let s = slice_index_or slots k e in
         (slot-inside d stocked s (slot-before s (Contains-get_or slots k e lt)).1).0
-
-    pub slots-filled : All (λ s. IsSome (value_at d.world s)) slots
-    slots-filled k e lt = (slot-before (slice_index_or slots k e) (Contains-get_or slots k e lt)).2
 
     -- each of them is there once
     slots-once : (s : ℕ) → times_in s slots ≤ 1

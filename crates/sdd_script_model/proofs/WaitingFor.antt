@@ -1,4 +1,4 @@
--- What waits for a collector: in which slots it is, what it is called, and whose owners it holds
+-- What waits for a collector: in which slots it is, and what it is called
 use Rattle.std.specs.List.{filter, range_with_len}
 use Rattle.std.specs.List.Sorted.{IsPermutation, IsNonDecreasingBy, IsStrictlyIncreasing}
 use Rattle.std.proofs.lemmas.Bool.{false≢true}
@@ -10,7 +10,7 @@ use Rattle.sdd_space.specs.Collecting.{is_for, waiting_for}
 use Rattle.sdd_space.proofs.Listed.{listed-without, none-left, none-taken}
 use Rattle.sdd_script_text.specs.declared.name.ItemName.{ItemName}
 use Rattle.sdd_script_model.specs.ScriptState.{ScriptState, IsThere, slot_at}
-use Rattle.sdd_script_model.specs.Held.{owners_in, slots_among, slots_in, slots_waiting_for}
+use Rattle.sdd_script_model.specs.Held.{slots_among, slots_waiting_for}
 use Rattle.sdd_script_model.specs.Shown.{names_in}
 use Rattle.sdd_script_model.specs.Sound.{SlotsHaveNames}
 use Rattle.sdd_script_model.proofs.StockWords.{◌≡◌, ℕ, zero, suc, ◌+◌, ◌<◌, ◌≤◌, ◌==◌, Bool, true, false, if◌then◌else◌, List, [], ◌∷◌, ◌++◌, Option, Some, None, IsSome, map, length, slice_index_or, inl, inr, refl, sym, ap, ◌∙◌, eq-eqb, arith, nat_tests, All, Contains, ◌↔◌, cases_eq, cases_lt, LimboEntry, Item, Job, Standing, is_waiting, IsWhole, is_of_slot, World, standing_at, value_at, one_where, times_among, count-cons, some-waits, filled-there, Val}
@@ -57,39 +57,6 @@ module _ (p : ℕ → Bool) where
               (let none : one_where (a == s) ≡ 0 = grind (arith, nat_tests) in
               (omega (arith, all, none, rest.0), λ before. omega (arith, all, none, rest.1 (omega (arith, before)))))
         ]
-
--- ---- owners in the values of slots
-
-module _ (w : World Val) (k : ℕ) where
-  -- an owner of slot k's item is in the value of one of these
-  owner-somewhere : (slots : List ℕ) → 1 ≤ times_in k (owners_in w slots) → (j : ℕ) × Contains slots j × (1 ≤ times_in k (slots_in (value_at w j)))
-  owner-somewhere [] some = absurd (omega (arith, some))
-  owner-somewhere (j ∷ js) some =
-      elim (cases_lt 0 (times_in k (slots_in (value_at w j)))) [
-        | inl here ↦ (j, (0, omega arith, refl), here)
-        | inr none ↦
-            (let both : times_in k (slots_in (value_at w j) ++ owners_in w js) ≡ times_in k (slots_in (value_at w j)) + times_in k (owners_in w js) =
-            sum_by-append (λ i. one_where (i == k)) (slots_in (value_at w j)) (owners_in w js) in
-            let rest = owner-somewhere js (omega (arith, some, both, none)) in
-            let lt = rest.1.1 in
-            (rest.0, (suc rest.1.0, omega (arith, lt), rest.1.2), rest.2))
-      ]
-
-  owner-among : (slots : List ℕ) (j : ℕ) → Contains slots j → 1 ≤ times_in k (slots_in (value_at w j)) → 1 ≤ times_in k (owners_in w slots)
-  owner-among [] j c some = absurd (omega (arith, c.1))
-  owner-among (i ∷ is) j (zero, lt, e) some =
-      let both : times_in k (slots_in (value_at w i) ++ owners_in w is) ≡ times_in k (slots_in (value_at w i)) + times_in k (owners_in w is) =
-      sum_by-append (λ i. one_where (i == k)) (slots_in (value_at w i)) (owners_in w is) in
-      let same : times_in k (slots_in (value_at w i)) ≡ times_in k (slots_in (value_at w j)) = ap (λ m. times_in k (slots_in (value_at w m))) e in
-      omega (arith, both, same, some)
-  owner-among (i ∷ is) j (suc n, lt, e) some =
-      let both : times_in k (slots_in (value_at w i) ++ owners_in w is) ≡ times_in k (slots_in (value_at w i)) + times_in k (owners_in w is) =
-      sum_by-append (λ i. one_where (i == k)) (slots_in (value_at w i)) (owners_in w is) in
-      omega (arith, both, owner-among is j (n, omega (arith, lt), e) some)
-
-  -- with more slots there are no fewer owners
-  owners-within : (few more : List ℕ) → ((j : ℕ) → Contains few j → Contains more j) → 1 ≤ times_in k (owners_in w few) → 1 ≤ times_in k (owners_in w more)
-  owners-within few more all some = let one = owner-somewhere few some in owner-among more one.0 (all one.0 one.1) one.2
 
 -- ---- what waits for the collector stands so
 
@@ -147,21 +114,11 @@ module _ (d : ScriptState) (stocked : SlotsHaveNames d) (whole : IsWhole d.world
       let taken = some-waits (standing_at d.world s) (private-waits c (standing_at d.world s) stands) in
       passing-there (λ j. is_for d.world c (Item j)) 0 (length d.names) s (omega arith) (omega (arith, (slot-inside d stocked s taken).0)) stands
 
-  -- each of them has a name, and a value
+  -- each of them has a name
   pub found-inside : All (λ s. s < length d.names) slots_for
   found-inside k e lt =
       let s = slice_index_or slots_for k e in
       (slot-inside d stocked s (found-taken s (Contains-get_or slots_for k e lt))).0
-
-  pub found-filled : All (λ s. IsSome (value_at d.world s)) slots_for
-  found-filled k e lt =
-      let s = slice_index_or slots_for k e in
-      filled-there d.world s whole.filled ∙ found-taken s (Contains-get_or slots_for k e lt)
-
-  -- whose owner a value holds that waits for the collector, is among theirs
-  pub owners-found : (k : ℕ) → 1 ≤ times_in k (owners_in d.world (slots_among (waiting_for d.world c))) → 1 ≤ times_in k (owners_in d.world slots_for)
-  owners-found k =
-      owners-within d.world k (slots_among (waiting_for d.world c)) slots_for (λ j there. waits-found j (slots-contain (waiting_for d.world c) j there))
 
   -- the names found, and sorted, are exactly those of the items that wait for the collector
   pub names-waiting : (found sorted : List ItemName) → found ≡ names_in d.names slots_for → IsPermutation found sorted →

@@ -1,3 +1,4 @@
+pub mod Appending
 pub mod Val
 pub mod ScriptState
 pub mod Made

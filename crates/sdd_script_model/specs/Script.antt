@@ -41,6 +41,7 @@ use Rattle.sdd_script_model.specs.declared.link_change.LinkChange.TheVariants as
 use Rattle.sdd_lists.specs.Lists.{Entry, content, first_slot, first_value, left, trimmed}
 use Rattle.sdd_lists.specs.Stack.{poured}
 use Rattle.sdd_lists.specs.Walk.{shown_of}
+use Rattle.sdd_script_model.specs.Appending.{Appends, HasDeletedLink, MayAppend}
 use Rattle.sdd_script_model.specs.Link.{IsBehind, IsLink, Retags}
 use Rattle.sdd_script_model.specs.Stacks.{Drains, IsOwnedEnough, IsStack, Pushes, RefusesEntry, Takes, stack_closed}
 use Rattle.sdd_script_model.specs.BagLines as bags
@@ -183,6 +184,7 @@ IsValid d n (call.Mark i) = IsUnderGuard d n × CanPointTo d n i.0
 IsValid d n (call.Unmark i) = IsUnderGuard d n × CanPointTo d n i.0
 IsValid d n (call.Delete i) = IsUnderGuard d n × CanPointTo d n i.0
 IsValid d n (call.LinkTag i) = IsUnderGuard d n × CanPointTo d n i.0
+IsValid d n (call.Append i o mark g) = HasOpen d n g.0 × CanPointTo d n i.0 × MayAppend d i.0 o.0
 IsValid d n (call.Next i g) = HasOpen d n g.0 × CanPointTo d n i.0
 IsValid d n call.Queue = IsParticipant d n
 IsValid d n call.Stack = IsParticipant d n
@@ -426,6 +428,8 @@ Does d n p (call.Mark i) (reply.Truth b) new = Retags d i.0 change.Mark b new
 Does d n p (call.Unmark i) (reply.Truth b) new = Retags d i.0 change.Unmark b new
 Does d n p (call.Delete i) (reply.Truth b) new = Retags d i.0 change.Delete b new
 Does d n p (call.LinkTag i) (reply.Tag tag) new = ((k : ℕ) × (cell : CellContents) × IsLink d i.0 k cell × (tag ≡ cell.tag)) × (new ≡ d)
+Does d n p (call.Append i o mark g) reply.Done new = Appends d i.0 o.0 mark new
+Does d n p (call.Append i o mark g) reply.Deleted new = HasDeletedLink d i.0 × (new ≡ d)
 -- p lets go of the deleted ones between the item and the one that is told
 Does d n p (call.Next i g) (reply.Pointer j tag) new =
     (k : ℕ) × (t : Tag) × (es : List (Entry Val)) × IsBehind d i.0 k t es × (j ≡ option_map (item_in d.names) (first_slot (left es))) × (tag ≡ no_tag)

@@ -29,7 +29,7 @@ use Rattle.sdd_script_text.specs.declared.call.Value.TheVariants as value
 use Rattle.sdd_script_text.specs.declared.call.Argument.{Argument}
 use Rattle.sdd_script_text.specs.declared.call.Argument.TheVariants.{Number, Guard, Owner, Item, Cell, Collector, Queue, Stack, Bag, Tag, Word}
 use Rattle.sdd_script_text.specs.declared.call.Word.{Word as FixedWord}
-use Rattle.sdd_script_text.specs.declared.call.Word.TheVariants.{Owned, Shared, Of, If, Was, Now}
+use Rattle.sdd_script_text.specs.declared.call.Word.TheVariants.{Owned, Shared, Of, If, Was, Now, Mark, Plain}
 use Rattle.sdd_script_text.specs.Call.{IsNumber, IsWordOf, joined, words, fixed, word_of, spoken, words_of, line_of, HasNumber, HasNumbers, IsTextOf, IsCallText}
 use Rattle.sdd_script_text.specs.Reading.{IsNumberOf, number_at, numbered_at, numbered_argument_at, plain_arguments, argument_among, argument_at, place_call_at, call_at, most_arguments, arguments_at, few_arguments_at, with_arguments, called, ◌>>=◌}
 use Rattle.std.proofs.lemmas.Bool.Decides.{nat_tests, Decides-eqb}
@@ -363,6 +363,8 @@ with_said (Word Shared ∷ Owner x ∷ []) = search rules
 with_said (Cell c ∷ Owner x ∷ Tag t ∷ []) = search rules
 with_said (Owner (Some o) ∷ Guard g ∷ Collector k ∷ []) = search rules
 with_said (Cell c ∷ Tag t ∷ Word If ∷ Tag u ∷ []) = search rules
+with_said (Item (Some i) ∷ Owner (Some o) ∷ Word Mark ∷ Guard g ∷ []) = search rules
+with_said (Item (Some i) ∷ Owner (Some o) ∷ Word Plain ∷ Guard g ∷ []) = search rules
 with_said (Cell c ∷ Guard g ∷ Word Was ∷ Item y ∷ Tag t ∷ Word Now ∷ Owner x ∷ Tag u ∷ []) = search rules
 with_said arguments = tt
 
@@ -410,6 +412,8 @@ said (action.Peek (list.Stack s) g) = (written_word 10 _ refl refl, omega arith,
 said (action.Len (list.Stack s) g) = (written_word 10 _ refl refl, omega arith, omega arith, refl)
 said (action.List (list.Stack s) g) = (written_word 10 _ refl refl, omega arith, omega arith, refl)
 said (action.CloneList (list.Stack s) g) = (written_word 10 _ refl refl, omega arith, omega arith, refl)
+said (action.Append i o true g) = (written_word 10 _ refl refl, omega arith, omega arith, refl)
+said (action.Append i o false g) = (written_word 10 _ refl refl, omega arith, omega arith, refl)
 said action = (written_word 10 _ refl refl, omega arith, omega arith, refl)
 
 -- ---- both

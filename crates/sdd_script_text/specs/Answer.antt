@@ -11,7 +11,7 @@ use Rattle.sdd_script_text.specs.declared.name.OwnerName.{OwnerName}
 use Rattle.sdd_script_text.specs.declared.name.ItemName.{ItemName}
 use Rattle.sdd_script_text.specs.declared.answer.Answer.{Answer}
 use Rattle.sdd_script_text.specs.declared.answer.Reply.{Reply}
-use Rattle.sdd_script_text.specs.declared.answer.Reply.TheVariants.{Place, Tally, Guard, Epoch, Truth, Done, Job, Collector, Queue, Stack, Bag, Popped, Many, Kept, KeptEntry, Numbers, Item, Owner, Nothing, Raw, Value, Holding, Cell, Pointer, Tag, Swapped, Exchanged, Differs, Refused, Invalid}
+use Rattle.sdd_script_text.specs.declared.answer.Reply.TheVariants.{Place, Tally, Guard, Epoch, Truth, Done, Deleted, Job, Collector, Queue, Stack, Bag, Popped, Many, Kept, KeptEntry, Numbers, Item, Owner, Nothing, Raw, Value, Holding, Cell, Pointer, Tag, Swapped, Exchanged, Differs, Refused, Invalid}
 
 -- the name of a refusal
 abbrev pub refusal : Refusal → List ℕ
@@ -51,6 +51,7 @@ words_of_reply (Epoch epoch) = decimal epoch ∷ []
 words_of_reply (Truth true) = codes "true" ∷ []
 words_of_reply (Truth false) = codes "false" ∷ []
 words_of_reply Done = codes "ok" ∷ []
+words_of_reply Deleted = codes "deleted" ∷ []
 words_of_reply (Job j) = job j ∷ []
 words_of_reply (Collector k) = collector k ∷ []
 words_of_reply (Queue q) = queue q ∷ []

@@ -1,5 +1,5 @@
 -- The texts of calls: words, with one space between two of them
-use Rattle.std.specs.Prelude.{◌≡◌, ℕ, ◌^◌, ◌<◌, ◌==◌, List, [], ◌∷◌, Some, None, codes, map}
+use Rattle.std.specs.Prelude.{◌≡◌, ℕ, ◌^◌, ◌<◌, ◌==◌, List, [], ◌∷◌, Some, None, true, false, codes, map}
 use Rattle.std.specs.List.{join_with_byte, slice_split, AllByRecursion}
 use Rattle.std.specs.Fmt.{decimal}
 use Rattle.sdd_script_text.specs.Name.{place, guard, owner, item, cell, collector, queue, stack, bag, tag}
@@ -11,7 +11,7 @@ use Rattle.sdd_script_text.specs.declared.call.Value.TheVariants as value
 use Rattle.sdd_script_text.specs.declared.call.Argument.{Argument}
 use Rattle.sdd_script_text.specs.declared.call.Argument.TheVariants.{Number, Guard, Owner, Item, Cell, Collector, Queue, Stack, Bag, Tag, Word}
 use Rattle.sdd_script_text.specs.declared.call.Word.{Word as FixedWord}
-use Rattle.sdd_script_text.specs.declared.call.Word.TheVariants.{Owned, Shared, Of, If, Was, Now}
+use Rattle.sdd_script_text.specs.declared.call.Word.TheVariants.{Owned, Shared, Of, If, Was, Now, Mark, Plain}
 use Rattle.sdd_script_text.specs.declared.call.Call.{Call}
 use Rattle.sdd_script_text.specs.declared.call.Call.TheVariants.{Register, Tally, At}
 
@@ -31,6 +31,8 @@ fixed Of = codes "of"
 fixed If = codes "if"
 fixed Was = codes "was"
 fixed Now = codes "now"
+fixed Mark = codes "mark"
+fixed Plain = codes "plain"
 
 -- an argument as a word
 abbrev pub word_of : Argument → List ℕ
@@ -93,6 +95,8 @@ spoken (action.Mark i) = (codes "mark", Item (Some i) ∷ [])
 spoken (action.Unmark i) = (codes "unmark", Item (Some i) ∷ [])
 spoken (action.Delete i) = (codes "delete", Item (Some i) ∷ [])
 spoken (action.LinkTag i) = (codes "linktag", Item (Some i) ∷ [])
+spoken (action.Append i o true g) = (codes "append", Item (Some i) ∷ Owner (Some o) ∷ Word Mark ∷ Guard g ∷ [])
+spoken (action.Append i o false g) = (codes "append", Item (Some i) ∷ Owner (Some o) ∷ Word Plain ∷ Guard g ∷ [])
 spoken (action.Next i g) = (codes "next", Item (Some i) ∷ Guard g ∷ [])
 spoken action.Queue = (codes "queue", [])
 spoken action.Stack = (codes "stack", [])

@@ -1,5 +1,5 @@
 -- Reading a line, word by word. Only private functions cite this: what a line is, `Call` says by the calls' own texts.
-use Rattle.std.specs.Prelude.{◌≡◌, ℕ, ◌^◌, ◌&&◌, List, [], ◌∷◌, Option, Some, None, IfSome, codes, length, if◌then◌else◌, ◌==◌, nat_lt}
+use Rattle.std.specs.Prelude.{◌≡◌, ℕ, ◌^◌, ◌&&◌, List, [], ◌∷◌, Option, Some, None, true, false, IfSome, codes, length, if◌then◌else◌, ◌==◌, nat_lt}
 use Rattle.std.specs.Option.{option_and_then}
 use Rattle.std.specs.Fmt.{decimal}
 use Rattle.std.specs.Str.{bytes_eq}
@@ -14,7 +14,7 @@ use Rattle.sdd_script_text.specs.declared.call.Action.TheVariants as action
 use Rattle.sdd_script_text.specs.declared.call.Value.TheVariants as value
 use Rattle.sdd_script_text.specs.declared.call.Argument.{Argument}
 use Rattle.sdd_script_text.specs.declared.call.Argument.TheVariants.{Number, Guard, Owner, Item, Cell, Collector, Queue, Stack, Bag, Tag, Word}
-use Rattle.sdd_script_text.specs.declared.call.Word.TheVariants.{Owned, Shared, Of, If, Was, Now}
+use Rattle.sdd_script_text.specs.declared.call.Word.TheVariants.{Owned, Shared, Of, If, Was, Now, Mark, Plain}
 use Rattle.sdd_script_text.specs.declared.call.Call.{Call}
 use Rattle.sdd_script_text.specs.declared.call.Call.TheVariants.{Register, Tally, At}
 
@@ -53,7 +53,7 @@ numbered_argument_at (byte ∷ bytes) =
 -- the arguments without a number
 abbrev pub plain_arguments : List Argument
 plain_arguments = Owner None ∷ Item None ∷ Tag tag.None ∷ Tag tag.First ∷ Tag tag.Second ∷ Tag tag.Both
-    ∷ Word Owned ∷ Word Shared ∷ Word Of ∷ Word If ∷ Word Was ∷ Word Now ∷ []
+    ∷ Word Owned ∷ Word Shared ∷ Word Of ∷ Word If ∷ Word Was ∷ Word Now ∷ Word Mark ∷ Word Plain ∷ []
 
 -- the first of these arguments that a word is, or else the one with a number
 abbrev pub argument_among : List Argument → List ℕ → Option Argument
@@ -116,6 +116,8 @@ with_arguments (Word Shared ∷ Owner x ∷ []) = action.CellShared x ∷ []
 with_arguments (Cell c ∷ Owner x ∷ Tag t ∷ []) = action.Swap c x t ∷ []
 with_arguments (Owner (Some o) ∷ Guard g ∷ Collector k ∷ []) = action.Collect o g k ∷ []
 with_arguments (Cell c ∷ Tag t ∷ Word If ∷ Tag u ∷ []) = action.TagIf c t u ∷ []
+with_arguments (Item (Some i) ∷ Owner (Some o) ∷ Word Mark ∷ Guard g ∷ []) = action.Append i o true g ∷ []
+with_arguments (Item (Some i) ∷ Owner (Some o) ∷ Word Plain ∷ Guard g ∷ []) = action.Append i o false g ∷ []
 with_arguments (Cell c ∷ Guard g ∷ Word Was ∷ Item y ∷ Tag t ∷ Word Now ∷ Owner x ∷ Tag u ∷ []) = action.Exchange c g y t x u ∷ []
 with_arguments arguments = []
 

@@ -30,6 +30,8 @@ pub enum Reply {
     Truth(bool),
     /// `ok`: nothing else is to be told.
     Done,
+    /// `deleted`: an entry was not put behind another, since that is deleted. Nothing changed.
+    Deleted,
     /// `j0`: a new job, which waits.
     Job(JobName),
     /// `k0`: a new collector.
@@ -100,6 +102,7 @@ impl fmt::Display for Reply {
             Reply::Epoch(epoch) => write!(f, "{}", u8::from(epoch)),
             Reply::Truth(truth) => write!(f, "{truth}"),
             Reply::Done => write!(f, "ok"),
+            Reply::Deleted => write!(f, "deleted"),
             Reply::Job(job) => write!(f, "{job}"),
             Reply::Collector(collector) => write!(f, "{collector}"),
             Reply::Queue(queue) => write!(f, "{queue}"),

@@ -91,6 +91,8 @@ pub enum Action {
     Delete(ItemName),
     /// `linktag I`: the tag of an entry's link.
     LinkTag(ItemName),
+    /// `append I O mark G` or `append I O plain G`: puts an owner's entry directly behind an item, marked if so asked, unless that is deleted.
+    Append(ItemName, OwnerName, bool, GuardName),
     /// `next I G`: the next item behind one in its list that isn't deleted; the deleted ones between are let go of.
     Next(ItemName, GuardName),
     /// `queue`: an empty queue of numbers.
@@ -179,6 +181,8 @@ pub(crate) enum Word {
     If,
     Was,
     Now,
+    Mark,
+    Plain,
 }
 
 impl Call {

@@ -10,9 +10,9 @@ ghost use Rattle.sdd_space.specs.Owned.{slot_of, slots_home, cell_of, cells_home
 ghost use Rattle.sdd_space.specs.Shared as shared;
 ghost use Rattle.sdd_rights.specs.SharedRights as shares;
 ghost use Rattle.sdd_standings.specs.Slots.{IsSharedBy};
-ghost use Rattle.sdd_participants.specs.Slab.{IsFull};
+ghost use Rattle.sdd_participants.specs.Slab.{IsFull, entry_at};
 ghost use Rattle.sdd_participants.specs.declared.standing.Standing.TheVariants as standing;
-ghost use Rattle.sdd_space.specs.WorldChanges.{reclaims, retired, owner_given, cell_closed, without_cell, with_standing};
+ghost use Rattle.sdd_space.specs.WorldChanges.{reclaims, retired, owner_given, cell_closed, held_in, without_cell, with_standing};
 ghost use Rattle.sdd_space.specs.Out.{IsNullCell};
 ghost use Rattle.sdd_space.specs.Collector as collectors;
 ghost use Rattle.sdd_world.specs.Place.{index_of};
@@ -91,6 +91,13 @@ pub fn has_no_cell<T: Item<T>, J: Job>(world: &World<T, J>) -> bool
     ensures { IsTrue result ↔ IsFull world.now.cells }
 {
     world.core.has_no_cell()
+}
+
+/// Some cell holds an owner of the item in this slot. Each cell is looked at.
+pub fn is_in_cell<T: Item<T>, J: Job>(world: &World<T, J>, slot: u32) -> bool
+    ensures { IsTrue result ↔ ((c : ℕ) × (held_in (entry_at world.now.cells c) ≡ Some slot)) }
+{
+    world.core.is_held(slot)
 }
 
 /// The owner's item waits at some place that isn't free: with a participant, or where one left it that has ended.

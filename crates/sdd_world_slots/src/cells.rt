@@ -1,4 +1,4 @@
-ghost use Rattle.std.specs.Prelude.{◌≡◌, ◌<◌, ◌↔◌, All, IfErr, IfNone, IfOk, IfSome, IsNone, IsSome, IsTrue, MatchResult, None, OnErr, Some, length, option_copied, replicate, slice_get};
+ghost use Rattle.std.specs.Prelude.{◌≡◌, ◌<◌, ◌↔◌, ℕ, All, IfErr, IfNone, IfOk, IfSome, IsNone, IsSome, IsTrue, MatchResult, None, OnErr, Some, length, option_copied, replicate, slice_get};
 ghost use Rattle.sdd_rights.specs.StandingKind.{IsOwner};
 ghost use Rattle.sdd_rights.specs.Right.{number_of, home_of, kind_of, raw_number_of, raw_home_of, badge_home};
 ghost use Rattle.sdd_standings.specs.Cells.{slot_held, null_cell, null_pointer};
@@ -15,7 +15,7 @@ use std::mem::replace;
 /// beside it.
 ///
 /// A cell holds owners of its own kind alone: of an owned item, or of a shared one. Memory is taken when the cells are made, and never again. No call's
-/// cost depends on how many cells there are.
+/// cost depends on how many cells there are, but that of `is_held`.
 pub struct WorldCells {
     rights: RightsAuthority,
     /// The tag of each cell that is taken.
@@ -104,6 +104,18 @@ impl WorldCells {
             None => Ok(self.rights.grant(cell, kind)),
             Some(_) => unreachable!(),
         }
+    }
+
+    /// Some cell holds an owner of this slot. Each is looked at.
+    pub fn is_held(&self, slot: u32) -> bool
+        ensures { IsTrue result ↔ ((k : ℕ) × (cell : CellContents) × (entry_at self.now.cells k ≡ Some cell) × (cell.held ≡ Some slot)) }
+    {
+        for owner in &self.held {
+            if is_of(owner, slot) {
+                return true;
+            }
+        }
+        false
     }
 
     /// What a cell holds.
@@ -256,6 +268,16 @@ fn nothing_held(
         });
     }
     Ok((held, pointers))
+}
+
+/// This is an owner of the slot.
+fn is_of(owner: &Option<Right>, slot: u32) -> bool
+    ensures { IsTrue result ↔ (slot_held owner.now ≡ Some slot) }
+{
+    match owner {
+        Some(right) => right.number() == slot,
+        None => false,
+    }
 }
 
 /// The slot of an owner, if there is one.

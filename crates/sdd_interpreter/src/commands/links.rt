@@ -1,19 +1,24 @@
 //! What participants do with the links of entries.
-ghost use Rattle.std.specs.Prelude.{◌≡◌, List, Some};
+ghost use Rattle.std.specs.Prelude.{◌≡◌, false, true, List, MatchOption, Some};
 ghost use Rattle.sdd_core.specs.declared.tag.Tag.{Tag as TagOf};
 ghost use Rattle.sdd_participants.specs.Slab.{entry_at};
 ghost use Rattle.sdd_participants.specs.declared.standing.CellContents.{CellContents};
 ghost use Rattle.sdd_space.specs.Guard.{reader_of};
-ghost use Rattle.sdd_lists.specs.Lists.{Entry, IsList, first_slot, left, trimmed};
+ghost use Rattle.sdd_space.specs.Shared.{holding_of, slot_of, slots_home};
+ghost use Rattle.sdd_space.specs.World.{value_at};
+ghost use Rattle.sdd_lists.specs.Behind.{IsFresh, mark_tag};
+ghost use Rattle.sdd_lists.specs.Lists.{Entry, IsList, first_slot, left, linked_in, trimmed};
+ghost use Rattle.sdd_lists.specs.Marks.{says_deleted};
 ghost use Rattle.sdd_script_model.specs.Link.{may_change, retagged};
 ghost use Rattle.sdd_script_model.specs.Val.{Val, link_home, link_of};
 
 use crate::commands::step::{CellCommand, ListCommand};
 use sdd_core::{SlotName, Tag};
 use sdd_lists::LinkedList;
+use sdd_participants::CellContents;
 use sdd_script_model::{LinkChange, Val};
 use sdd_space::inner::slot_of_ptr;
-use sdd_space::{Cells, Guard, Items, LookThrough, Several, SharedItems};
+use sdd_space::{Cells, Guard, Items, LookThrough, Several, Shared, SharedItems};
 
 /// Changes the tag of an entry's link, if it may, and tells whether it did.
 pub struct ChangeLink<'a> {
@@ -64,6 +69,69 @@ impl CellCommand for ReadLinkTag<'_> {
     fn done<S: Cells<Val>>(self, s: &mut S) -> Tag {
         let ReadLinkTag { entry } = self;
         entry.link_ref().tag(s)
+    }
+}
+
+/// What an entry's link holds, and its tag.
+pub struct ReadLink<'a> {
+    pub entry: &'a Val,
+    /// One of the participant's.
+    pub guard: &'a Guard,
+}
+
+impl CellCommand for ReadLink<'_> {
+    type Out = CellContents;
+
+    ghost asks = { λ step home reader _. (link_home step.entry.now ≡ home.cells) × (reader_of step.guard.now ≡ reader) };
+
+    ghost does = { λ step _ _ before held after. (entry_at before.cells (link_of step.entry.now) ≡ Some held) × (after ≡ before) };
+
+    fn done<S: Cells<Val>>(self, s: &mut S) -> CellContents {
+        let ReadLink { entry, guard } = self;
+        let ptr = entry.link_ref().load(guard, s);
+        CellContents {
+            held: slot_of_ptr(&ptr),
+            tag: ptr.tag(),
+        }
+    }
+}
+
+/// Puts an owner's entry directly behind another one, which is marked by that, or has no mark then. The owner comes back where that is deleted.
+pub struct AppendEntry<'a> {
+    pub entry: &'a Val,
+    pub owner: Shared<Val>,
+    pub mark: bool,
+    /// One of the participant's.
+    pub guard: &'a Guard,
+}
+
+impl ListCommand for AppendEntry<'_> {
+    type Out = Option<Shared<Val>>;
+
+    ghost asks = { λ step home reader world. (link_home step.entry.now ≡ home.cells) × (slots_home step.owner ≡ home.slots)
+        × (reader_of step.guard.now ≡ reader)
+        × ((t : TagOf) × (es : List (Entry Val)) × (v : Val) × IsList link_of world (link_of step.entry.now) t es
+        × IsFresh link_of world (slot_of step.owner) v (link_of step.entry.now) es) };
+
+    ghost does = { λ step _ _ before back after. (cell : CellContents) (v : Val) → entry_at before.cells (link_of step.entry.now) ≡ Some cell →
+        value_at before (slot_of step.owner) ≡ Some v → MatchOption back
+        ((says_deleted cell.tag ≡ false) × (after ≡ linked_in before (link_of step.entry.now) (mark_tag step.mark) (link_of v) (slot_of step.owner) cell.held))
+        (λ owner. (says_deleted cell.tag ≡ true) × (holding_of owner ≡ holding_of step.owner) × (after ≡ before)) };
+
+    fn done<S: Items<Val> + Several<Val> + SharedItems<Val> + Cells<Val> + LookThrough<Val>>(
+        self,
+        s: &mut S,
+    ) -> Option<Shared<Val>> {
+        let AppendEntry {
+            entry,
+            owner,
+            mark,
+            guard,
+        } = self;
+        match entry.push_back(owner, mark, guard, s) {
+            Ok(_) => None,
+            Err((owner, _)) => Some(owner),
+        }
     }
 }
 

@@ -53,6 +53,8 @@ fn argument(word: &str) -> Option<Argument>
         "if" => Some(Argument::Word(Word::If)),
         "was" => Some(Argument::Word(Word::Was)),
         "now" => Some(Argument::Word(Word::Now)),
+        "mark" => Some(Argument::Word(Word::Mark)),
+        "plain" => Some(Argument::Word(Word::Plain)),
         _ => numbered_argument(word),
     }
 }
@@ -366,6 +368,30 @@ fn with_three(verb: &str, first: Argument, second: Argument, third: Argument) ->
     }
 }
 
+/// The verbs with an item, an owner, a word and a guard.
+fn with_entry(
+    verb: &str,
+    item: ItemName,
+    owner: OwnerName,
+    word: Word,
+    guard: GuardName,
+) -> Option<Action>
+    ensures { result ≡ called verb.now (with_arguments (Argument.Item (Some item) ∷ Argument.Owner (Some owner)
+        ∷ Argument.Word word ∷ Argument.Guard guard ∷ [])) }
+{
+    match word {
+        Word::Mark => match verb {
+            "append" => Some(Action::Append(item, owner, true, guard)),
+            _ => None,
+        },
+        Word::Plain => match verb {
+            "append" => Some(Action::Append(item, owner, false, guard)),
+            _ => None,
+        },
+        _ => None,
+    }
+}
+
 /// The verbs with four arguments.
 fn with_four(
     verb: &str,
@@ -400,6 +426,12 @@ fn with_four(
             "pushif" => Some(Action::PushIf(ListName::Stack(stack), number, newest, guard)),
             _ => None,
         },
+        (
+            Argument::Item(Some(item)),
+            Argument::Owner(Some(owner)),
+            Argument::Word(word),
+            Argument::Guard(guard),
+        ) => with_entry(verb, item, owner, word, guard),
         _ => None,
     }
 }

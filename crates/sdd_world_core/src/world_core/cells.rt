@@ -8,7 +8,7 @@ ghost use Rattle.sdd_participants.specs.EpochState as time;
 ghost use Rattle.sdd_participants.specs.Slab.{entry_at, IsEmptyAt, IsFull};
 ghost use Rattle.sdd_space.specs.HeldItems.{value_held};
 ghost use Rattle.sdd_space.specs.World.{KeepsSizes, standing_at, HasPlace};
-ghost use Rattle.sdd_space.specs.WorldChanges.{with_standing, with_cell, without_cell, cell_closed};
+ghost use Rattle.sdd_space.specs.WorldChanges.{with_standing, with_cell, without_cell, cell_closed, held_in};
 ghost use Rattle.sdd_space.specs.WorldInvariant.{IsWhole};
 ghost use Rattle.sdd_world_core.specs.Lending.{AreLent};
 
@@ -24,6 +24,13 @@ impl<T: Item<T>, J: Job> WorldCore<T, J> {
         ensures { IsTrue result ↔ IsFull self.now.world.cells }
     {
         self.cells.is_full()
+    }
+
+    /// Some cell holds an owner of this slot.
+    pub fn is_held(&self, slot: u32) -> bool
+        ensures { IsTrue result ↔ ((k : ℕ) × (held_in (entry_at self.now.world.cells k) ≡ Some slot)) }
+    {
+        self.cells.is_held(slot)
     }
 
     /// A free cell for owners of this kind holds this one, if there is one.

@@ -1,11 +1,8 @@
-use Rattle.std.proofs.Common.{◌≡◌, Option, Some, sym, ◌∙◌}
+use Rattle.std.proofs.Common.{◌≡◌, Option, Some, length, sym, ap, ◌∙◌, arith}
 use Rattle.sdd_space.specs.Collector.{collector_of}
 use Rattle.sdd_space.specs.declared.private_collector.PrivateCollector.{PrivateCollector}
 use Rattle.sdd_script_model.specs.Val.{Val}
-use Rattle.sdd_script_model.proofs.Going.{waiting-bare}
-use Rattle.sdd_script_model.proofs.Counting.{accounts}
-use Rattle.sdd_script_model.proofs.Gone.{given-inside}
-use Rattle.sdd_script_model.proofs.WaitingFor.{found-filled, found-inside}
+use Rattle.sdd_script_model.proofs.WaitingFor.{found-inside}
 use Rattle.sdd_script_text.specs.declared.call.Action.TheVariants as call
 use Rattle.sdd_script_text.specs.declared.call.Call.TheVariants.{At}
 use Rattle.sdd_interpreter.specs.Interpreter.{desk_of}
@@ -14,7 +11,7 @@ use Rattle.sdd_script_commands.proofs.CollectorActs.{answers-closed, back-again,
 use Rattle.sdd_interpreter.proofs.Collectors.{collector-home}
 use Rattle.sdd_interpreter.proofs.Acts.{still-as}
 use Rattle.sdd_interpreter.proofs.Missing.{invalid, nobody}
-use Rattle.sdd_interpreter.proofs.Taken.{inside}
+use Rattle.sdd_script_commands.proofs.StackActs.{AreTold}
 use Rattle.sdd_script_commands.proofs.collectors.close_collector.Goals as goal
 
 pub returns-in_default : goal.returns-in_default
@@ -44,8 +41,6 @@ found_for-requires c =
       small = rw c.as_slice-names.ensures.value s.few;
       named = rw (c.as_slice-names.ensures.value, c.number_of_collector-collected.ensures)
           (found-inside d s c.is_whole.ensures (collector_of c.in-Some-get.held.now));
-      taken = rw (c.as_slice-names.ensures.value, c.number_of_collector-collected.ensures)
-          (found-filled d s c.is_whole.ensures (collector_of c.in-Some-get.held.now));
     }
 
 pub close_at-requires-clause-collector : goal.close_at-requires-clause-collector
@@ -74,38 +69,29 @@ returns-in-Err c =
           (λ s e. e) (λ k e. e));
     }
 
-pub date_waiting-requires : goal.date_waiting-requires
-date_waiting-requires c =
-    let s = c.stage.invariant.sound in
-    record {
-      inside = rw (c.as_slice.ensures.value, c.in_ok-gone.ensures.owners) (given-inside (desk_of c.stage.inside.hand) _
-          (inside c.stage.inside.hand c.args.name.0 _ c.stage.invariant c.in-Some.ensures) s.stocked (waiting-bare _ s) c.is_whole.ensures (accounts _ s) _);
-    }
+told : (c : goal.After-drop-waited) → AreTold c.stage.inside.hand c.in_ok-waited.waited.items
+told c = λ s lt. c.in_ok-waited.ensures.each s (omega (arith, lt, ap length c.as_slice-names.ensures.value))
 
 pub invariant_of-stage-2 : goal.invariant_of-stage-2
 invariant_of-stage-2 c =
     let h = c.stage.inside.hand in
     let x = c.in-Some-take.held in
-    let same = one c.in-Some-get.held.now x _ c.in-Some-get.ensures c.in-Some-take.ensures.taken in
-    let given = rw (c.as_slice-names.ensures.value, c.number_of_collector-collected.ensures, same) at c.in_ok-gone.ensures.owners in
-    let dated = rw (c.as_slice.ensures.value, given) at c.date_waiting.ensures.dated in
     let closed = c.in_default-close_at.ensures.closed in
     tied-closed h c.stage.invariant c.is_whole.ensures c.args.name _ (got h.places c.args.name.0 _ c.in-Some.ensures) c.args.collector x
-    c.in-Some-take.ensures.taken closed.0 closed.1 c.close_at.new.world c.take.new.self.entries c.date_waiting.new.dates closed.2
-    c.in-Some-take.ensures.spent c.date_waiting.ensures.long dated
+    c.in-Some-take.ensures.taken closed.0 closed.1 c.close_at.new.world c.take.new.self.entries c.date_new.new.dates closed.2
+    c.in-Some-take.ensures.spent _ (told c) (rw c.as_slice.ensures.value at c.date_new.ensures.dated, c.date_new.ensures.long)
 
 pub returns : goal.returns
 returns c =
     let h = c.stage.inside.hand in
     let x = c.in-Some-take.held in
     let same = one c.in-Some-get.held.now x _ c.in-Some-get.ensures c.in-Some-take.ensures.taken in
-    let given = rw (c.as_slice-names.ensures.value, c.number_of_collector-collected.ensures, same) at c.in_ok-gone.ensures.owners in
-    let dated = rw (c.as_slice.ensures.value, given) at c.date_waiting.ensures.dated in
     let moved = rw (c.as_slice-names.ensures.value, c.number_of_collector-collected.ensures, same) at c.in_ok-gone.ensures.items in
     let closed = c.in_default-close_at.ensures.closed in
     record {
       answers = rw (← c.stage.view_is, c.of.ensures, c.new.ensures) (answers-closed h c.stage.invariant c.is_whole.ensures c.args.name _
           (got h.places c.args.name.0 _ c.in-Some.ensures) c.args.collector x c.in-Some-take.ensures.taken closed.0 closed.1 c.close_at.new.world
-          c.take.new.self.entries c.date_waiting.new.dates closed.2 c.in-Some-take.ensures.spent c.date_waiting.ensures.long dated
+          c.take.new.self.entries c.date_new.new.dates closed.2 c.in-Some-take.ensures.spent _ (told c)
+          (rw c.as_slice.ensures.value at c.date_new.ensures.dated, c.date_new.ensures.long)
           c.in_ok-gone.gone.items moved c.in_ok-gone.ensures.ascending);
     }

@@ -1,11 +1,12 @@
-use Rattle.std.proofs.Common.{◌≡◌, refl, sym, ◌∙◌}
+use Rattle.std.proofs.Common.{◌≡◌, refl, sym, ◌∙◌, arith}
 use Rattle.sdd_script_text.specs.declared.call.Action.TheVariants as call
 use Rattle.sdd_script_text.specs.declared.call.Call.TheVariants.{At}
 use Rattle.sdd_script_model.proofs.Entry.{spent_twice}
 use Rattle.sdd_interpreter.specs.Interpreter.{desk_of}
 use Rattle.sdd_interpreter.proofs.Acts.{Does, got, goes, owner-home, still-as}
 use Rattle.sdd_interpreter.proofs.Missing.{invalid, nobody, no-owner}
-use Rattle.sdd_script_commands.proofs.RawActs.{acts-dropped, drop-refused, held-dated, put-back, same-desk}
+use Rattle.sdd_script_commands.proofs.RawActs.{acts-dropped, drop-refused, put-back, same-desk}
+use Rattle.sdd_script_commands.proofs.StackActs.{AreTold}
 use Rattle.sdd_script_commands.proofs.raw.drop_owner.Goals as goal
 
 pub returns-in_default : goal.returns-in_default
@@ -20,27 +21,19 @@ returns-in_default-take c =
           (λ valid. no-owner h c.args.owner.0 c.in_default-take.ensures.taken valid.1));
     }
 
-pub value_of-requires : goal.value_of-requires
-value_of-requires c = record {
-  home = owner-home c.stage.inside.hand c.stage.invariant c.is_whole.ensures c.args.owner.0 _ (sym c.in-Some-take.ensures.taken);
-}
-
 pub in_place_step_at-requires-clause-asked : goal.in_place_step_at-requires-clause-asked
 in_place_step_at-requires-clause-asked c =
     owner-home c.stage.inside.hand c.stage.invariant c.is_whole.ensures c.args.owner.0 _ (sym c.in-Some-take.ensures.taken)
 
-pub date_if_waiting-requires : goal.date_if_waiting-requires
-date_if_waiting-requires c = rw c.slot_given-given.ensures (held-dated c.stage.inside.hand c.stage.invariant _ _ c.value_of.ensures.2 _ refl)
-
-went : (c : goal.After-date_if_waiting) → Does (desk_of c.stage.inside.hand) (At c.args.name (call.Drop c.args.owner)) c.in-Ok.reply
-    (record c.stage.inside.hand { world = c.in_place_step_at.new.world; owners = c.take.new.self; dates = c.date_if_waiting.new.dates })
+went : (c : goal.After-drop-waited) → Does (desk_of c.stage.inside.hand) (At c.args.name (call.Drop c.args.owner)) c.in-Ok.reply
+    (record c.stage.inside.hand { world = c.in_place_step_at.new.world; owners = c.take.new.self; dates = c.date_new.new.dates })
 went c =
     let h = c.stage.inside.hand in
     let there = got h.places c.args.name.0 _ c.in-Some.ensures in
-    let dated = rw c.slot_given-given.ensures at c.date_if_waiting.ensures in
+    let told : AreTold h c.in_ok-waited.waited.items = λ s lt. c.in_ok-waited.ensures.each s (omega (arith, lt, c.len-names.ensures)) in
     acts-dropped h c.stage.invariant c.is_whole.ensures c.args.name _ there c.args.owner _
-    (sym c.in-Some-take.ensures.taken) _ _ _ _ c.take.new.self.entries c.date_if_waiting.new.dates c.value_of.ensures.1 c.value_of.ensures.2
-    c.in-Ok.ensures.done c.in-Some-take.ensures.spent dated
+    (sym c.in-Some-take.ensures.taken) _ c.in_ok-waited.waited.items c.in_place_step_at.new.world c.take.new.self.entries c.date_new.new.dates told
+    c.in-Ok.ensures.done c.in-Some-take.ensures.spent (rw c.as_slice.ensures.value at c.date_new.ensures.dated, c.date_new.ensures.long)
 
 pub invariant_of-stage-2 : goal.invariant_of-stage-2
 invariant_of-stage-2 c = (went c).0
