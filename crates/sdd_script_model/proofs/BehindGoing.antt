@@ -58,12 +58,12 @@ numbers-left : (es : List (Entry Val)) → AreNumbers es → AreNumbers (left es
 numbers-left [] all = tt
 numbers-left (e ∷ es) all = numbers-by e es all (numbers-left es all.1) (is_deleted e)
 
-numbers-ends : (es : List (Entry Val)) (e : Entry Val) (rest : List (Entry Val)) → EndsWith es e rest → AreNumbers es → AreNumbers (e ∷ rest)
+pub numbers-ends : (es : List (Entry Val)) (e : Entry Val) (rest : List (Entry Val)) → EndsWith es e rest → AreNumbers es → AreNumbers (e ∷ rest)
 numbers-ends [] e rest at all = absurd at
 numbers-ends (x ∷ xs) e rest (inl same) all = subst (λ (ys : List (Entry Val)). AreNumbers ys) same all
 numbers-ends (x ∷ xs) e rest (inr at) all = numbers-ends xs e rest at all.1
 
-among-behind : (s : ℕ) (es : List (Entry Val)) (e : Entry Val) (rest : List (Entry Val)) → EndsWith es e rest → IsAmong s (e ∷ rest) → IsAmong s es
+pub among-behind : (s : ℕ) (es : List (Entry Val)) (e : Entry Val) (rest : List (Entry Val)) → EndsWith es e rest → IsAmong s (e ∷ rest) → IsAmong s es
 among-behind s [] e rest at among = absurd at
 among-behind s (x ∷ xs) e rest (inl same) among = subst (λ (ys : List (Entry Val)). IsAmong s ys) (sym same) among
 among-behind s (x ∷ xs) e rest (inr at) among = inr (among-behind s xs e rest at among)
@@ -75,7 +75,7 @@ module _ (k : ℕ) (others : List (Entry Val)) where
   was-by s whole x ys other here more false (inl is) = here is
   was-by s whole x ys other here more false (inr there) = more there
 
-  spliced-was : (s : ℕ) (whole es : List (Entry Val)) → (IsAmong s others → IsAmong s whole) → (IsAmong s es → IsAmong s whole) →
+  pub spliced-was : (s : ℕ) (whole es : List (Entry Val)) → (IsAmong s others → IsAmong s whole) → (IsAmong s es → IsAmong s whole) →
       IsAmong s (spliced k others es) → IsAmong s whole
   spliced-was s whole [] other still among = absurd among
   spliced-was s whole (x ∷ xs) other still among =
@@ -86,7 +86,7 @@ module _ (k : ℕ) (others : List (Entry Val)) where
   spliced-by x xs ys other all more true = other
   spliced-by x xs ys other all more false = (all.0, more)
 
-  numbers-spliced : (es : List (Entry Val)) → AreNumbers others → AreNumbers es → AreNumbers (spliced k others es)
+  pub numbers-spliced : (es : List (Entry Val)) → AreNumbers others → AreNumbers es → AreNumbers (spliced k others es)
   numbers-spliced [] other all = tt
   numbers-spliced (x ∷ xs) other all = spliced-by x xs (spliced k others xs) other all (numbers-spliced xs other all.1) (x.slot == k)
 

@@ -341,7 +341,7 @@ pub edited : {d : ScriptState} {w : World Val} {outside : Claim → ℕ} → IsM
 edited {d} {w} {outside} m k was now may there link body mine =
     record {
       ledger = ledger;
-      lists = has-edited (IsListCell d) (IsSecondCell d) (IsStored d.bags d.world) w all m.ledger m.lists k was now there link
+      lists = has-edited (IsListCell d) (IsSecondCell d) (IsStored d.bags d.world) w (λ u. outside u + contained d u) m.ledger m.lists k was now there link
           (alone-unheld m k may.alone mine);
       bags = stays-as d w (with_value w k now) m.bags (λ c x. refl)
           (λ s x. (at-other w.values k s (Some now) None (λ same. owned-apart m k mine (subst (λ (i : ℕ). IsStored d.bags d.world i) same x)), refl));
