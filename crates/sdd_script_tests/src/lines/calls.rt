@@ -110,6 +110,15 @@ p0 linktag c0
 p0 next i0
 p0 next null g0
 p0 next o0 g0
+p0 append i0 o0 g0
+p0 append i0 o0 mark
+p0 append i0 o0 g0 mark
+p0 append i0 o0 marked g0
+p0 append i0 o0 none g0
+p0 append i0 none plain g0
+p0 append null o0 plain g0
+p0 append o0 i0 mark g0
+p0 mark i0 mark
 p0 all s0
 p0 all q0 g0
 p0 pushif s0 1 g0
