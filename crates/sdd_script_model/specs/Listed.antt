@@ -44,7 +44,7 @@ module _ (begins : ℕ → Type 0) where
     pub list : Begins w cell entries
     pub among : IsAmong s entries
 
-  -- a list of numbers begins in cell c, and none of its entries is in one of the lists
+  -- the list that begins in cell c has numbers, and no entry in common with one of the lists
   pub record IsLoose (w : World Val) (c : ℕ) : Type 0 where
     pub tag : Tag
     -- no line gives this tag to a link
@@ -59,7 +59,7 @@ module _ (begins : ℕ → Type 0) where
     pub lists : (c : ℕ) → begins c → (es : List (Entry Val)) × Begins w c es × AreNumbers es
     -- no entry is in two
     pub apart : (b c s : ℕ) (es fs : List (Entry Val)) → begins b → begins c → Begins w b es → Begins w c fs → IsAmong s es → IsAmong s fs → b ≡ c
-    -- a link holds nothing, or is that of an entry of one, or a list begins in it that has no entry with one in common
+    -- a link holds nothing, or is that of an entry of one, or begins a list elsewhere
     pub linked : (s : ℕ) (v : Val) → value_at w s ≡ Some v → ¬ (stored s) →
         (held_in (entry_at w.cells (link_of v)) ≡ None) ⊎ (IsListed w s ⊎ IsLoose w (link_of v))
     -- a second cell is that of a list, and holds one of its entries, or one that it has let go of, or nothing

@@ -135,7 +135,7 @@ pub record IsSound (d : ScriptState) : Type 0 where
   pub stocked : SlotsHaveNames d
   -- of each owner and each right to a cell there are as many as the world needs: those inside it, and those with names
   pub ledger : IsLedger holdings_of (λ u. named d u + contained d u) d.world
-  -- each queue and each stack is there, and a link that holds something is that of an entry of one, or of a bag's storage
+  -- each queue and each stack is there; a link that holds something is that of an entry of one, or of a bag's storage, or begins a list of numbers elsewhere
   pub lists : HasLists (IsListCell d) (IsSecondCell d) (IsStored d.bags d.world) d.world
   -- each bag is there, and the own cells of storages hold nothing
   pub bags : AreBags d
