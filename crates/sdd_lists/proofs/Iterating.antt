@@ -15,9 +15,11 @@ use Rattle.sdd_space.specs.World.{World}
 use Rattle.sdd_space.specs.WorldChanges.{held_in}
 use Rattle.sdd_space.proofs.Composed.{rest-of}
 use Rattle.sdd_lists.specs.declared.iter.Iter.{Iter}
+use Rattle.sdd_lists.specs.declared.iter.Position.{Position}
+use Rattle.sdd_lists.specs.declared.iter.Position.TheVariants.{Behind, First}
 use Rattle.sdd_lists.specs.declared.linked_entry.LinkedEntry.{LinkedEntry}
 use Rattle.sdd_lists.specs.Entries.{holdings_of, link_home_of, link_of, link_part, value_of}
-use Rattle.sdd_lists.specs.Iter.{GivesInOrder, GoesInOrder, IsBefore}
+use Rattle.sdd_lists.specs.Iter.{GivesInOrder, GoesInOrder, IsBefore, LeadsTo}
 use Rattle.sdd_lists.specs.Lists.{AreLinked, Entry, IsList, first_slot, first_value, is_deleted, is_deleting}
 use Rattle.sdd_lists.specs.Walk.{shown_of}
 use Rattle.sdd_lists.proofs.Order.{values-gone, values-kept}
@@ -40,77 +42,90 @@ module _ {T : Type 0} (w : World (LinkedEntry T)) where
   value-first c t es linked begins =
       ap (λ (o : Option CellContents). value_in w (held_in o)) begins ∙ first-there es linked
 
--- what is found in one borrow of a space by one cell's number is found in the other by the other
+-- the tag that is found in one borrow of a space by one cell's number is found in the other by the other
 module _ {T S : Type 0} (world : S → World (LinkedEntry T)) (s t : Bor S) (same : s ≡ t) (c l : ℕ) (cell : c ≡ l) where
-  pub value-at : (o : Option (LinkedEntry T)) → o ≡ value_held (world s.now) c → o ≡ value_held (world t.now) l
-  value-at o is = is ∙ ap (λ (x : Bor S). value_held (world x.now) c) same ∙ ap (λ (k : ℕ). value_held (world t.now) k) cell
-
   pub tag-at : (tag : Tag) → IfSome (entry_at (world s.now).cells c) (λ held. held.tag ≡ tag) →
       IfSome (entry_at (world t.now).cells l) (λ held. held.tag ≡ tag)
   tag-at tag is =
       subst (λ (k : ℕ). IfSome (entry_at (world t.now).cells k) (λ held. held.tag ≡ tag)) cell
       (subst (λ (x : Bor S). IfSome (entry_at (world x.now).cells c) (λ held. held.tag ≡ tag)) same is)
 
+-- what is ahead of a place in one borrow of a space is so in the other
+module _ {T S : Type 0} (world : S → World (LinkedEntry T)) (s t : Bor S) (same : s ≡ t) (position : Position T) (o : Option (LinkedEntry T)) where
+  pub ahead-at : ((es : List (Entry (LinkedEntry T))) → AreLinked link_of (world s.now) es → LeadsTo (world s.now) position es → o ≡ first_value es) →
+      (es : List (Entry (LinkedEntry T))) → AreLinked link_of (world t.now) es → LeadsTo (world t.now) position es → o ≡ first_value es
+  ahead-at = subst (λ (x : Bor S). (es : List (Entry (LinkedEntry T))) → AreLinked link_of (world x.now) es → LeadsTo (world x.now) position es →
+      o ≡ first_value es) same
+
 module _ {T S : Type 0} (w : World (LinkedEntry T)) where
-  pub gives-all : (it : Iter T S) (c : ℕ) (t : Tag) (es : List (Entry (LinkedEntry T))) → IsList link_of w c t es →
-      option_copied it.next ≡ value_held w c → length es ≤ it.most → GivesInOrder w it (shown_of es)
-  gives-all it c t es list next few = record {
+  pub gives-all : (it : Iter T S) (first : Option (Bor (LinkedEntry T))) (c : ℕ) (t : Tag) (es : List (Entry (LinkedEntry T))) → it.position ≡ First first →
+      IsList link_of w c t es → option_copied first ≡ value_held w c → length es ≤ it.most → GivesInOrder w it (shown_of es)
+  gives-all it first c t es at list next few = record {
     entries = es;
-    before = record { linked = list.linked; next = next ∙ value-first w c t es list.linked list.begins; few = few };
+    before = record {
+      linked = list.linked;
+      next = subst (λ (p : Position T). LeadsTo w p es) (sym at) (next ∙ value-first w c t es list.linked list.begins);
+      few = few;
+    };
     values = refl;
   }
 
-  -- at the end nothing is left
-  none-left : (it : Iter T S) (es : List (Entry (LinkedEntry T))) → it.next ≡ None → IsBefore w it es → es ≡ []
-  none-left it [] none before = refl
-  none-left it (e ∷ es) none before = let never : None ≡ Some e.value = sym (ap option_copied none) ∙ before.next in absurd (cc)
-
-  pub gives-none : (it : Iter T S) (vs : List T) → it.next ≡ None → GivesInOrder w it vs →
+  -- nothing is ahead
+  gives-nothing : (it : Iter T S) (vs : List T) (gives : GivesInOrder w it vs) → gives.entries ≡ [] →
       (None ≡ slice_get vs 0) × GivesInOrder w it (drop 1 vs)
-  gives-none it vs none gives =
-      let empty : gives.entries ≡ [] = none-left it gives.entries none gives.before in
+  gives-nothing it vs gives empty =
       let is : vs ≡ [] = gives.values ∙ ap (λ (es : List (Entry (LinkedEntry T))). shown_of es) empty in (
         sym (ap (λ (xs : List T). slice_get xs 0) is),
         record { entries = gives.entries; before = gives.before; values = ap (drop 1) is ∙ sym is ∙ gives.values },
       )
 
+  -- at the end nothing is left
+  pub gives-none : (it : Iter T S) (vs : List T) →
+      ((es : List (Entry (LinkedEntry T))) → AreLinked link_of w es → LeadsTo w it.position es → None ≡ first_value es) → GivesInOrder w it vs →
+      (None ≡ slice_get vs 0) × GivesInOrder w it (drop 1 vs)
+  gives-none it vs none gives = gives-nothing it vs gives (no-first gives.entries (none gives.entries gives.before.linked gives.before.next)) where
+    no-first : (es : List (Entry (LinkedEntry T))) → None ≡ first_value es → es ≡ []
+    no-first [] is = refl
+    no-first (e ∷ es) is = absurd (cc)
+
   -- an iterator that may give nothing more gives nothing
-  pub never-short : (it : Iter T S) (v : LinkedEntry T) (vs : List T) → option_copied it.next ≡ Some v → it.most ≡ 0 → GivesInOrder w it vs → ⊥
-  never-short it v vs next most gives = short gives.entries gives.before where
-    short : (es : List (Entry (LinkedEntry T))) → IsBefore w it es → ⊥
-    short [] before = let never : Some v ≡ None = sym next ∙ before.next in absurd (cc)
-    short (e ∷ es) before = let few : length (e ∷ es) ≤ it.most = before.few in absurd (omega (arith, few, most))
+  pub gives-no-more : (it : Iter T S) (vs : List T) → it.most ≡ 0 → GivesInOrder w it vs → (None ≡ slice_get vs 0) × GivesInOrder w it (drop 1 vs)
+  gives-no-more it vs most gives = gives-nothing it vs gives (short gives.entries gives.before.few) where
+    short : (es : List (Entry (LinkedEntry T))) → length es ≤ it.most → es ≡ []
+    short [] few = refl
+    short (e ∷ es) few = absurd (omega (arith, few, most))
 
   -- one entry on
-  module _ (it after : Iter T S) (v : LinkedEntry T) (next : option_copied it.next ≡ Some v)
-      (behind : option_copied after.next ≡ value_held w (link_of v)) (most : after.most ≡ it.most - 1)
-      (tag : Tag) (tagged : IfSome (entry_at w.cells (link_of v)) (λ held. held.tag ≡ tag)) where
+  module _ (it after : Iter T S) (entry : Bor (LinkedEntry T))
+      (ahead : (es : List (Entry (LinkedEntry T))) → AreLinked link_of w es → LeadsTo w it.position es → Some entry.now ≡ first_value es)
+      (behind : after.position ≡ Behind entry) (most : after.most ≡ it.most - 1)
+      (tag : Tag) (tagged : IfSome (entry_at w.cells (link_of entry.now)) (λ held. held.tag ≡ tag)) where
     record IsStep (es : List (Entry (LinkedEntry T))) : Type 0 where
-      entry : Entry (LinkedEntry T)
+      first : Entry (LinkedEntry T)
       rest : List (Entry (LinkedEntry T))
-      is : es ≡ entry ∷ rest
-      value : entry.value ≡ v
-      tag_is : entry.tag ≡ tag
+      is : es ≡ first ∷ rest
+      value : first.value ≡ entry.now
+      tag_is : first.tag ≡ tag
       before : IsBefore w after rest
 
     steps : (es : List (Entry (LinkedEntry T))) → IsBefore w it es → IsStep es
-    steps [] before = let never : Some v ≡ None = sym next ∙ before.next in absurd (cc)
+    steps [] before = let never : Some entry.now ≡ None = ahead [] before.linked before.next in absurd (cc)
     steps (e ∷ es) before =
-        let same : Some v ≡ Some e.value = sym next ∙ before.next in
-        let value : e.value ≡ v = cc in
+        let same : Some entry.now ≡ Some e.value = ahead (e ∷ es) before.linked before.next in
+        let value : e.value ≡ entry.now = cc in
         let linked = before.linked.0.linked in
         let few : length (e ∷ es) ≤ it.most = before.few in
-        let begins : entry_at w.cells (link_of v) ≡ Some (record { held = first_slot es; tag = e.tag }) =
+        let begins : entry_at w.cells (link_of entry.now) ≡ Some (record { held = first_slot es; tag = e.tag }) =
         subst (λ (x : LinkedEntry T). entry_at w.cells (link_of x) ≡ Some (record { held = first_slot es; tag = e.tag })) value linked in
         record {
-          entry = e;
+          first = e;
           rest = es;
           is = refl;
           value = value;
           tag_is = subst (λ (o : Option CellContents). IfSome o (λ held. held.tag ≡ tag)) begins tagged;
           before = record {
             linked = before.linked.1;
-            next = behind ∙ value-first w (link_of v) e.tag es before.linked.1 begins;
+            next = subst (λ (p : Position T). LeadsTo w p es) (sym behind) (ap held_in begins);
             few = omega (arith, few, most);
           };
         }
@@ -119,22 +134,22 @@ module _ {T S : Type 0} (w : World (LinkedEntry T)) where
     pub passes : (vs : List T) → is_deleting tag ≡ true → GivesInOrder w it vs → GivesInOrder w after vs
     passes vs deleted gives =
         let step = steps gives.entries gives.before in
-        let gone : is_deleted step.entry ≡ true = subst (λ (t : Tag). is_deleting t ≡ true) (sym step.tag_is) deleted in
+        let gone : is_deleted step.first ≡ true = subst (λ (t : Tag). is_deleting t ≡ true) (sym step.tag_is) deleted in
         record {
           entries = step.rest;
           before = step.before;
           values = gives.values ∙ ap (λ (es : List (Entry (LinkedEntry T))). shown_of es) step.is
-              ∙ ap (λ (vs : List (LinkedEntry T)). map value_of vs) (values-gone step.entry step.rest gone);
+              ∙ ap (λ (vs : List (LinkedEntry T)). map value_of vs) (values-gone step.first step.rest gone);
         }
 
     -- an entry that isn't deleted is shown
     pub shows : (vs : List T) → is_deleting tag ≡ false → GivesInOrder w it vs →
-        (Some (value_of v) ≡ slice_get vs 0) × GivesInOrder w after (drop 1 vs)
+        (Some (value_of entry.now) ≡ slice_get vs 0) × GivesInOrder w after (drop 1 vs)
     shows vs kept gives =
         let step = steps gives.entries gives.before in
-        let stays : is_deleted step.entry ≡ false = subst (λ (t : Tag). is_deleting t ≡ false) (sym step.tag_is) kept in
-        let values : vs ≡ value_of v ∷ shown_of step.rest = gives.values ∙ ap (λ (es : List (Entry (LinkedEntry T))). shown_of es) step.is
-        ∙ ap (λ (vs : List (LinkedEntry T)). map value_of vs) (values-kept step.entry step.rest stays)
+        let stays : is_deleted step.first ≡ false = subst (λ (t : Tag). is_deleting t ≡ false) (sym step.tag_is) kept in
+        let values : vs ≡ value_of entry.now ∷ shown_of step.rest = gives.values ∙ ap (λ (es : List (Entry (LinkedEntry T))). shown_of es) step.is
+        ∙ ap (λ (vs : List (LinkedEntry T)). map value_of vs) (values-kept step.first step.rest stays)
         ∙ ap (λ (x : LinkedEntry T). value_of x ∷ shown_of step.rest) step.value in (
           sym (ap (λ (xs : List T). slice_get xs 0) values),
           record { entries = step.rest; before = step.before; values = ap (drop 1) values },
