@@ -28,13 +28,12 @@ use Rattle.sdd_space.proofs.Rights.{given-same, spilled-same, held-cell_closed, 
 use Rattle.sdd_space.proofs.Sheds.{Sheds, sheds-cell, sheds-cell_closed, sheds-owner_given, sheds-same}
 use Rattle.sdd_space.proofs.Whole.{one_where}
 use Rattle.sdd_world.specs.Closing.{AllGo, cell_held, held_by}
-use Rattle.sdd_world.proofs.AllGo.{all-go}
+use Rattle.sdd_world.proofs.AllGo.{CellsFall, all-go}
 use Rattle.sdd_world.proofs.Sweeping.{all-uncounted}
 use Rattle.sdd_script_model.specs.Val.{Val, body_of, owner_in, link_of, link_holding, holdings_of, storage_in}
 use Rattle.sdd_bag.specs.Storages.{StorageName}
 use Rattle.sdd_script_model.specs.Bags.{AreBags, IsStored, is_own_cell, is_stack_cell}
 use Rattle.sdd_script_model.specs.ScriptState.{NumberBag, ScriptState, OpenSince, IsListCell, IsSecondCell, bag_at, holding_at, shared_cell, opening_at, place_in, slot_at, slot_of, cell_of, collector_of, name_at, in_world, without_owner}
-use Rattle.sdd_script_model.specs.Shown.{number_in}
 use Rattle.sdd_script_model.specs.Sound.{IsSound, SlotsHaveNames, NamesAreAtHome, has_right, is_of, named, named_owners, owns, contained}
 use Rattle.sdd_script_model.specs.Script.{Acts, HasOpen, Meets}
 use Rattle.sdd_script_commands.specs.Leaving.{SpendsOwner, SpendsCell, SpendsCollector, SpendsGuard, LeavesRaw}
@@ -60,6 +59,7 @@ use Rattle.sdd_script_model.proofs.Chains.{are-own, at_home-spent}
 use Rattle.sdd_script_model.proofs.JobDates.{job_dates-shut}
 use Rattle.sdd_script_model.proofs.Counting.{accounts, cell-spent, collector-spent, linked, out-there, owned-out, owner-spent, some-holding}
 use Rattle.sdd_interpreter.proofs.Collectors.{collectors-spent, number-is}
+use Rattle.sdd_script_commands.proofs.Ranks.{link-falls, rank, value-falls}
 use Rattle.sdd_script_model.proofs.Layers.{layered-less}
 use Rattle.sdd_script_model.proofs.Links.{less-same, less-shed}
 use Rattle.sdd_script_model.proofs.Listed.{has-stored}
@@ -363,18 +363,24 @@ module _ (d : ScriptState) (s : IsSound d) (whole : IsWhole d.world) (owners : (
   no-list c (inl (n, is)) = let never : None ≡ Some c = sym (ap shared_cell (queues n)) ∙ is in cc
   no-list c (inr (n, is)) = let never : None ≡ Some c = sym (ap shared_cell (stacks n)) ∙ is in cc
 
-  bare : (k : ℕ) (v : Val) → value_at d.world k ≡ Some v → held_in (entry_at d.world.cells (link_of v)) ≡ None
-  bare k v there = elim (s.lists.linked k v there (no-stored d.bags none d.world k)) [ inl none ↦ none | inr at ↦ absurd (no-list at.cell at.begun) ]
+  abbrev its_rank : ℕ → ℕ
+  its_rank = rank d s no-list (λ k. no-stored d.bags none d.world k)
 
-  idle : (c : ℕ) → held_in (entry_at d.world.cells c) ≡ None
-  idle c = by (entry_at d.world.cells c) refl where
-    by : (e : Option CellContents) → entry_at d.world.cells c ≡ e → held_in e ≡ None
-    by None is = refl
-    by (Some cell) is =
-        sym (ap held_in is) ∙ elim (linked d s c (no-rights c) (ap is_some is)) [
-          | inl at ↦ ap (λ b. held_in (entry_at d.world.cells b)) (sym at.3) ∙ bare at.0 at.1 at.2
-          | inr own ↦ s.spare c own
-        ]
+  -- a cell that holds something is the link of a value
+  cells-fall : CellsFall holdings_of d.world its_rank
+  cells-fall c k holds = elim (linked d s c (no-rights c) (taken (entry_at d.world.cells c) holds)) [
+    | inl at ↦ (
+      at.0,
+      length (owner_in (body_of at.1)),
+      ap (λ (v : Option Val). cell_held (held_by holdings_of v (length (owner_in (body_of at.1))))) at.2 ∙ link-held at.1 ∙ ap Some at.3,
+      link-falls d s no-list (λ i. no-stored d.bags none d.world i) at.0 k at.1 at.2
+          (ap (λ (b : ℕ). held_in (entry_at d.world.cells b)) at.3 ∙ holds),
+    )
+    | inr own ↦ absurd (let never : None ≡ Some k = sym (s.spare c own) ∙ holds in cc)
+  ] where
+    taken : (x : Option CellContents) → held_in x ≡ Some k → is_some x ≡ true
+    taken None never = absurd (cc)
+    taken (Some x) is = refl
 
   -- a cell that is taken is a value's
   stands : (c : ℕ) → IsSome (entry_at d.world.cells c) → (j : ℕ) × (i : ℕ) × (cell_held (held_by holdings_of (value_at d.world j) i) ≡ Some c)
@@ -394,7 +400,8 @@ module _ (d : ScriptState) (s : IsSound d) (whole : IsWhole d.world) (owners : (
   -- all that is out goes with what waits, where no item is out as raw
   pub goes-all : ((k : ℕ) → standing_at d.world k ≢ Some Raw) → AllGo holdings_of d.world
   goes-all none_raw =
-      all-go holdings_of d.world whole.filled (λ k. number_in (name_at d k)) no-owners idle none_raw s.layered stands
+      all-go holdings_of d.world whole.filled its_rank no-owners none_raw
+      (value-falls d s no-list (λ k. no-stored d.bags none d.world k)) cells-fall stands
 
 -- where nothing stands for a name, nothing is in hand
 pub none-in : {X Y : Type 0} (f : Option X → Option Y) → ((x : X) → f (Some x) ≡ f None → ⊥) → (xs : List (Option X)) →

@@ -12,6 +12,7 @@ pub mod QueueActs
 pub mod CopyActs
 pub mod BagActs
 pub mod GuardActs
+pub mod Ranks
 pub mod Ending
 pub mod ListEnding
 pub mod StackEnding

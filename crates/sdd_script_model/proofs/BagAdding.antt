@@ -360,6 +360,7 @@ module _ (d : ScriptState) (s : IsSound d) (whole : IsWhole d.world) (p n : ℕ)
         (λ j y there off. (let at = link-cell j y there in cell-still (link_of y) at.0 at.1 (stack-kept (link_of y) (link-apart-from midway j y there off))))
         value-still
         (λ j at. among-apart midway at.cell j no_tag at.entries (list-apart-from midway at.cell at.begun) at.list at.among)
+        (λ j y there off loose i among. among-apart midway (link_of y) i loose.tag loose.entries (link-apart-from midway j y there off) loose.list among)
         (λ i b j y holds. off-held d d.world (named d) s.ledger midway.bags b j (λ kept. second-apart-from midway i b y (inl kept)) holds)
         (λ j y at not_now. elim (cases_eq j k) [
           | inl same ↦

@@ -22,7 +22,7 @@ use Rattle.sdd_lists.proofs.Pushing.{go-other}
 use Rattle.sdd_bag.specs.Overflow.{AreElsewhere, AreShelves, RemovesStorage, RemovesStorages}
 use Rattle.sdd_bag.proofs.Standing.{keeps-shelves}
 use Rattle.sdd_script_model.specs.Bags.{StandsOn, bagged, is_own_cell, is_stack_cell}
-use Rattle.sdd_script_model.specs.Listed.{Begins, HasLists, IsListed}
+use Rattle.sdd_script_model.specs.Listed.{HasLists, IsListed, IsLoose}
 use Rattle.sdd_script_model.specs.ScriptState.{NumberBag, ScriptState, bag_at, bag_length, without_bag}
 use Rattle.sdd_script_model.specs.Sound.{IsSound, contained, named}
 use Rattle.sdd_script_model.specs.Val.{Val, link_of, storage_in}
@@ -31,7 +31,7 @@ use Rattle.sdd_script_model.proofs.Entry.{inside as inside-list}
 use Rattle.sdd_script_model.proofs.Frames.{frames-start}
 use Rattle.sdd_script_model.proofs.Gone.{given-other}
 use Rattle.sdd_script_model.proofs.Links.{same-once}
-use Rattle.sdd_script_model.proofs.Listed.{StaysGone, as-before, has-kept_so}
+use Rattle.sdd_script_model.proofs.Listed.{StaysGone, as-before, has-kept_so, loose-as}
 use Rattle.sdd_script_model.proofs.StackChains.{IsBetween, first-goes}
 use Rattle.sdd_script_model.proofs.Storing.{BagsStay, IsReserved, off-other}
 use Rattle.sdd_space.specs.WorldInvariant.{IsWhole}
@@ -342,20 +342,20 @@ module _ (begins : ℕ → Type 0) (seconds : (c b : ℕ) → Type 0) (stored no
     (links : (s : ℕ) (x : Val) → value_at v s ≡ Some x → (stored s → ⊥) → entry_at w.cells (link_of x) ≡ entry_at v.cells (link_of x))
     (values : (s : ℕ) (x : Val) → value_at v s ≡ Some x → value_at w s ≡ Some x)
     (off : (s : ℕ) → IsListed begins v s → stored s → ⊥)
+    (off_loose : (s : ℕ) (x : Val) → value_at v s ≡ Some x → (stored s → ⊥) → (old : IsLoose begins v (link_of x)) (j : ℕ) → IsAmong j old.entries →
+    stored j → ⊥)
     (gone : (c b s : ℕ) → seconds c b → held_in (entry_at v.cells b) ≡ Some s → stored s → ⊥)
     (were : (s : ℕ) (x : Val) → value_at w s ≡ Some x → (now s → ⊥) →
     (held_in (entry_at w.cells (link_of x)) ≡ None) ⊎ ((value_at v s ≡ Some x) × (stored s → ⊥))) where
-  linked-still : (c : ℕ) → begins c → (full : List (Entry Val)) → Begins v c full → (es : List (Entry Val)) → ((s : ℕ) → IsAmong s es → IsAmong s full) →
-      AreLinked link_of v es → AreLinked link_of w es
-  linked-still c x full list [] within linked = tt
-  linked-still c x full list (e ∷ es) within linked = (
+  linked-still : (es : List (Entry Val)) → ((s : ℕ) → IsAmong s es → stored s → ⊥) → AreLinked link_of v es → AreLinked link_of w es
+  linked-still [] plain linked = tt
+  linked-still (e ∷ es) plain linked = (
     record {
       there = values e.slot e.value linked.0.there;
-      linked = links e.slot e.value linked.0.there
-          (off e.slot (record { cell = c; entries = full; begun = x; list = list; among = within e.slot (inl refl) })) ∙ linked.0.linked;
+      linked = links e.slot e.value linked.0.there (plain e.slot (inl refl)) ∙ linked.0.linked;
       plain = linked.0.plain;
     },
-    linked-still c x full list es (λ s among. within s (inr among)) linked.1,
+    linked-still es (λ s among. plain s (inr among)) linked.1,
   )
 
   stays-gone : StaysGone seconds v w
@@ -368,12 +368,20 @@ module _ (begins : ℕ → Type 0) (seconds : (c b : ℕ) → Type 0) (stored no
   pub has-apart : HasLists begins seconds now w
   has-apart =
       has-kept_so begins seconds stored v w had now
-      (λ c x es list. as-before (record { begins = first c x ∙ list.begins; linked = linked-still c x es list es (λ s among. among) list.linked }))
-      (λ s x at not. elim (were s x at not) [
+      (λ c x es list. as-before (record {
+        begins = first c x ∙ list.begins;
+        linked = linked-still es (λ s among. off s (record { cell = c; entries = es; begun = x; list = list; among = among })) list.linked;
+      }))
+      (λ s x at not listed. elim (were s x at not) [
         | inl none ↦ inl none
         | inr was ↦ elim (had.linked s x was.0 was.1) [
           | inl none ↦ inl (ap held_in (links s x was.0 was.1) ∙ none)
-          | inr listed ↦ inr listed
+          | inr (inl is_in) ↦ inr (inl is_in)
+          | inr (inr loose) ↦
+              inr (inr (loose-as loose (record {
+                begins = links s x was.0 was.1 ∙ loose.list.begins;
+                linked = linked-still loose.entries (off_loose s x was.0 was.1 loose) loose.list.linked;
+              }) (λ j among. listed j)))
         ]
       ])
       second stays-gone

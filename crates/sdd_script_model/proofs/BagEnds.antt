@@ -307,6 +307,7 @@ module _ (d : ScriptState) (s : IsSound d) (whole : IsWhole d.world) (p n : ℕ)
         (λ j x there not. cell-still (link_of x) (link-far j x there not))
         (λ j x there. ap (λ (vs : List (Option Val)). slice_index_or vs j None) values-same ∙ there)
         (λ j at. among-apart start at.cell j no_tag at.entries (list-apart-from start at.cell at.begun) at.list at.among)
+        (λ j y there off loose i among. among-apart start (link_of y) i loose.tag loose.entries (link-apart-from start j y there off) loose.list among)
         (λ i k j y holds. off-held d d.world (named d) s.ledger start.bags k j (λ kept. second-apart-from start i k y (inl kept)) holds)
         (λ j x at not_now. elim (among-or j es) [
           | inl among ↦ inl (gone-bare j x among (value-was j x at))

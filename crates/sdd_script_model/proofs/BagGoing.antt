@@ -335,6 +335,7 @@ module _ (d : ScriptState) (s : IsSound d) (whole : IsWhole d.world) (p n : ℕ)
           (apart-item d.world total s.ledger j x there (gone ++ rest) stood.stack.linked (λ among. not (its-stored j among))))
           (λ j x there. ap (λ (vs : List (Option Val)). slice_index_or vs j None) values-same ∙ there)
           (λ j at. among-apart start at.cell j no_tag at.entries (list-apart-from start at.cell at.begun) at.list at.among)
+          (λ j y there off loose i among. among-apart start (link_of y) i loose.tag loose.entries (link-apart-from start j y there off) loose.list among)
           (λ i b j y holds. off-held d d.world (named d) s.ledger start.bags b j (λ kept. second-apart-from start i b y (inl kept)) holds)
           were
 

@@ -23,7 +23,7 @@ use Rattle.sdd_standings.specs.Slots.{IsSharedBy}
 use Rattle.sdd_lists.specs.Ends.{IsAmong}
 use Rattle.sdd_lists.specs.Lists.{Entry, IsList, is_deleted, left as left_of}
 use Rattle.sdd_script_model.specs.Bags.{AreBags, AreSpare, IsStored}
-use Rattle.sdd_script_model.specs.Listed.{HasLists, IsListed}
+use Rattle.sdd_script_model.specs.Listed.{HasLists}
 use Rattle.sdd_script_model.specs.ScriptState.{ScriptState, IsDated, IsListCell, IsSecondCell, holding_at, shared_cell}
 use Rattle.sdd_script_model.specs.Script.{AreCalls}
 use Rattle.sdd_script_model.specs.Sound.{IsSound, HoldsOnlyOlder, NamesAreAtHome, SlotsHaveNames, named, named_among, contained, stacked}
@@ -37,7 +37,7 @@ use Rattle.sdd_script_model.proofs.Layers.{layered-less}
 use Rattle.sdd_script_model.proofs.Counting.{some-holding, stack-spent}
 use Rattle.sdd_script_model.proofs.Links.{holds-so, less-edited, less-same, same-once}
 use Rattle.sdd_script_model.proofs.ListChanges.{has-beside, has-edited, has-retagged}
-use Rattle.sdd_script_model.proofs.Listed.{AreOwn, has-still, has-stored, listed-inside}
+use Rattle.sdd_script_model.proofs.Listed.{AreOwn, has-still, has-stored}
 use Rattle.sdd_script_model.proofs.Storing.{BagsStay, IsReserved, Spares, bags-still, off-among, off-link, off-other, off-owned, spare-as, spare-on, stays-as, stays-on, stored-still}
 use Rattle.sdd_script_model.proofs.Stocked.{stocked-as}
 
@@ -275,11 +275,11 @@ cell-apart {d} {w} {outside} m c mine b x same =
     let one = ((ledger-laws holdings_of w).tells (λ u. outside u + contained d u) m.ledger).alone c (omega (arith, mine)) in
     omega (arith, one.1, mine, other)
 
--- an item of which somebody outside has the one owner is in no list
-pub alone-unlisted : {d : ScriptState} {w : World Val} {outside : Claim → ℕ} → IsMidway d w outside → (k : ℕ) → IsAlone (standing_at w k) →
-    1 ≤ outside (owner_of k) → IsListed (IsListCell d) w k → ⊥
-alone-unlisted {d} {w} {outside} m k alone mine at =
-    let inner = listed-inside w (λ u. outside u + contained d u) m.ledger (IsListCell d) k at in
+-- an item of which somebody outside has the one owner is held by no cell
+pub alone-unheld : {d : ScriptState} {w : World Val} {outside : Claim → ℕ} → IsMidway d w outside → (k : ℕ) → IsAlone (standing_at w k) →
+    1 ≤ outside (owner_of k) → (b : ℕ) → held_in (entry_at w.cells b) ≡ Some k → ⊥
+alone-unheld {d} {w} {outside} m k alone mine b holds =
+    let inner = ((ledger-laws holdings_of w).tells (λ u. outside u + contained d u) m.ledger).in_cell b k holds in
     let stands = ((ledger-laws holdings_of w).tells (λ u. outside u + contained d u) m.ledger).stands k (omega (arith, mine)) in
     by alone stands (omega (arith, mine, inner)) where
       by : {n : ℕ} → IsAlone (standing_at w k) → HasOwners n (standing_at w k) → 2 ≤ n → ⊥
@@ -341,7 +341,8 @@ pub edited : {d : ScriptState} {w : World Val} {outside : Claim → ℕ} → IsM
 edited {d} {w} {outside} m k was now may there link body mine =
     record {
       ledger = ledger;
-      lists = has-edited (IsListCell d) (IsSecondCell d) (IsStored d.bags d.world) w m.lists k was now there link (alone-unlisted m k may.alone mine);
+      lists = has-edited (IsListCell d) (IsSecondCell d) (IsStored d.bags d.world) w (λ u. outside u + contained d u) m.ledger m.lists k was now there link
+          (alone-unheld m k may.alone mine);
       bags = stays-as d w (with_value w k now) m.bags (λ c x. refl)
           (λ s x. (at-other w.values k s (Some now) None (λ same. owned-apart m k mine (subst (λ (i : ℕ). IsStored d.bags d.world i) same x)), refl));
       spare = spare-as w (with_value w k now) (less-edited w k was now there link body) (λ c x. refl) m.spare;

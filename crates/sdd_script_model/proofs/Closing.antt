@@ -29,6 +29,7 @@ use Rattle.sdd_script_model.proofs.Entry.{at-end, at-other, at-same}
 use Rattle.sdd_script_model.proofs.Entry.{inside as inside-list}
 use Rattle.sdd_script_model.proofs.Gone.{given-other}
 use Rattle.sdd_script_model.proofs.ListChanges.{among-or}
+use Rattle.sdd_script_model.proofs.Listed.{loose-as}
 use Rattle.sdd_script_model.proofs.Storing.{off-standing}
 
 -- ---- what has one owner waits once that is given up, and what waits goes on to
@@ -214,8 +215,16 @@ module _ (new was : ScriptState) (es : List (Entry Val)) (queues newest stacks :
         apart = λ b c j gs hs x y one two at also. s.lists.apart b c j gs hs (to-list b x) (to-list c y) one two at also;
         linked = λ j v e not. elim (s.lists.linked j v e not) [
           | inl none ↦ inl none
-          | inr at ↦
-              inr (record { cell = at.cell; entries = at.entries; begun = from-list at.cell at.begun; list = at.list; among = at.among })
+          | inr (inl at) ↦
+              inr (inl (record { cell = at.cell; entries = at.entries; begun = from-list at.cell at.begun; list = at.list; among = at.among }))
+          | inr (inr loose) ↦
+              inr (inr (loose-as loose loose.list (λ i among at. record {
+                cell = at.cell;
+                entries = at.entries;
+                begun = to-list at.cell at.begun;
+                list = at.list;
+                among = at.among;
+              })))
         ];
         second = λ c b (n, oldest, newest_is).
             (let own = s.lists.second c b (n, ap shared_cell (f.in_queues n) ∙ oldest, ap shared_cell (f.in_newest n) ∙ newest_is) in

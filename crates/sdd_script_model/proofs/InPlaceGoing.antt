@@ -35,7 +35,7 @@ use Rattle.sdd_script_model.proofs.Dates.{dated-same, dated-stands, dated-kept, 
 use Rattle.sdd_script_model.specs.Listed.{IsListed}
 use Rattle.sdd_script_model.proofs.Links.{same-once}
 use Rattle.sdd_script_model.proofs.Counting.{accounts, owner-given, owner-spent, some-holding}
-use Rattle.sdd_script_model.proofs.Chains.{LeavesSound, alone-unlisted, at_home-given, at_home-spent, edited, finishes, moves, owned-apart, starts}
+use Rattle.sdd_script_model.proofs.Chains.{LeavesSound, at_home-given, at_home-spent, edited, finishes, moves, owned-apart, starts}
 use Rattle.sdd_script_model.specs.Bags.{IsStored}
 use Rattle.sdd_script_model.proofs.Storing.{spare-bare}
 use Rattle.sdd_script_model.proofs.Going.{shared-is, sole-is}

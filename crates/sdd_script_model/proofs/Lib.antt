@@ -28,6 +28,7 @@ pub mod BagAdding
 pub mod BagEnds
 pub mod BagLeaving
 pub mod BehindGoing
+pub mod Appending
 pub mod QueueGoing
 pub mod QueueEnds
 pub mod QueuePushing

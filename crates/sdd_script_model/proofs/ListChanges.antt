@@ -11,7 +11,7 @@ use Rattle.sdd_space.specs.Ledger.{inside as inner}
 use Rattle.sdd_space.specs.World.{World, standing_at, value_at}
 use Rattle.sdd_space.specs.WorldChanges.{held_in, nulled, with_cell, with_value, without_cell}
 use Rattle.sdd_lists.specs.Ends.{IsAmong}
-use Rattle.sdd_lists.specs.Lists.{Apart, AreLinked, Entry, first_slot, let_go_first, linked_in}
+use Rattle.sdd_lists.specs.Lists.{Apart, AreLinked, Entry, IsList, first_slot, let_go_first, linked_in}
 use Rattle.sdd_lists.specs.Marks.{retagged}
 use Rattle.sdd_lists.proofs.Ending.{linked-ends}
 use Rattle.sdd_lists.proofs.Leaving.{list-apart, list-without}
@@ -20,20 +20,21 @@ use Rattle.sdd_lists.proofs.Marking.{retagged-list}
 use Rattle.sdd_lists.proofs.Pushing.{pushed}
 use Rattle.sdd_lists.proofs.LetGo.{KeepsGone, gone-first, gone-same, gone-then, gone-written, let-go-kept, other-free, other-tag, second-kept}
 use Rattle.sdd_lists.specs.Queue.{IsSecond}
-use Rattle.sdd_script_model.specs.Listed.{AreNumbers, Begins, HasLists, HoldsEntry, IsListed, IsNumber}
+use Rattle.sdd_script_model.specs.Listed.{AreNumbers, Begins, HasLists, HoldsEntry, IsListed, IsLoose, IsNumber}
 use Rattle.sdd_script_model.specs.Val.{Val, body_of, holdings_of, link_of}
 use Rattle.sdd_script_model.proofs.Entry.{at-other, at-same, inside, set-either}
 use Rattle.sdd_script_model.proofs.Links.{null}
 use Rattle.sdd_space.proofs.Entries.{once-waits}
-use Rattle.sdd_script_model.proofs.Listed.{AreOwn, StaysGone, still-among, link-inside, IsAsBefore, among-link, apart-item, apart-own, as-before, has-changed, has-kept, link-apart, links-apart, same-list}
+use Rattle.sdd_script_model.proofs.Listed.{AreOwn, StaysGone, StaysLoose, still-among, link-inside, IsAsBefore, among-link, apart-item, apart-own, as-before, has-changed, has-kept, held-by, link-apart, links-apart, loose-as, loose-on, same-list}
 
 -- two cells are written, and nothing else changes in cells and values: what list stays, and what a third cell holds
 module _ (v w : World Val) (l c : ℕ) (x y : CellContents) (cells : w.cells ≡ slice_set (slice_set v.cells l (Some x)) c (Some y))
     (values : w.values ≡ v.values) where
-  pub list-beside : (b : ℕ) (es : List (Entry Val)) → b ≢ l → b ≢ c → Apart link_of l es → Apart link_of c es → Begins v b es → Begins w b es
-  list-beside b es far off all also list =
-      list-apart link_of (with_cell v l x) w b no_tag es c y cells values off also
-      (list-apart link_of v (with_cell v l x) b no_tag es l x refl refl far all list)
+  pub list-beside : (b : ℕ) (t : Tag) (es : List (Entry Val)) → b ≢ l → b ≢ c → Apart link_of l es → Apart link_of c es → IsList link_of v b t es →
+      IsList link_of w b t es
+  list-beside b t es far off all also list =
+      list-apart link_of (with_cell v l x) w b t es c y cells values off also
+      (list-apart link_of v (with_cell v l x) b t es l x refl refl far all list)
 
   pub third : (i : ℕ) → i ≢ l → i ≢ c → entry_at w.cells i ≡ entry_at v.cells i
   third i far off =
@@ -83,31 +84,53 @@ module _ (begins : ℕ → Type 0) (seconds : (c b : ℕ) → Type 0) (stored : 
 
     forward : (b : ℕ) → begins b → b ≢ c → (gs : List (Entry Val)) → Begins v b gs → Begins w b gs
     forward b x far gs list =
-        list-beside v w (link_of e.value) c gone next cells values b gs (link-apart v outside ledger b e.slot e.value (own.first b x) there) far
+        list-beside v w (link_of e.value) c gone next cells values b no_tag gs (link-apart v outside ledger b e.slot e.value (own.first b x) there) far
         (apart-item v outside ledger e.slot e.value there gs list.linked (λ among. far (had.apart b c e.slot gs (e ∷ es) x its list old among (inl refl))))
         (apart-own v outside ledger c (own.first c its) gs list.linked) list
 
-    links : (s : ℕ) (z : Val) → value_at w s ≡ Some z → (stored s → ⊥) → (held_in (entry_at w.cells (link_of z)) ≡ None) ⊎ (IsAmong s es
-        ⊎ ((at : IsListed begins v s) × (at.cell ≢ c)))
-    links s z e_now not =
+    bare-now : (s : ℕ) (z : Val) → value_at v s ≡ Some z → link_of e.value ≡ link_of z → held_in (entry_at w.cells (link_of z)) ≡ None
+    bare-now s z was link =
+        ap (λ (cs : Entries CellContents). held_in (entry_at cs (link_of z))) cells
+        ∙ ap held_in (at-other (slice_set v.cells (link_of e.value) (Some gone)) c (link_of z) (Some next) None
+        (λ same. link-apart v outside ledger c s z (own.first c its) was (sym same)))
+        ∙ ap (λ (i : ℕ). held_in (entry_at (slice_set v.cells (link_of e.value) (Some gone)) i)) (sym link)
+        ∙ ap held_in (at-same v.cells (link_of e.value) (Some gone) None (inside v.cells (link_of e.value) (ap is_some old.linked.0.linked)))
+
+    in-it : (j : ℕ) → IsAmong j (e ∷ es) → IsListed begins v j
+    in-it j among = record { cell = c; entries = e ∷ es; begun = its; list = old; among = among }
+
+    -- a chain elsewhere has no entry of the list
+    loose-now : (s : ℕ) (z : Val) → value_at v s ≡ Some z → link_of z ≢ link_of e.value → IsLoose begins v (link_of z) →
+        ((j : ℕ) → IsListed begins w j → IsListed begins v j ⊎ IsAmong j es) → IsLoose begins w (link_of z)
+    loose-now s z was far loose listed =
+        loose-as loose
+        (list-beside v w (link_of e.value) c gone next cells values (link_of z) loose.tag loose.entries far
+        (λ same. link-apart v outside ledger c s z (own.first c its) was (sym same))
+        (apart-item v outside ledger e.slot e.value there loose.entries loose.list.linked (λ among. loose.free e.slot among (in-it e.slot (inl refl))))
+        (apart-own v outside ledger c (own.first c its) loose.entries loose.list.linked) loose.list)
+        (λ j among at. elim (listed j at) [ inl was_in ↦ was_in | inr more ↦ in-it j (inr more) ])
+
+    links : (s : ℕ) (z : Val) → value_at w s ≡ Some z → (stored s → ⊥) → ((j : ℕ) → IsListed begins w j → IsListed begins v j ⊎ IsAmong j es) →
+        (held_in (entry_at w.cells (link_of z)) ≡ None) ⊎ (IsAmong s es ⊎ (((at : IsListed begins v s) × (at.cell ≢ c)) ⊎ IsLoose begins w (link_of z)))
+    links s z e_now not listed =
         let was = value-was v w (link_of e.value) c gone next cells values s z e_now in
         let off : link_of z ≢ c = λ same. link-apart v outside ledger c s z (own.first c its) was (sym same) in
         elim (had.linked s z was not) [
           | inl none ↦ inl (none-still v w (link_of e.value) c gone next cells values (link_of z) off refl none)
-          | inr at ↦ elim (cases_eq at.cell c) [
+          | inr (inr loose) ↦ elim (cases_eq (link_of z) (link_of e.value)) [
+            | inl same ↦ inl (bare-now s z was (sym same))
+            | inr far ↦ inr (inr (inr (loose-now s z was far loose listed)))
+          ]
+          | inr (inl at) ↦ elim (cases_eq at.cell c) [
             | inl same ↦
                 elim (subst (λ fs. IsAmong s fs) (same-list v c at.entries (e ∷ es) (subst (λ i. Begins v i at.entries) same at.list) old) at.among) [
                   | inl here ↦
                       (let both : Some e.value ≡ Some z = sym there ∙ ap (λ (k : ℕ). value_at v k) here ∙ was in
                       let is : e.value ≡ z = cc in
-                      let link : link_of e.value ≡ link_of z = ap link_of is in
-                      inl (ap (λ (cs : Entries CellContents). held_in (entry_at cs (link_of z))) cells
-                      ∙ ap held_in (at-other (slice_set v.cells (link_of e.value) (Some gone)) c (link_of z) (Some next) None off)
-                      ∙ ap (λ (i : ℕ). held_in (entry_at (slice_set v.cells (link_of e.value) (Some gone)) i)) (sym link)
-                      ∙ ap held_in (at-same v.cells (link_of e.value) (Some gone) None (inside v.cells (link_of e.value) (ap is_some old.linked.0.linked)))))
+                      inl (bare-now s z was (ap link_of is)))
                   | inr more ↦ inr (inl more)
                 ]
-            | inr far ↦ inr (inr (at, far))
+            | inr far ↦ inr (inr (inl (at, far)))
           ]
         ]
 
@@ -125,7 +148,8 @@ module _ (begins : ℕ → Type 0) (seconds : (c b : ℕ) → Type 0) (stored : 
   -- ---- an item is put in front, whose link holds nothing
 
   module _ (k : ℕ) (x : Val) (es : List (Entry Val)) (old : Begins v c es) (numbers : AreNumbers es) (there : value_at v k ≡ Some x)
-      (clear : entry_at v.cells (link_of x) ≡ Some null) (number : IsNumber (body_of x)) (alone : IsListed begins v k → ⊥) where
+      (clear : entry_at v.cells (link_of x) ≡ Some null) (number : IsNumber (body_of x))
+      (unheld : (b : ℕ) → held_in (entry_at v.cells b) ≡ Some k → ⊥) where
     abbrev behind_it : CellContents
     behind_it = record { held = first_slot es; tag = no_tag }
 
@@ -141,34 +165,56 @@ module _ (begins : ℕ → Type 0) (seconds : (c b : ℕ) → Type 0) (stored : 
     far-link : c ≢ link_of x
     far-link = link-apart v outside ledger c k x (own.first c its) there
 
-    not-in : (b : ℕ) → begins b → (gs : List (Entry Val)) → Begins v b gs → IsAmong k gs → ⊥
-    not-in b y gs list among = alone (record { cell = b; entries = gs; begun = y; list = list; among = among })
+    not-in : (b : ℕ) (t : Tag) (gs : List (Entry Val)) → IsList link_of v b t gs → IsAmong k gs → ⊥
+    not-in b t gs list among = let by = held-by v outside ledger b k gs (ap held_in list.begins) list.linked among in unheld by.0 by.1
+
+    alone : IsListed begins v k → ⊥
+    alone at = not-in at.cell no_tag at.entries at.list at.among
 
     longer : Begins wider c (entry ∷ es)
-    longer = pushed link_of v c no_tag es k x old there clear far-link (apart-item v outside ledger k x there es old.linked (not-in c its es old))
+    longer = pushed link_of v c no_tag es k x old there clear far-link (apart-item v outside ledger k x there es old.linked (not-in c no_tag es old))
 
     kept-others : (b : ℕ) → begins b → b ≢ c → (gs : List (Entry Val)) → Begins v b gs → Begins wider b gs
     kept-others b y far gs list =
-        list-beside v wider (link_of x) c behind_it in_front refl refl b gs (link-apart v outside ledger b k x (own.first b y) there) far
-        (apart-item v outside ledger k x there gs list.linked (not-in b y gs list)) (apart-own v outside ledger c (own.first c its) gs list.linked) list
+        list-beside v wider (link_of x) c behind_it in_front refl refl b no_tag gs (link-apart v outside ledger b k x (own.first b y) there) far
+        (apart-item v outside ledger k x there gs list.linked (not-in b no_tag gs list)) (apart-own v outside ledger c (own.first c its) gs list.linked) list
 
     fresh-or : (s : ℕ) → IsAmong s (entry ∷ es) → IsAmong s es ⊎ (IsListed begins v s → ⊥)
     fresh-or s (inl here) = inr (λ at. alone (subst (λ i. IsListed begins v i) (sym here) at))
     fresh-or s (inr there) = inl there
 
-    linked-or : (s : ℕ) (z : Val) → value_at wider s ≡ Some z → (stored s → ⊥) → (held_in (entry_at wider.cells (link_of z)) ≡ None) ⊎ (IsAmong s (entry ∷ es)
-        ⊎ ((at : IsListed begins v s) × (at.cell ≢ c)))
-    linked-or s z was not = elim (cases_eq (link_of z) (link_of x)) [
+    -- the item is in no chain elsewhere
+    loose-beside : (s : ℕ) (z : Val) → value_at v s ≡ Some z → link_of z ≢ link_of x → IsLoose begins v (link_of z) →
+        ((j : ℕ) → IsListed begins wider j → IsListed begins v j ⊎ IsAmong j (entry ∷ es)) → IsLoose begins wider (link_of z)
+    loose-beside s z was far loose listed =
+        let not_it = not-in (link_of z) loose.tag loose.entries loose.list in
+        loose-as loose
+        (list-beside v wider (link_of x) c behind_it in_front refl refl (link_of z) loose.tag loose.entries far
+        (λ same. link-apart v outside ledger c s z (own.first c its) was (sym same))
+        (apart-item v outside ledger k x there loose.entries loose.list.linked not_it)
+        (apart-own v outside ledger c (own.first c its) loose.entries loose.list.linked) loose.list)
+        (λ j among at. elim (listed j at) [
+          | inl was_in ↦ was_in
+          | inr (inl here) ↦ absurd (not_it (subst (λ (i : ℕ). IsAmong i loose.entries) (sym here) among))
+          | inr (inr more) ↦ record { cell = c; entries = es; begun = its; list = old; among = more }
+        ])
+
+    linked-or : (s : ℕ) (z : Val) → value_at wider s ≡ Some z → (stored s → ⊥) →
+        ((j : ℕ) → IsListed begins wider j → IsListed begins v j ⊎ IsAmong j (entry ∷ es)) →
+        (held_in (entry_at wider.cells (link_of z)) ≡ None)
+        ⊎ (IsAmong s (entry ∷ es) ⊎ (((at : IsListed begins v s) × (at.cell ≢ c)) ⊎ IsLoose begins wider (link_of z)))
+    linked-or s z was not listed = elim (cases_eq (link_of z) (link_of x)) [
       | inl same ↦ inr (inl (inl (sym (links-apart v outside ledger s k z x was there same))))
       | inr far ↦ elim (had.linked s z was not) [
         | inl none ↦
             inl (ap held_in (third v wider (link_of x) c behind_it in_front refl refl (link_of z) far
             (λ same. link-apart v outside ledger c s z (own.first c its) was (sym same))) ∙ none)
-        | inr at ↦ elim (cases_eq at.cell c) [
+        | inr (inr loose) ↦ inr (inr (inr (loose-beside s z was far loose listed)))
+        | inr (inl at) ↦ elim (cases_eq at.cell c) [
           | inl same ↦
               inr (inl (inr (subst (λ fs. IsAmong s fs)
               (same-list v c at.entries es (subst (λ i. Begins v i at.entries) same at.list) old) at.among)))
-          | inr off ↦ inr (inr (at, off))
+          | inr off ↦ inr (inr (inl (at, off)))
         ]
       ]
     ]
@@ -269,10 +315,32 @@ module _ (begins : ℕ → Type 0) (seconds : (c b : ℕ) → Type 0) (stored : 
         (apart-item v outside ledger k x there es list.linked not) list)
   ]
 
+  -- a cell has its tag, or that one
+  retag-cell : (b : ℕ) → StaysLoose begins v tagged b
+  retag-cell b was is was_plain = elim (cases_eq b (link_of x)) [
+    | inl here ↦
+        (let both : Some cell ≡ Some was = sym holds ∙ ap (λ (i : ℕ). entry_at v.cells i) (sym here) ∙ is in
+        let its : cell ≡ was = cc in
+        let held : now.held ≡ was.held = same ∙ ap (λ (y : CellContents). y.held) its in
+        let there_now : entry_at tagged.cells b ≡ Some now =
+        ap (λ (i : ℕ). entry_at tagged.cells i) here ∙ at-same v.cells (link_of x) (Some now) None (inside v.cells (link_of x) (ap is_some holds)) in
+        inl (
+          now.tag,
+          plain,
+          there_now ∙ ap (λ (h : Option ℕ). let y : CellContents = record { held = h; tag = now.tag } in Some y) held,
+        ))
+    | inr far ↦ inl (was.tag, was_plain, at-other v.cells (link_of x) b (Some now) None far ∙ is)
+  ]
+
+  retag-loose : (b : ℕ) → IsLoose begins v b → ((j : ℕ) → IsListed begins tagged j → IsListed begins v j) → IsLoose begins tagged b
+  retag-loose b loose listed =
+      loose-on begins v tagged b loose.tag loose.entries loose.list loose.plain loose.numbers (λ s among at. loose.free s among (listed s at))
+      (λ s y among at. at) (retag-cell b) (λ s y among at. retag-cell (link_of y))
+
   pub has-retagged : HasLists begins seconds stored tagged
   has-retagged =
       has-kept begins seconds stored v tagged had retag-list
-      (λ s z e not. elim (had.linked s z e not) [
+      (λ s z e not listed. elim (had.linked s z e not) [
         | inl none ↦ elim (cases_eq (link_of z) (link_of x)) [
           | inl is ↦
               (let holds_now : entry_at tagged.cells (link_of x) ≡ Some now =
@@ -281,7 +349,8 @@ module _ (begins : ℕ → Type 0) (seconds : (c b : ℕ) → Type 0) (stored : 
               ∙ ap (λ (i : ℕ). held_in (entry_at v.cells i)) (sym is) ∙ none))
           | inr far ↦ inl (ap held_in (at-other v.cells (link_of x) (link_of z) (Some now) None far) ∙ none)
         ]
-        | inr at ↦ inr at
+        | inr (inl at) ↦ inr (inl at)
+        | inr (inr loose) ↦ inr (inr (retag-loose (link_of z) loose listed))
       ])
       (λ c b y. at-other v.cells (link_of x) b (Some now) None (link-apart v outside ledger b k x (own.second c b y) there))
       (λ c b s y held was.
@@ -302,8 +371,11 @@ module _ (begins more : ℕ → Type 0) (seconds : (c b : ℕ) → Type 0) (stor
   apart-free [] linked = tt
   apart-free (e ∷ es) linked = (off (link_of e.value) _ linked.0.linked, apart-free es linked.1)
 
+  pub list-begun : (b : ℕ) (t : Tag) (es : List (Entry Val)) → IsList link_of v b t es → IsList link_of begun b t es
+  list-begun b t es list = list-apart link_of v begun b t es c null refl refl (off b _ list.begins) (apart-free es list.linked) list
+
   pub stays-begun : (b : ℕ) (es : List (Entry Val)) → Begins v b es → Begins begun b es
-  stays-begun b es list = list-apart link_of v begun b no_tag es c null refl refl (off b _ list.begins) (apart-free es list.linked) list
+  stays-begun b es list = list-begun b no_tag es list
 
   none-here : Begins begun c []
   none-here = record { begins = at-same v.cells c (Some null) None free.0; linked = tt }
@@ -329,14 +401,18 @@ module _ (begins more : ℕ → Type 0) (seconds : (c b : ℕ) → Type 0) (stor
         had.apart a b s es fs first.0 second.0 first.1 second.1 at also);
     linked = λ s z e not. elim (had.linked s z e not) [
       | inl none ↦ inl (elim (set-either v.cells c (link_of z) (Some null) None) [ inl set ↦ ap held_in set | inr kept ↦ ap held_in kept ∙ none ])
-      | inr at ↦
-          inr (record {
+      | inr (inl at) ↦
+          inr (inl (record {
             cell = at.cell;
             entries = at.entries;
             begun = old at.cell at.begun;
             list = stays-begun at.cell at.entries at.list;
             among = at.among;
-          })
+          }))
+      | inr (inr loose) ↦
+          inr (inr (loose-as loose (list-begun (link_of z) loose.tag loose.entries loose.list) (λ j among at.
+          (let was = had-entry at.cell j at.entries (new at.cell at.begun) at.list at.among in
+          record { cell = at.cell; entries = at.entries; begun = was.0; list = was.1; among = at.among }))))
     ];
     second = λ a b y.
         (let its = had.second a b y in (
@@ -382,19 +458,31 @@ module _ (begins fewer : ℕ → Type 0) (seconds : (c b : ℕ) → Type 0) (sto
     apart = λ a b s es fs x y one two at also. had.apart a b s es fs (was a x).0 (was b y).0 (was-there a x es one) (was-there b y fs two) at also;
     linked = λ s z e not. elim (had.linked s z e not) [
       | inl none ↦ inl (elim (set-either v.cells c (link_of z) None None) [ inl set ↦ ap held_in set | inr same ↦ ap held_in same ∙ none ])
-      | inr at ↦ elim (cases_eq at.cell c) [
+      | inr (inl at) ↦ elim (cases_eq at.cell c) [
         | inl same ↦
             absurd (subst (λ (fs : List (Entry Val)). IsAmong s fs)
             (same-list v c at.entries [] (subst (λ (i : ℕ). Begins v i at.entries) same at.list) empty) at.among)
         | inr far ↦
-            inr (record {
+            inr (inl (record {
               cell = at.cell;
               entries = at.entries;
               begun = kept at.cell at.begun far;
               list = stays-ended at.cell far at.entries at.list;
               among = at.among;
-            })
+            }))
       ]
+      | inr (inr loose) ↦
+          inr (inr (loose-as loose
+          (list-without link_of v ended (link_of z) loose.tag loose.entries c refl refl
+          (λ same. link-apart v outside ledger c s z (own.first c its) e (sym same))
+          (apart-own v outside ledger c (own.first c its) loose.entries loose.list.linked) loose.list)
+          (λ j among at. record {
+            cell = at.cell;
+            entries = at.entries;
+            begun = (was at.cell at.begun).0;
+            list = was-there at.cell at.begun at.entries at.list;
+            among = at.among;
+          })))
     ];
     second = λ a b y.
         (let at = had.second a b y in
@@ -431,9 +519,14 @@ module _ (begins : ℕ → Type 0) (seconds : (c b : ℕ) → Type 0) (stored : 
       has-kept begins seconds stored v (with_cell v c now) had
       (λ b x es list. as-before (list-apart link_of v (with_cell v c now) b no_tag es c now refl refl (off b x)
       (apart-own v outside ledger c mine es list.linked) list))
-      (λ s z e not. elim (had.linked s z e not) [
+      (λ s z e not listed. elim (had.linked s z e not) [
         | inl none ↦ inl (ap held_in (at-other v.cells c (link_of z) (Some now) None (λ same. link-apart v outside ledger c s z mine e (sym same))) ∙ none)
-        | inr at ↦ inr at
+        | inr (inl at) ↦ inr (inl at)
+        | inr (inr loose) ↦
+            inr (inr (loose-as loose
+            (list-apart link_of v (with_cell v c now) (link_of z) loose.tag loose.entries c now refl refl
+            (λ same. link-apart v outside ledger c s z mine e (sym same)) (apart-own v outside ledger c mine loose.entries loose.list.linked) loose.list)
+            (λ j among. listed j)))
       ])
       (λ a b y. at-other v.cells c b (Some now) None (beside a b y))
       (λ a b s y holds gone. record {
@@ -444,12 +537,14 @@ module _ (begins : ℕ → Type 0) (seconds : (c b : ℕ) → Type 0) (stored : 
             ∙ gone.bare;
       })
 
--- ---- a value changes in its place, of an item that is in no list
+-- ---- a value changes in its place, of an item that no cell holds
 
-module _ (begins : ℕ → Type 0) (seconds : (c b : ℕ) → Type 0) (stored : ℕ → Type 0) (v : World Val) (had : HasLists begins seconds stored v) (k : ℕ)
-    (was now : Val)
-    (there : value_at v k ≡ Some was)
-    (same : link_of now ≡ link_of was) (alone : IsListed begins v k → ⊥) where
+module _ (begins : ℕ → Type 0) (seconds : (c b : ℕ) → Type 0) (stored : ℕ → Type 0) (v : World Val) (outside : Claim → ℕ)
+    (ledger : IsLedger holdings_of outside v) (had : HasLists begins seconds stored v) (k : ℕ) (was now : Val) (there : value_at v k ≡ Some was)
+    (same : link_of now ≡ link_of was) (unheld : (b : ℕ) → held_in (entry_at v.cells b) ≡ Some k → ⊥) where
+  nowhere : (b : ℕ) (t : Tag) (es : List (Entry Val)) → IsList link_of v b t es → IsAmong k es → ⊥
+  nowhere b t es list among = let by = held-by v outside ledger b k es (ap held_in list.begins) list.linked among in unheld by.0 by.1
+
   values-kept : (es : List (Entry Val)) → (IsAmong k es → ⊥) → AreLinked link_of v es → AreLinked link_of (with_value v k now) es
   values-kept [] not linked = tt
   values-kept (e ∷ es) not linked = (
@@ -464,11 +559,14 @@ module _ (begins : ℕ → Type 0) (seconds : (c b : ℕ) → Type 0) (stored : 
   pub has-edited : HasLists begins seconds stored (with_value v k now)
   has-edited =
       has-kept begins seconds stored v (with_value v k now) had
-      (λ b x es list. as-before (record {
-        begins = list.begins;
-        linked = values-kept es (λ among. alone (record { cell = b; entries = es; begun = x; list = list; among = among })) list.linked;
-      }))
-      (λ s z e not. elim (cases_eq s k) [
+      (λ b x es list. as-before (record { begins = list.begins; linked = values-kept es (nowhere b no_tag es list) list.linked }))
+      (λ s z e not listed.
+      let chain : (b : ℕ) → IsLoose begins v b → IsLoose begins (with_value v k now) b =
+      λ b loose. loose-as loose (record {
+        begins = loose.list.begins;
+        linked = values-kept loose.entries (nowhere b loose.tag loose.entries loose.list) loose.list.linked;
+      }) (λ j among. listed j) in
+      elim (cases_eq s k) [
         | inl is ↦
             (let here : value_at (with_value v k now) k ≡ Some now = at-same v.values k (Some now) None (inside v.values k (ap is_some there)) in
             let both : Some now ≡ Some z = sym here ∙ ap (λ (i : ℕ). value_at (with_value v k now) i) (sym is) ∙ e in
@@ -476,9 +574,14 @@ module _ (begins : ℕ → Type 0) (seconds : (c b : ℕ) → Type 0) (stored : 
             let link : link_of z ≡ link_of was = ap link_of (sym z_is) ∙ same in
             elim (had.linked k was there (λ x. not (subst stored (sym is) x))) [
               | inl none ↦ inl (ap (λ (i : ℕ). held_in (entry_at v.cells i)) link ∙ none)
-              | inr at ↦ absurd (alone at)
+              | inr (inl at) ↦ absurd (nowhere at.cell no_tag at.entries at.list at.among)
+              | inr (inr loose) ↦ inr (inr (chain (link_of z) (subst (λ (i : ℕ). IsLoose begins v i) (sym link) loose)))
             ])
-        | inr far ↦ had.linked s z (sym (at-other v.values k s (Some now) None far) ∙ e) not
+        | inr far ↦ elim (had.linked s z (sym (at-other v.values k s (Some now) None far) ∙ e) not) [
+          | inl none ↦ inl none
+          | inr (inl at) ↦ inr (inl at)
+          | inr (inr loose) ↦ inr (inr (chain (link_of z) loose))
+        ]
       ])
       (λ a b y. refl)
       (λ a b s y holds gone. elim (cases_eq s k) [
@@ -499,9 +602,11 @@ pub has-same : (begins : ℕ → Type 0) (seconds : (c b : ℕ) → Type 0) (sto
     HasLists begins seconds stored v → HasLists begins seconds stored w
 has-same begins seconds stored v w cells values had =
     has-kept begins seconds stored v w had (λ b x es list. as-before (list-same link_of v w b no_tag es cells values list))
-    (λ s z e not. elim (had.linked s z (ap (λ (vs : List (Option Val)). slice_index_or vs s None) (sym values) ∙ e) not) [
+    (λ s z e not listed. elim (had.linked s z (ap (λ (vs : List (Option Val)). slice_index_or vs s None) (sym values) ∙ e) not) [
       | inl none ↦ inl (ap (λ (cs : Entries CellContents). held_in (entry_at cs (link_of z))) cells ∙ none)
-      | inr at ↦ inr at
+      | inr (inl at) ↦ inr (inl at)
+      | inr (inr loose) ↦
+          inr (inr (loose-as loose (list-same link_of v w (link_of z) loose.tag loose.entries cells values loose.list) (λ j among. listed j)))
     ])
     (λ a b y. ap (λ (cs : Entries CellContents). entry_at cs b) cells)
     (λ a b s y holds was. let-go-kept link_of v w s (gone-same v w cells values) was)
@@ -531,7 +636,7 @@ module _ (begins : ℕ → Type 0) (seconds : (c b : ℕ) → Type 0) (stored : 
         begins = ap (λ (cs : Entries CellContents). entry_at cs b) cells ∙ list.begins;
         linked = stays-made es list.linked;
       }))
-      (λ s z e not. elim (cases_eq s k) [
+      (λ s z e not listed. elim (cases_eq s k) [
         | inl is ↦
             (let here : value_at w k ≡ Some x =
             ap (λ (vs : List (Option Val)). slice_index_or vs k None) values ∙ at-same v.values k (Some x) None long in
@@ -543,7 +648,12 @@ module _ (begins : ℕ → Type 0) (seconds : (c b : ℕ) → Type 0) (stored : 
             (let was = sym (at-other v.values k s (Some x) None far) ∙ ap (λ (vs : List (Option Val)). slice_index_or vs s None) (sym values) ∙ e in
             elim (had.linked s z was not) [
               | inl none ↦ inl (ap (λ (cs : Entries CellContents). held_in (entry_at cs (link_of z))) cells ∙ none)
-              | inr at ↦ inr at
+              | inr (inl at) ↦ inr (inl at)
+              | inr (inr loose) ↦
+                  inr (inr (loose-as loose (record {
+                    begins = ap (λ (cs : Entries CellContents). entry_at cs (link_of z)) cells ∙ loose.list.begins;
+                    linked = stays-made loose.entries loose.list.linked;
+                  }) (λ j among. listed j)))
             ])
       ])
       (λ a b y. ap (λ (cs : Entries CellContents). entry_at cs b) cells)
@@ -582,9 +692,14 @@ module _ (begins : ℕ → Type 0) (seconds : (c b : ℕ) → Type 0) (stored : 
   has-freed =
       has-kept begins seconds stored v w had
       (λ c x es list. as-before (record { begins = still-taken c (omega (arith, own.first c x)) ∙ list.begins; linked = linked-freed es list.linked }))
-      (λ s z e not. elim (had.linked s z (ap (λ (vs : List (Option Val)). slice_index_or vs s None) (sym values) ∙ e) not) [
+      (λ s z e not listed. elim (had.linked s z (ap (λ (vs : List (Option Val)). slice_index_or vs s None) (sym values) ∙ e) not) [
         | inl none ↦ inl (elim (cells (link_of z)) [ inl same ↦ ap held_in same ∙ none | inr gone ↦ ap held_in gone ])
-        | inr at ↦ inr at
+        | inr (inl at) ↦ inr (inl at)
+        | inr (inr loose) ↦
+            inr (inr (loose-as loose (record {
+              begins = still-taken (link_of z) (omega (arith, link-inside w outside ledger s z e)) ∙ loose.list.begins;
+              linked = linked-freed loose.entries loose.list.linked;
+            }) (λ j among. listed j)))
       ])
       (λ a b y. still-taken b (omega (arith, own.second a b y)))
       (λ a b s y holds gone.

@@ -3,7 +3,9 @@ use Rattle.std.proofs.Common.{◌≡◌, ◌≢◌, ◌⊎◌, ◌+◌, ◌≤�
 use Rattle.std.proofs.lemmas.Bool.{cases_eq}
 use Rattle.std.proofs.lemmas.List.Sums.{get_or-le-sum_by}
 use Rattle.sdd_core.specs.declared.tag.Tag.{Tag}
+use Rattle.sdd_core.specs.declared.tag.Tag.TheVariants.{Both}
 use Rattle.sdd_participants.specs.Slab.{entry_at}
+use Rattle.sdd_participants.specs.declared.standing.CellContents.{CellContents}
 use Rattle.sdd_space.specs.Ledger.{Claim, owner_of, right_to, inside, times_kept, IsLedger, Keeps, Moves, Sets, Tells}
 use Rattle.sdd_space.specs.World.{World, value_at}
 use Rattle.sdd_space.specs.WorldChanges.{held_in}
@@ -12,11 +14,11 @@ use Rattle.sdd_space.proofs.Accounts.{sum-out}
 use Rattle.sdd_space.proofs.Entries.{once-bound}
 use Rattle.sdd_space.proofs.Ledger.{ledger-laws}
 use Rattle.sdd_lists.specs.Ends.{EndsWith, IsAmong}
-use Rattle.sdd_lists.specs.Lists.{Apart, AreLinked, Entry, first_slot}
+use Rattle.sdd_lists.specs.Lists.{Apart, AreLinked, Entry, IsList, first_slot}
 use Rattle.sdd_lists.specs.Queue.{IsLetGo, IsSecond}
 use Rattle.sdd_lists.proofs.Ending.{among-ends, linked-ends}
 use Rattle.sdd_lists.proofs.Fronts.{tag_in}
-use Rattle.sdd_script_model.specs.Listed.{AreNumbers, Begins, HasLists, HoldsEntry, IsListed}
+use Rattle.sdd_script_model.specs.Listed.{AreNumbers, Begins, HasLists, HoldsEntry, IsListed, IsLoose}
 use Rattle.sdd_script_model.specs.Val.{Val, holdings_of, link_of}
 use Rattle.sdd_script_model.proofs.Entry.{at-other}
 use Rattle.sdd_script_model.proofs.Entry.{inside as inside-list}
@@ -71,6 +73,13 @@ module _ (w : World Val) (outside : Claim → ℕ) (ledger : IsLedger holdings_o
   among-inside c s (e ∷ es) holds linked (inl here) = subst (λ j. 1 ≤ inside holdings_of w (owner_of j)) here (tells.in_cell c e.slot holds)
   among-inside c s (e ∷ es) holds linked (inr there) = among-inside (link_of e.value) s es (ap held_in linked.0.linked) linked.1 there
 
+  -- an item that is held nowhere is in no list
+  pub held-by : (c s : ℕ) (es : List (Entry Val)) → held_in (entry_at w.cells c) ≡ first_slot es → AreLinked link_of w es → IsAmong s es →
+      (b : ℕ) × (held_in (entry_at w.cells b) ≡ Some s)
+  held-by c s [] holds linked among = absurd among
+  held-by c s (e ∷ es) holds linked (inl here) = (c, holds ∙ ap (λ (i : ℕ). Some i) here)
+  held-by c s (e ∷ es) holds linked (inr there) = held-by (link_of e.value) s es (ap held_in linked.0.linked) linked.1 there
+
   pub listed-inside : (begins : ℕ → Type 0) (s : ℕ) → IsListed begins w s → 1 ≤ inside holdings_of w (owner_of s)
   listed-inside begins s at = among-inside at.cell s at.entries (ap held_in at.list.begins) at.list.linked at.among
 
@@ -118,6 +127,58 @@ among-link w s x es linked among at =
     let values : Some (found.0).value ≡ Some x = sym here.0.there ∙ ap (λ (k : ℕ). value_at w k) found.3 ∙ at in
     (found.0, found.1, found.2, found.3, (let value : (found.0).value ≡ x = cc in value))
 
+-- ---- what begins in a link is loose still
+
+-- where the same list is there, and what is in a list was in one
+pub loose-as : {before begins : ℕ → Type 0} {v w : World Val} {c : ℕ} (old : IsLoose before v c) → IsList link_of w c old.tag old.entries →
+    ((s : ℕ) → IsAmong s old.entries → IsListed begins w s → IsListed before v s) → IsLoose begins w c
+loose-as old list listed = record {
+  tag = old.tag;
+  plain = old.plain;
+  entries = old.entries;
+  list = list;
+  numbers = old.numbers;
+  free = λ s among at. old.free s among (listed s among at);
+}
+
+-- a cell holds what it held, with some tag that lines give, or what begins there is loose now
+abbrev pub StaysLoose : (begins : ℕ → Type 0) (v w : World Val) → ℕ → Type 0
+StaysLoose begins v w c = (cell : CellContents) → entry_at v.cells c ≡ Some cell → cell.tag ≢ Both →
+    ((t : Tag) × (t ≢ Both) × (entry_at w.cells c ≡ Some (record cell { tag = t }))) ⊎ IsLoose begins w c
+
+-- where that is so of its cell, and of the links of its entries
+pub loose-on : (begins : ℕ → Type 0) (v w : World Val) (c : ℕ) (t : Tag) (es : List (Entry Val)) → IsList link_of v c t es → t ≢ Both → AreNumbers es →
+    ((s : ℕ) → IsAmong s es → IsListed begins w s → ⊥) →
+    ((s : ℕ) (x : Val) → IsAmong s es → value_at v s ≡ Some x → value_at w s ≡ Some x) → StaysLoose begins v w c →
+    ((s : ℕ) (x : Val) → IsAmong s es → value_at v s ≡ Some x → StaysLoose begins v w (link_of x)) → IsLoose begins w c
+loose-on begins v w c t [] list plain numbers free values first links = elim (first _ list.begins plain) [
+  | inl same ↦ record {
+    tag = same.0;
+    plain = same.1;
+    entries = [];
+    list = record { begins = same.2; linked = tt };
+    numbers = tt;
+    free = λ s among at. among;
+  }
+  | inr loose ↦ loose
+]
+loose-on begins v w c t (e ∷ es) list plain numbers free values first links =
+    let rest = loose-on begins v w (link_of e.value) e.tag es (record { begins = list.linked.0.linked; linked = list.linked.1 }) list.linked.0.plain
+    numbers.1 (λ s among. free s (inr among)) (λ s x among. values s x (inr among)) (links e.slot e.value (inl refl) list.linked.0.there)
+    (λ s x among. links s x (inr among)) in
+    let there : value_at w e.slot ≡ Some e.value = values e.slot e.value (inl refl) list.linked.0.there in
+    elim (first _ list.begins plain) [
+      | inl same ↦ record {
+        tag = same.0;
+        plain = same.1;
+        entries = record e { tag = rest.tag } ∷ rest.entries;
+        list = record { begins = same.2; linked = (record { there = there; linked = rest.list.begins; plain = rest.plain }, rest.list.linked) };
+        numbers = (numbers.0, rest.numbers);
+        free = λ s among. elim among [ inl here ↦ free s (inl here) | inr more ↦ rest.free s more ];
+      }
+      | inr loose ↦ loose
+    ]
+
 -- ---- each list has the entries that it had, or the same with other tags
 
 -- what a second cell holds is among these too, or let go of still
@@ -146,9 +207,10 @@ module _ (begins : ℕ → Type 0) (seconds : (c b : ℕ) → Type 0) (stored : 
     pub was : (s : ℕ) → IsAmong s now → IsAmong s es
     pub still : (s : ℕ) → IsAmong s es → IsAmong s now
 
-  -- where these are the storages now
+  -- where these are the storages now. What is in a list was in one
   pub has-kept_so : (now : ℕ → Type 0) → ((c : ℕ) → begins c → (es : List (Entry Val)) → Begins v c es → IsAsBefore c es) →
-      ((s : ℕ) (x : Val) → value_at w s ≡ Some x → (now s → ⊥) → (held_in (entry_at w.cells (link_of x)) ≡ None) ⊎ IsListed begins v s) →
+      ((s : ℕ) (x : Val) → value_at w s ≡ Some x → (now s → ⊥) → ((j : ℕ) → IsListed begins w j → IsListed begins v j) →
+      (held_in (entry_at w.cells (link_of x)) ≡ None) ⊎ (IsListed begins v s ⊎ IsLoose begins w (link_of x))) →
       ((c b : ℕ) → seconds c b → entry_at w.cells b ≡ entry_at v.cells b) → StaysGone seconds v w → HasLists begins seconds now w
   has-kept_so now forward links stays gone = record {
     lists = λ c x. (let old = had.lists c x in let new = forward c x old.0 old.1 in (new.now, new.list, new.numbers old.2));
@@ -156,11 +218,12 @@ module _ (begins : ℕ → Type 0) (seconds : (c b : ℕ) → Type 0) (stored : 
         (let first = had.lists b x in
         let second = had.lists c y in
         had.apart b c s first.0 second.0 x y first.1 second.1 (back b x es one s at) (back c y fs two s also));
-    linked = λ s x e not. elim (links s x e not) [
+    linked = λ s x e not. elim (links s x e not were) [
       | inl none ↦ inl none
-      | inr at ↦
+      | inr (inl at) ↦
           (let new = forward at.cell at.begun at.entries at.list in
-          inr (record { cell = at.cell; entries = new.now; begun = at.begun; list = new.list; among = new.still s at.among }))
+          inr (inl (record { cell = at.cell; entries = new.now; begun = at.begun; list = new.list; among = new.still s at.among })))
+      | inr (inr loose) ↦ inr (inr loose)
     ];
     second = λ c b y.
         (let own = had.second c b y in (
@@ -183,8 +246,14 @@ module _ (begins : ℕ → Type 0) (seconds : (c b : ℕ) → Type 0) (stored : 
         let new = forward c x old.0 old.1 in
         new.was s (subst (λ fs. IsAmong s fs) (same-list w c es new.now list new.list) at)
 
+    were : (j : ℕ) → IsListed begins w j → IsListed begins v j
+    were j at =
+        let old = had.lists at.cell at.begun in
+        record { cell = at.cell; entries = old.0; begun = at.begun; list = old.1; among = back at.cell at.begun at.entries at.list j at.among }
+
   pub has-kept : ((c : ℕ) → begins c → (es : List (Entry Val)) → Begins v c es → IsAsBefore c es) →
-      ((s : ℕ) (x : Val) → value_at w s ≡ Some x → (stored s → ⊥) → (held_in (entry_at w.cells (link_of x)) ≡ None) ⊎ IsListed begins v s) →
+      ((s : ℕ) (x : Val) → value_at w s ≡ Some x → (stored s → ⊥) → ((j : ℕ) → IsListed begins w j → IsListed begins v j) →
+      (held_in (entry_at w.cells (link_of x)) ≡ None) ⊎ (IsListed begins v s ⊎ IsLoose begins w (link_of x))) →
       ((c b : ℕ) → seconds c b → entry_at w.cells b ≡ entry_at v.cells b) → StaysGone seconds v w → HasLists begins seconds stored w
   has-kept forward links stays gone = has-kept_so stored forward links stays gone
 
@@ -257,10 +326,18 @@ module _ {v w : World Val} {ins outs : Claim → ℕ} (move : Moves holdings_of 
     pub has-still : HasLists begins seconds stored v → HoldsLess v w → HasLists begins seconds stored w
     has-still had less =
         has-kept begins seconds stored v w had (λ c x es list. as-before (list-still c x es list))
-        (λ s x e not.
-        let was = less s x e in elim (had.linked s was.0 was.1 not) [
-          | inl none ↦ inl (ap held_in (link-still s s x was.0 was.1 e was.2) ∙ ap (λ k. held_in (entry_at v.cells k)) was.2 ∙ none)
-          | inr at ↦ inr at
+        (λ s x e not listed.
+        let was = less s x e in
+        let same = link-still s s x was.0 was.1 e was.2 in
+        elim (had.linked s was.0 was.1 not) [
+          | inl none ↦ inl (ap held_in same ∙ ap (λ k. held_in (entry_at v.cells k)) was.2 ∙ none)
+          | inr (inl at) ↦ inr (inl at)
+          | inr (inr at) ↦
+              (let loose : IsLoose begins v (link_of x) = subst (λ k. IsLoose begins v k) (sym was.2) at in
+              inr (inr (loose-as loose (record {
+                begins = same ∙ loose.list.begins;
+                linked = linked-still (link_of x) loose.entries (ap held_in loose.list.begins) same loose.list.linked;
+              }) (λ j among. listed j))))
         ])
         (λ c b y. kept.cells rest before b (omega (arith, held.second c b y)) (leaves c b y)) gone-still
 
@@ -300,23 +377,38 @@ module _ (begins : ℕ → Type 0) (seconds : (c b : ℕ) → Type 0) (stored : 
   lists-by b x (inl same) = (now, subst (λ i. Begins w i now) (sym same) new, numbers)
   lists-by b x (inr far) = let was = had.lists b x in (was.0, forward b x far was.0 was.1, was.2)
 
-  -- a link holds nothing, or is that of an entry of the list, or is that of one of another
-  pub has-changed : ((s : ℕ) (x : Val) → value_at w s ≡ Some x → (stored s → ⊥) → (held_in (entry_at w.cells (link_of x)) ≡ None) ⊎ (IsAmong s now
-      ⊎ ((at : IsListed begins v s) × (at.cell ≢ c)))) → HasLists begins seconds stored w
+  -- what is in a list was in one, or is an entry of this one
+  listed-by : (j : ℕ) → (at : IsListed begins w j) → (at.cell ≡ c) ⊎ (at.cell ≢ c) → IsListed begins v j ⊎ IsAmong j now
+  listed-by j at (inl same) =
+      inr (subst (λ fs. IsAmong j fs) (same-list w c at.entries now (subst (λ i. Begins w i at.entries) same at.list) new) at.among)
+  listed-by j at (inr far) =
+      inl (record {
+        cell = at.cell;
+        entries = at.entries;
+        begun = at.begun;
+        list = back at.cell at.begun far at.entries at.list;
+        among = at.among;
+      })
+
+  -- a link holds nothing, or is that of an entry of the list, or is that of one of another, or what begins in it is loose
+  pub has-changed : ((s : ℕ) (x : Val) → value_at w s ≡ Some x → (stored s → ⊥) → ((j : ℕ) → IsListed begins w j → IsListed begins v j ⊎ IsAmong j now) →
+      (held_in (entry_at w.cells (link_of x)) ≡ None) ⊎ (IsAmong s now ⊎ (((at : IsListed begins v s) × (at.cell ≢ c)) ⊎ IsLoose begins w (link_of x)))) →
+      HasLists begins seconds stored w
   has-changed links = record {
     lists = λ b x. lists-by b x (cases_eq b c);
     apart = λ a b s fs gs x y one two at also. apart-by a b s fs gs x y one two at also (cases_eq a c) (cases_eq b c);
-    linked = λ s x e not. elim (links s x e not) [
+    linked = λ s x e not. elim (links s x e not (λ j at. listed-by j at (cases_eq at.cell c))) [
       | inl none ↦ inl none
-      | inr (inl among) ↦ inr (record { cell = c; entries = now; begun = its; list = new; among = among })
-      | inr (inr other) ↦
-          inr (record {
+      | inr (inl among) ↦ inr (inl (record { cell = c; entries = now; begun = its; list = new; among = among }))
+      | inr (inr (inl other)) ↦
+          inr (inl (record {
             cell = other.0.cell;
             entries = other.0.entries;
             begun = other.0.begun;
             list = forward other.0.cell other.0.begun other.1 other.0.entries other.0.list;
             among = other.0.among;
-          })
+          }))
+      | inr (inr (inr loose)) ↦ inr (inr loose)
     ];
     second = λ a b y.
         (let own = had.second a b y in (

@@ -3,6 +3,7 @@ use Rattle.std.proofs.Common.{◌≡◌, ◌≢◌, ◌⊎◌, ◌+◌, inl, inr
 use Rattle.std.specs.Prelude.{max}
 use Rattle.std.proofs.lemmas.Bool.{cases_eq}
 use Rattle.std.proofs.lemmas.List.{set-set}
+use Rattle.sdd_core.specs.declared.tag.Tag.{Tag}
 use Rattle.sdd_core.specs.declared.tag.Tag.TheVariants.{None as no_tag}
 use Rattle.sdd_participants.specs.Slab.{Entries, entry_at}
 use Rattle.sdd_participants.specs.declared.standing.Standing.{Standing}
@@ -15,12 +16,12 @@ use Rattle.sdd_space.specs.WorldChanges.{held_in, owner_given, with_standing}
 use Rattle.sdd_space.specs.WorldInvariant.{IsWhole}
 use Rattle.sdd_space.proofs.Ledger.{ledger-laws}
 use Rattle.sdd_lists.specs.Ends.{IsAmong, appended, end_of, through_last}
-use Rattle.sdd_lists.specs.Lists.{Apart, Entry}
+use Rattle.sdd_lists.specs.Lists.{Apart, Entry, IsList}
 use Rattle.sdd_lists.proofs.Ending.{among-last, appended-other, put-values}
 use Rattle.sdd_lists.proofs.LetGo.{KeepsGone, gone-appended, gone-same, gone-then, let-go-kept}
 use Rattle.sdd_lists.proofs.Lists.{bare, list-same}
 use Rattle.sdd_script_model.specs.Bags.{IsStored}
-use Rattle.sdd_script_model.specs.Listed.{AreNumbers, Begins, HasLists, IsListed}
+use Rattle.sdd_script_model.specs.Listed.{AreNumbers, Begins, HasLists, IsListed, IsLoose}
 use Rattle.sdd_script_model.specs.Stacks.{Appends, IsStack}
 use Rattle.sdd_script_model.specs.ScriptState.{ScriptState, IsListCell, IsSecondCell}
 use Rattle.sdd_script_model.specs.Sound.{IsSound, contained, named}
@@ -28,7 +29,7 @@ use Rattle.sdd_script_model.specs.Val.{Val, holdings_of, link_of}
 use Rattle.sdd_script_model.proofs.Chains.{IsMidway, are-own, stacked-right, starts}
 use Rattle.sdd_script_model.proofs.Counting.{owner-given}
 use Rattle.sdd_script_model.proofs.Links.{same-once}
-use Rattle.sdd_script_model.proofs.Listed.{AreOwn, StaysGone, apart-item, apart-own, has-changed, link-apart, links-apart, listed-inside, same-list}
+use Rattle.sdd_script_model.proofs.Listed.{AreOwn, StaysGone, apart-item, apart-own, has-changed, held-by, link-apart, links-apart, loose-as, same-list}
 use Rattle.sdd_script_model.proofs.ListChanges.{among-or}
 use Rattle.sdd_script_model.proofs.QueueEnds.{among-before, among-either, among-through, dropped, numbers-last, numbers-through, put-last}
 use Rattle.sdd_script_model.proofs.QueuePushing.{linked-where}
@@ -72,10 +73,10 @@ module _ (d : ScriptState) (s : IsSound d) (whole : IsWhole d.world) (p c : ℕ)
   once-in : standing_at v k ≡ Some (Shared 1)
   once-in = stands-once d s whole p live number k x puts.free puts.appended.free puts.body
 
-  -- its one owner has a name, so it is in no list
-  unlisted : IsListed (IsListCell entered) v k → ⊥
-  unlisted at =
-      let inner = listed-inside v (λ u. named entered u + contained entered u) sound-in.ledger (IsListCell entered) k at in
+  -- its one owner has a name, so no cell holds it
+  unheld : (b : ℕ) → held_in (entry_at v.cells b) ≡ Some k → ⊥
+  unheld b holds =
+      let inner = ((ledger-laws holdings_of v).tells _ sound-in.ledger).in_cell b k holds in
       let mine = owner-given d.owners d.cells d.collectors (holding.shared k d.world.home.slots) k refl (owner_of k) in
       let stands = ((ledger-laws holdings_of v).tells _ sound-in.ledger).stands k (omega (arith, inner)) in
       elim stands [
@@ -85,6 +86,14 @@ module _ (d : ScriptState) (s : IsSound d) (whole : IsWhole d.world) (p c : ℕ)
             let one_only : several.0 ≡ 1 = cc in
             absurd (omega (arith, several.2, ap (max 1) one_only, inner, mine, same-once k)))
       ]
+
+  -- and so it is an entry of none
+  nowhere : (b : ℕ) (t : Tag) (gs : List (Entry Val)) → IsList link_of v b t gs → IsAmong k gs → ⊥
+  nowhere b t gs list among =
+      let by = held-by v (λ u. named entered u + contained entered u) sound-in.ledger b k gs (ap held_in list.begins) list.linked among in unheld by.0 by.1
+
+  unlisted : IsListed (IsListCell entered) v k → ⊥
+  unlisted at = nowhere at.cell no_tag at.entries at.list at.among
 
   its : IsSingle entered c
   its = is-single entered sound-in n c is.named
@@ -185,10 +194,35 @@ module _ (d : ScriptState) (s : IsSound d) (whole : IsWhole d.world) (p c : ℕ)
     | inr same ↦ inr (λ at. unlisted (subst (λ (i : ℕ). IsListed (IsListCell entered) v i) (sym same) at))
   ]
 
-  links : (j : ℕ) (z : Val) → value_at last j ≡ Some z → (IsStored entered.bags entered.world j → ⊥) → (held_in (entry_at last.cells (link_of z)) ≡ None)
+  -- what is in a list was in one, or is the new item
+  abbrev IsListedBy : ℕ → Type 0
+  IsListedBy j = IsListed (IsListCell entered) v j ⊎ IsAmong j now
+
+  -- the item is in no chain elsewhere, and no entry of the list is
+  loose-still : (j : ℕ) (z : Val) → value_at v j ≡ Some z → (IsAmong j es → ⊥) → j ≢ k → IsLoose (IsListCell entered) v (link_of z) →
+      ((i : ℕ) → IsListed (IsListCell entered) last i → IsListedBy i) → IsLoose (IsListCell entered) last (link_of z)
+  loose-still j z was not far loose listed =
+      let in_it : (i : ℕ) → IsAmong i es → IsListed (IsListCell entered) v i =
+      λ i among. record { cell = c; entries = es; begun = its.begins; list = list-in; among = among } in
+      let not_it = nowhere (link_of z) loose.tag loose.entries loose.list in
+      loose-as loose (record {
+        begins = link-still j z was not far ∙ loose.list.begins;
+        linked = linked-where v last values-same loose.entries loose.list.linked
+            (λ i y among at. link-still i y at (λ also. loose.free i among (in_it i also))
+            (λ same. not_it (subst (λ (m : ℕ). IsAmong m loose.entries) same among)));
+      }) (λ i among at. elim (listed i at) [
+        | inl was_in ↦ was_in
+        | inr is_in ↦ elim (among-either i (through_last es) _ is_in) [
+          | inl through ↦ in_it i (among-through i es through)
+          | inr same ↦ absurd (not_it (subst (λ (m : ℕ). IsAmong m loose.entries) (sym same) among))
+        ]
+      ])
+
+  links : (j : ℕ) (z : Val) → value_at last j ≡ Some z → (IsStored entered.bags entered.world j → ⊥) →
+      ((i : ℕ) → IsListed (IsListCell entered) last i → IsListedBy i) → (held_in (entry_at last.cells (link_of z)) ≡ None)
       ⊎ (IsAmong j now
-      ⊎ ((at : IsListed (IsListCell entered) v j) × (at.cell ≢ c)))
-  links j z e kept =
+      ⊎ (((at : IsListed (IsListCell entered) v j) × (at.cell ≢ c)) ⊎ IsLoose (IsListCell entered) last (link_of z)))
+  links j z e kept listed =
       let was : value_at v j ≡ Some z = ap (λ (vs : List (Option Val)). slice_index_or vs j None) (sym values-same) ∙ e in
       elim (cases_eq j k) [
         | inl same ↦ inr (inl (among-last j (through_last es) (record { slot = k; value = x; tag = no_tag }) (sym same)))
@@ -200,11 +234,12 @@ module _ (d : ScriptState) (s : IsSound d) (whole : IsWhole d.world) (p c : ℕ)
               ]
           | inr not ↦ elim (had.linked j z was kept) [
             | inl none ↦ inl (ap held_in (link-still j z was not far) ∙ none)
-            | inr at ↦ elim (cases_eq at.cell c) [
+            | inr (inr loose) ↦ inr (inr (inr (loose-still j z was not far loose listed)))
+            | inr (inl at) ↦ elim (cases_eq at.cell c) [
               | inl same ↦
                   absurd (not (subst (λ (fs : List (Entry Val)). IsAmong j fs)
                   (same-list v c at.entries es (subst (λ (i : ℕ). Begins v i at.entries) same at.list) list-in) at.among))
-              | inr off ↦ inr (inr (at, off))
+              | inr off ↦ inr (inr (inl (at, off)))
             ]
           ]
         ]

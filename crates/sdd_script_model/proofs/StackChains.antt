@@ -19,7 +19,7 @@ use Rattle.sdd_lists.proofs.Lists.{bare, behind}
 use Rattle.sdd_lists.proofs.Marking.{retagged-list}
 use Rattle.sdd_lists.proofs.Popping.{apart-first, stays-of}
 use Rattle.sdd_script_model.specs.Bags.{AreSpare, IsStored}
-use Rattle.sdd_script_model.specs.Listed.{AreNumbers, Begins, HasLists, IsListed, IsNumber}
+use Rattle.sdd_script_model.specs.Listed.{AreNumbers, Begins, HasLists, IsNumber}
 use Rattle.sdd_script_model.specs.ScriptState.{ScriptState, IsListCell, IsSecondCell}
 use Rattle.sdd_script_model.specs.Sound.{contained}
 use Rattle.sdd_script_model.specs.Val.{Val, body_of, holdings_of, link_of}
@@ -166,8 +166,8 @@ module _ {d : ScriptState} {w : World Val} {outside : Claim → ℕ} (m : IsMidw
 
   -- ---- an item is put in front, of which one owner is in hand
   module _ (k : ℕ) (x : Val) (es : List (Entry Val)) (list : Begins w c es) (numbers : AreNumbers es) (there : value_at w k ≡ Some x)
-      (clear : entry_at w.cells (link_of x) ≡ Some null) (number : IsNumber (body_of x)) (alone : IsListed (IsListCell d) w k → ⊥)
-      (rest : Claim → ℕ) (in_hand : (u : Claim) → outside u ≡ rest u + one (owner_of k) u) where
+      (clear : entry_at w.cells (link_of x) ≡ Some null) (number : IsNumber (body_of x))
+      (unheld : (b : ℕ) → held_in (entry_at w.cells b) ≡ Some k → ⊥) (rest : Claim → ℕ) (in_hand : (u : Claim) → outside u ≡ rest u + one (owner_of k) u) where
     abbrev in_front : CellContents
     in_front = record { held = Some k; tag = no_tag }
 
@@ -192,7 +192,7 @@ module _ {d : ScriptState} {w : World Val} {outside : Claim → ℕ} (m : IsMidw
         (set_comm w.cells c (link_of x) (Some in_front) (Some behind_it) (apart-of k x there)) linked-it)
         (has-put_in (IsListCell d) (IsSecondCell d) (IsStored d.bags d.world) w (λ u. outside u + contained d u) m.ledger (own-midway m) m.lists c its.begins
         its.single k x es list
-        numbers there clear number alone)
+        numbers there clear number unheld)
 
 -- ---- one entry after another
 

@@ -2,6 +2,7 @@
 use Rattle.std.proofs.Common.{◌≡◌, ◌≢◌, ◌⊎◌, ◌+◌, inl, inr, ℕ, List, [], Option, Some, None, is_some, length, slice_set, refl, sym, ap, ◌∙◌, subst, arith}
 use Rattle.std.proofs.lemmas.Bool.{cases_eq}
 use Rattle.std.proofs.lemmas.List.{get_or_push, length-set}
+use Rattle.sdd_core.specs.declared.tag.Tag.{Tag}
 use Rattle.sdd_core.specs.declared.tag.Tag.TheVariants.{None as no_tag}
 use Rattle.sdd_participants.specs.Slab.{IsEmptyAt, entry_at}
 use Rattle.sdd_participants.specs.declared.standing.CellContents.{CellContents}
@@ -13,7 +14,7 @@ use Rattle.sdd_space.specs.World.{World, IsPlaceOf, value_at}
 use Rattle.sdd_space.specs.WorldChanges.{held_in, nulled}
 use Rattle.sdd_space.specs.WorldInvariant.{IsWhole, once_if}
 use Rattle.sdd_lists.specs.Ends.{IsAmong}
-use Rattle.sdd_lists.specs.Lists.{Entry, first_slot}
+use Rattle.sdd_lists.specs.Lists.{Entry, IsList, first_slot}
 use Rattle.sdd_lists.specs.Queue.{IsSecond}
 use Rattle.sdd_lists.specs.Stack.{poured}
 use Rattle.sdd_lists.proofs.LetGo.{KeepsGone, gone-then, gone-written, other-free, other-tag, second-kept}
@@ -31,7 +32,7 @@ use Rattle.sdd_script_model.proofs.Entry.{at-other, at-same}
 use Rattle.sdd_script_model.proofs.Entry.{inside as inside-list}
 use Rattle.sdd_script_model.proofs.Layers.{layered-less}
 use Rattle.sdd_script_model.proofs.Links.{null}
-use Rattle.sdd_script_model.proofs.Listed.{AreOwn, apart-own, has-stored, link-apart, link-inside, same-list}
+use Rattle.sdd_script_model.proofs.Listed.{AreOwn, apart-own, has-stored, link-apart, link-inside, loose-as, same-list}
 use Rattle.sdd_script_model.proofs.ListChanges.{apart-free, list-beside, off, third}
 use Rattle.sdd_script_model.proofs.StackChains.{IsBetween, between, goes-on}
 use Rattle.sdd_script_model.proofs.StackGoing.{begun-old, begun-or, is-single}
@@ -54,10 +55,13 @@ module _ (begins more : ℕ → Type 0) (seconds : (c b : ℕ) → Type 0) (stor
   away : (b : ℕ) (y : CellContents) → entry_at v.cells b ≡ Some y → b ≢ k
   away b y holds = off begins more seconds stored v had k free new was b y holds
 
-  stays : (b : ℕ) → b ≢ c → (gs : List (Entry Val)) → Begins v b gs → Begins w b gs
-  stays b far gs at =
-      list-beside v w c k null now refl refl b gs far (away b _ at.begins) (apart-own v outside ledger c (own.first c its) gs at.linked)
+  stays-so : (b : ℕ) → b ≢ c → (t : Tag) (gs : List (Entry Val)) → IsList link_of v b t gs → IsList link_of w b t gs
+  stays-so b far t gs at =
+      list-beside v w c k null now refl refl b t gs far (away b _ at.begins) (apart-own v outside ledger c (own.first c its) gs at.linked)
       (apart-free begins more seconds stored v had k free new was gs at.linked) at
+
+  stays : (b : ℕ) → b ≢ c → (gs : List (Entry Val)) → Begins v b gs → Begins w b gs
+  stays b far gs at = stays-so b far no_tag gs at
 
   empty : Begins w c []
   empty = record {
@@ -148,24 +152,30 @@ module _ (begins more : ℕ → Type 0) (seconds : (c b : ℕ) → Type 0) (stor
       | inl none ↦
           inl (ap held_in (third v w c k null now refl refl (link_of z) (λ same. link-apart v outside ledger c s z (own.first c its) e (sym same))
           (link-far s z e)) ∙ none)
-      | inr at ↦ elim (cases_eq at.cell c) [
+      | inr (inr loose) ↦
+          inr (inr (loose-as loose
+          (stays-so (link_of z) (λ same. link-apart v outside ledger c s z (own.first c its) e (sym same)) loose.tag loose.entries loose.list)
+          (λ j among at.
+          (let first = had-entry at.cell j at.entries (new at.cell at.begun) (cases_eq at.cell c) at.list at.among in
+          record { cell = first.cell; entries = first.entries; begun = first.begun; list = first.at; among = first.among }))))
+      | inr (inl at) ↦ elim (cases_eq at.cell c) [
         | inl same ↦
-            inr (record {
+            inr (inl (record {
               cell = k;
               entries = es;
               begun = there;
               list = all;
               among = subst (λ (fs : List (Entry Val)). IsAmong s fs)
                   (same-list v c at.entries es (subst (λ (i : ℕ). Begins v i at.entries) same at.list) list) at.among;
-            })
+            }))
         | inr far ↦
-            inr (record {
+            inr (inl (record {
               cell = at.cell;
               entries = at.entries;
               begun = was at.cell at.begun;
               list = stays at.cell far at.entries at.list;
               among = at.among;
-            })
+            }))
       ]
     ];
     second = λ a b y.

@@ -13,7 +13,7 @@ use Rattle.sdd_space.specs.OwnerOrCell as holding
 use Rattle.sdd_space.specs.Ledger.{Claim, owner_of, one}
 use Rattle.sdd_space.specs.Ledger.Moves.{releases, retires}
 use Rattle.sdd_space.specs.World.{World, IsPlaceOf, standing_at, value_at}
-use Rattle.sdd_space.specs.WorldChanges.{made_as, nulled, owner_given, with_cell, with_standing}
+use Rattle.sdd_space.specs.WorldChanges.{held_in, made_as, nulled, owner_given, with_cell, with_standing}
 use Rattle.sdd_space.specs.WorldInvariant.{IsWhole}
 use Rattle.sdd_space.proofs.Ledger.{ledger-laws}
 use Rattle.sdd_space.proofs.Whole.{filled-there}
@@ -26,7 +26,7 @@ use Rattle.sdd_script_text.specs.declared.call.Value.TheVariants as value
 use Rattle.sdd_script_model.specs.declared.val.Body.TheVariants.{Number}
 use Rattle.sdd_script_model.specs.declared.owner_kind.OwnerKind.TheVariants as ownership
 use Rattle.sdd_script_model.specs.Bags.{IsStored}
-use Rattle.sdd_script_model.specs.Listed.{Begins, IsListed, IsNumber}
+use Rattle.sdd_script_model.specs.Listed.{Begins, IsNumber}
 use Rattle.sdd_script_model.specs.ScriptState.{ScriptState, IsDated, IsListCell, IsSecondCell, in_world, with_item, with_owner}
 use Rattle.sdd_script_model.specs.Sound.{IsSound, contained, named, named_among}
 use Rattle.sdd_script_model.specs.Stacks.{IsStack, Pushes}
@@ -41,7 +41,6 @@ use Rattle.sdd_script_model.proofs.Going.{made-leaves, made-whole}
 use Rattle.sdd_script_model.proofs.Gone.{given-other}
 use Rattle.sdd_script_model.proofs.Layers.{filled-long}
 use Rattle.sdd_script_model.proofs.Links.{null, same-once}
-use Rattle.sdd_script_model.proofs.Listed.{listed-inside}
 use Rattle.sdd_script_model.proofs.ListChanges.{apart-free, off, stays-begun}
 use Rattle.sdd_script_model.proofs.StackChains.{IsSingle, IsWith, puts-in, trims}
 use Rattle.sdd_script_model.proofs.StackGoing.{IsDatedWithin, dated-all, is-single, numbers}
@@ -260,11 +259,11 @@ module _ (d : ScriptState) (s : IsSound d) (whole : IsWhole d.world) (p c : ℕ)
       stands-still twice p c k es (not-among d s whole p live number k x pushes.free pushes.pushed.free pushes.body c es is.list)
       ∙ at-same entered.world.standings k (Some (Shared 2)) None (inside-list entered.world.standings k (ap is_some once.shared))
 
-  -- both its owners are outside, so it is in no list
-  unlisted : IsListed (IsListCell entered) freed_front k → ⊥
-  unlisted at =
+  -- both its owners are outside, so no cell holds it
+  unheld : (b : ℕ) → held_in (entry_at freed_front.cells b) ≡ Some k → ⊥
+  unheld b holds =
       let m = trimmed-so.midway in
-      let inner = listed-inside freed_front (λ u. outside u + contained entered u) m.ledger (IsListCell entered) k at in
+      let inner = ((ledger-laws holdings_of freed_front).tells _ m.ledger).in_cell b k holds in
       let mine = owner-given d.owners d.cells d.collectors (holding.shared k d.world.home.slots) k refl (owner_of k) in
       let stands = ((ledger-laws holdings_of freed_front).tells _ m.ledger).stands k (omega (arith, inner)) in
       elim stands [
@@ -278,7 +277,7 @@ module _ (d : ScriptState) (s : IsSound d) (whole : IsWhole d.world) (p c : ℕ)
   put : IsMidway entered (linked_in freed_front c no_tag (link_of pushes.entry) k (first_slot (left es))) (named entered)
   put =
       puts-in trimmed-so.midway p c its k x (left es) trimmed-so.list trimmed-so.numbers there clear
-      (number-in d s whole p live number k x pushes.free pushes.pushed.free pushes.body) unlisted (named entered) (λ u. refl)
+      (number-in d s whole p live number k x pushes.free pushes.pushed.free pushes.body) unheld (named entered) (λ u. refl)
 
   -- two owners at once, or one after the other
   made-twice : twice ≡ made_as (nulled d.world (link_of pushes.entry)) k pushes.entry (Shared 2)

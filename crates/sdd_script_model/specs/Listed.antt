@@ -1,6 +1,7 @@
--- Lists of numbers that begin in known cells
-use Rattle.std.specs.Prelude.{ℕ, ◌≡◌, ◌⊎◌, List, [], ◌∷◌, Option, None, Some}
-use Rattle.sdd_core.specs.declared.tag.Tag.TheVariants.{None as no_tag}
+-- Lists of numbers that begin in known cells, and those that begin in links elsewhere
+use Rattle.std.specs.Prelude.{ℕ, ◌≡◌, ◌≢◌, ◌⊎◌, List, [], ◌∷◌, Option, None, Some}
+use Rattle.sdd_core.specs.declared.tag.Tag.{Tag}
+use Rattle.sdd_core.specs.declared.tag.Tag.TheVariants.{None as no_tag, Both}
 use Rattle.sdd_participants.specs.Slab.{entry_at}
 use Rattle.sdd_space.specs.World.{World, value_at}
 use Rattle.sdd_space.specs.WorldChanges.{held_in}
@@ -43,12 +44,23 @@ module _ (begins : ℕ → Type 0) where
     pub list : Begins w cell entries
     pub among : IsAmong s entries
 
+  -- a list of numbers begins in cell c, and none of its entries is in one of the lists
+  pub record IsLoose (w : World Val) (c : ℕ) : Type 0 where
+    pub tag : Tag
+    -- no line gives this tag to a link
+    pub plain : tag ≢ Both
+    pub entries : List (Entry Val)
+    pub list : IsList link_of w c tag entries
+    pub numbers : AreNumbers entries
+    pub free : (s : ℕ) → IsAmong s entries → ¬ (IsListed w s)
+
   -- and of some a second cell holds an entry of the list; the slots of storages are spoken of elsewhere
   pub record HasLists (seconds : (c b : ℕ) → Type 0) (stored : ℕ → Type 0) (w : World Val) : Type 0 where
     pub lists : (c : ℕ) → begins c → (es : List (Entry Val)) × Begins w c es × AreNumbers es
     -- no entry is in two
     pub apart : (b c s : ℕ) (es fs : List (Entry Val)) → begins b → begins c → Begins w b es → Begins w c fs → IsAmong s es → IsAmong s fs → b ≡ c
-    -- a link holds nothing, or is that of an entry of one
-    pub linked : (s : ℕ) (v : Val) → value_at w s ≡ Some v → ¬ (stored s) → (held_in (entry_at w.cells (link_of v)) ≡ None) ⊎ IsListed w s
+    -- a link holds nothing, or is that of an entry of one, or a list begins in it that has no entry with one in common
+    pub linked : (s : ℕ) (v : Val) → value_at w s ≡ Some v → ¬ (stored s) →
+        (held_in (entry_at w.cells (link_of v)) ≡ None) ⊎ (IsListed w s ⊎ IsLoose w (link_of v))
     -- a second cell is that of a list, and holds one of its entries, or one that it has let go of, or nothing
     pub second : (c b : ℕ) → seconds c b → begins c × ((es : List (Entry Val)) → Begins w c es → HoldsEntry w b es)
