@@ -214,8 +214,8 @@ module _ (h : Environment) (t : IsTied h) (whole : IsWhole h.world) (name : Plac
         let (undeleted, world) = did cell loose.entry its-list.2.list.begins loose.there in
         let gone = owner-spent h t whole owners o.0 taken in
         leads h t (At name (call.Append i o mark g)) reply.Done refl (cc (world, gone))
-        (appended-leaves (desk_of h) t.sound whole (index_of a.place) (in_range h t whole name a there) i.0 o.0 mark k (link_of v) cell is-link can.0 owner
-        loose other)
+        (appended-leaves (desk_of h) t.sound whole (index_of a.place) (in_range h t whole name a there) i.0 o.0 mark k (link_of v) cell is-link undeleted
+        can.0 owner loose other)
         (valid, (link_of v, cell, k, loose.entry, is-link, undeleted, owner, loose.there, refl))
 
     -- the item is deleted, and the owner stands under its name again
