@@ -1,15 +1,16 @@
 -- What a change of a link leaves in hand: it is sound, and it is what the call means
 use Rattle.std.proofs.Common.{◌≡◌, ◌≢◌, ◌<◌, ◌+◌, ℕ, Bool, true, false, List, [], ◌∷◌, Option, None, Some, inl, inr, length, slice_index_or, slice_set, refl, sym, ap, ◌∙◌, subst}
-use Rattle.std.specs.Prelude.{IfSome, IsSome}
+use Rattle.std.specs.Prelude.{IfSome, IsSome, IsTrue}
 use Rattle.std.specs.Option.{option_map}
 use Rattle.std.specs.Global.{Vec}
 use Rattle.sdd_core.specs.declared.tag.Tag.{Tag}
 use Rattle.sdd_core.specs.declared.tag.Tag.TheVariants.{None as no_tag, Both, Second}
 use Rattle.sdd_participants.specs.Slab.{entry_at}
 use Rattle.sdd_participants.specs.declared.standing.CellContents.{CellContents}
-use Rattle.sdd_space.specs.World.{World, value_at}
+use Rattle.sdd_space.specs.World.{World, standing_at, value_at}
 use Rattle.sdd_space.specs.WorldInvariant.{IsWhole}
 use Rattle.sdd_space.specs.Ledger.{Claim}
+use Rattle.sdd_space.specs.Out.{is_out}
 use Rattle.sdd_space.specs.Shared.{holding_of, slot_of}
 use Rattle.sdd_space.specs.WorldChanges.{held_in}
 use Rattle.sdd_space.specs.declared.shared.Shared.{Shared}
@@ -28,7 +29,7 @@ use Rattle.sdd_script_text.specs.declared.answer.Reply.TheVariants as reply
 use Rattle.sdd_script_model.specs.declared.link_change.LinkChange.{LinkChange}
 use Rattle.sdd_script_model.specs.declared.link_change.LinkChange.TheVariants.{Mark, Unmark, Delete}
 use Rattle.sdd_script_model.specs.Val.{Val, link_of}
-use Rattle.sdd_script_model.specs.Appending.{IsLooseEntry}
+use Rattle.sdd_script_model.specs.Appending.{IsLooseEntry, MayAppend}
 use Rattle.sdd_script_model.specs.Link.{IsBehind, IsLink, may_change, retagged, tag_after}
 use Rattle.sdd_script_model.specs.Shown.{item_in}
 use Rattle.sdd_script_model.specs.ScriptState.{ScriptState, holding_at, in_world, opening_at, shared_slot, slot_at}
@@ -48,6 +49,7 @@ use Rattle.sdd_script_commands.specs.ItemLines.{changing}
 use Rattle.sdd_script_commands.proofs.RawActs.{put-back, same-desk}
 use Rattle.sdd_script_commands.proofs.StackActs.{AreDatedNow, AreTold, dated-within}
 use Rattle.sdd_script_model.proofs.Appending.{appended-leaves}
+use Rattle.sdd_script_model.proofs.Counting.{accounts, owned-out}
 use Rattle.sdd_script_model.proofs.Listed.{apart-item, links-apart}
 use Rattle.sdd_script_model.proofs.Storing.{IsReserved, there-apart}
 use Rattle.sdd_script_model.proofs.Chains.{link-apart-from, starts}
@@ -159,6 +161,20 @@ behind-held : (w : World Val) (c : ℕ) (es : List (Entry Val)) → held_in (ent
 behind-held w c [] head linked k among = absurd among
 behind-held w c (e ∷ es) head linked k (inl is) = (c, head ∙ ap Some is)
 behind-held w c (e ∷ es) head linked k (inr more) = behind-held w (link_of e.value) es (ap held_in linked.0.linked) linked.1 k more
+
+module _ (h : Environment) (t : IsTied h) (whole : IsWhole h.world) (o : ℕ) (x : Shared Val)
+    (mine : slice_index_or h.owners.entries.items o None ≡ Some (Share x)) where
+  -- its item has an owner outside, so it can't go
+  pub its-out : IsTrue (is_out (standing_at h.world (slot_of x)))
+  its-out =
+      owned-out (desk_of h) (accounts (desk_of h) t.sound) o (owner_holding (Share x)) (slot_of x) (named-owner h t whole o (Share x) mine) refl
+
+  -- where its item isn't loose, or is the one that it would come behind, it may not be put there
+  pub may-not : (i : ℕ) → (IsLooseEntry h.world (slot_of x) × (slot_of x ≢ slot_at (desk_of h) i) → ⊥) → MayAppend (desk_of h) i o → ⊥
+  may-not i cannot may =
+      let both : Some may.slot ≡ Some (slot_of x) = sym may.owner ∙ ap shared_slot (named-owner h t whole o (Share x) mine) in
+      let same : may.slot ≡ slot_of x = cc in
+      cannot (subst (λ (k : ℕ). IsLooseEntry h.world k × (k ≢ slot_at (desk_of h) i)) same (may.loose, may.other))
 
 module _ (h : Environment) (t : IsTied h) (whole : IsWhole h.world) (name : PlaceName) (a : NamedParticipant)
     (there : attending (Some a) ≡ opening_at (desk_of h).places name.0) (i : ItemName) (v : Val)

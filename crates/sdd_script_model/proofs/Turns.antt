@@ -299,6 +299,9 @@ module _ (d new : ScriptState) (whole : IsWhole d.world) (after : IsWhole new.wo
   turn-does n (call.Next i g) (reply.Pointer j tag) valid (k, t, es, behind, told, plain, leaves) =
       gives (trimmed link_of d.world (place_of d n.0) k t es) (λ k. (refl, refl, refl)) valid.0.0 (places-left leaves) (world-left leaves)
       (gives-trimmed (place_of d n.0) d.world k t es (live n.0 valid.0.0).0)
+  turn-does n (call.Append i o mark g) reply.Done valid (l, cell, k, v, is, stays, owner, there, leaves) =
+      still (λ k. (refl, refl, refl)) (time-left leaves, places-left leaves)
+  turn-does n (call.Append i o mark g) reply.Deleted valid (is, e) = still (λ k. (refl, refl, refl)) (same-desk d new e)
   turn-does n call.Queue (reply.Queue q) valid (name, (cells, free, other, apart, leaves)) =
       still (λ k. (refl, refl, refl)) (time-left leaves, places-left leaves)
   turn-does n call.Queue (reply.Refused NoCell) valid (full, e) = still (λ k. (refl, refl, refl)) (same-desk d new e)

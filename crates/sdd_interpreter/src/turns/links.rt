@@ -27,7 +27,10 @@ fn is_loose(world: &mut World<Val>, place: &Place, guard: &Guard, slot: u32) -> 
     ensures world { world.new ≡ world.old }
 {
     let entry = value_shown(world, place, guard, slot);
-    if !is_number(entry) || is_in_cell(world, slot) {
+    if !is_number(entry) {
+        return false;
+    }
+    if is_in_cell(world, slot) {
         return false;
     }
     let link = cell_step_at(world, place, ReadLink { entry, guard });
@@ -48,5 +51,8 @@ pub fn is_loose_beside(
     ensures loose { IsTrue result ↔ (IsLooseEntry world.old slot × (slot ≢ other)) }
     ensures world { world.new ≡ world.old }
 {
-    slot != other && is_loose(world, place, guard, slot)
+    if slot == other {
+        return false;
+    }
+    is_loose(world, place, guard, slot)
 }

@@ -1,4 +1,4 @@
-use Rattle.std.proofs.Common.{◌≡◌, Some, inl, length, slice_index_or, sym, ap, ◌∙◌}
+use Rattle.std.proofs.Common.{◌≡◌, Some, inl, is_some, length, slice_index_or, sym, ap, ◌∙◌}
 use Rattle.sdd_script_text.specs.declared.call.Call.TheVariants.{At}
 use Rattle.sdd_script_text.specs.declared.call.Action.TheVariants as call
 use Rattle.sdd_script_text.specs.declared.answer.Reply.TheVariants as reply
@@ -7,7 +7,7 @@ use Rattle.sdd_interpreter.specs.declared.holding.AnyOwner.TheVariants.{Share}
 use Rattle.sdd_interpreter.proofs.Acts.{Does, named-owner, owner-home, stays-here}
 use Rattle.sdd_interpreter.proofs.Missing.{invalid, no-shared, points, points-not}
 use Rattle.sdd_script_commands.proofs.ContainerActs.{reader-is}
-use Rattle.sdd_script_commands.proofs.LinkActs.{acts-appended, acts-deleted, append-invalid, its-out, may-come}
+use Rattle.sdd_script_commands.proofs.LinkActs.{acts-appended, acts-deleted, its-out, may-come, may-not}
 use Rattle.sdd_script_model.proofs.Stocked.{name-given}
 use Rattle.sdd_script_commands.proofs.links.append.Goals as goal
 
