@@ -4,7 +4,7 @@ use Rattle.std.specs.Prelude.{◌==◌, if◌then◌else◌}
 use Rattle.std.proofs.lemmas.Bool.{cases_eq}
 use Rattle.std.proofs.lemmas.List.{set_comm}
 use Rattle.sdd_core.specs.declared.tag.Tag.{Tag}
-use Rattle.sdd_core.specs.declared.tag.Tag.TheVariants.{None as no_tag, First, Second, Both}
+use Rattle.sdd_core.specs.declared.tag.Tag.TheVariants.{None as no_tag, Second, Both}
 use Rattle.sdd_participants.specs.Slab.{Entries, entry_at}
 use Rattle.sdd_participants.specs.declared.standing.CellContents.{CellContents}
 use Rattle.sdd_space.specs.Ledger.{Claim, IsLedger, owner_of, owner_held, right_to, one}
@@ -38,7 +38,7 @@ use Rattle.sdd_script_model.proofs.Dates.{dated-same}
 use Rattle.sdd_script_model.proofs.Entry.{at-other}
 use Rattle.sdd_script_model.proofs.Going.{shared-is}
 use Rattle.sdd_script_model.proofs.Links.{null, same-once}
-use Rattle.sdd_script_model.proofs.Listed.{AreOwn, StaysGone, StaysLoose, among-link, apart-item, apart-own, as-before, has-changed, has-kept, held-by, link-apart, links-apart, loose-as, loose-on, same-list, unique}
+use Rattle.sdd_script_model.proofs.Listed.{AreOwn, StaysGone, StaysLoose, among-link, apart-item, apart-own, as-before, has-changed, has-kept, held-by, link-apart, links-apart, loose-as, loose-on, same-list}
 use Rattle.sdd_script_model.proofs.ListChanges.{among-or, list-beside, third}
 use Rattle.sdd_script_model.proofs.StackChains.{IsBetween, between, between-as, goes-on, midway}
 use Rattle.sdd_script_model.proofs.Storing.{IsReserved, reserved-was, there-apart}
@@ -77,8 +77,10 @@ module _ (d : ScriptState) (w : World Val) (stored : ℕ → Type 0) (had : HasL
     by not (Some c) e = elim (has-or c (own 0 c e)) [
       | inl its ↦ inl (0, c, e, its)
       | inr none ↦
-          inr (λ any. later-or h hs
-          (λ b is its. let both : Some c ≡ Some b = sym e ∙ is in let same : b ≡ c = cc in none (subst (λ (i : ℕ). HasIt i) same its)) not any.0 any.1 any.2 any.3)
+          inr (λ any. later-or h hs (λ b is its.
+          let both : Some c ≡ Some b = sym e ∙ is in
+          let same : b ≡ c = cc in
+          none (subst (λ (i : ℕ). HasIt i) same its)) not any.0 any.1 any.2 any.3)
     ]
 
   pub listed-or : IsListed (IsListCell d) w j ⊎ (IsListed (IsListCell d) w j → ⊥)
@@ -295,7 +297,8 @@ module _ (begins : ℕ → Type 0) (seconds : (c b : ℕ) → Type 0) (stored : 
 
     pub has-behind : HasLists begins seconds stored w
     has-behind =
-        has-changed begins seconds stored v w had c its (λ a b z. own-still b (own.second a b z)) stays-gone full now list new numbers-now of-it forward from links
+        has-changed begins seconds stored v w had c its (λ a b z. own-still b (own.second a b z)) stays-gone full now list new numbers-now of-it forward
+        from links
 
   -- ---- or in none
   module _ (not : IsListed begins v i → ⊥) (numbers : AreNumbers es) (free : (s : ℕ) → IsAmong s es → IsListed begins v s → ⊥) where

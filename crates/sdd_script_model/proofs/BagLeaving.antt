@@ -1,18 +1,17 @@
 -- What is always true of a desk is true after each line on a bag
-use Rattle.std.proofs.Common.{◌≡◌, ◌⊎◌, inl, inr, ℕ, List, [], ◌∷◌, ◌++◌, Option, Some, None, length, slice_index_or, slice_set, refl, sym, ap, ◌∙◌, subst}
+use Rattle.std.proofs.Common.{◌≡◌, inl, inr, ℕ, List, [], ◌∷◌, ◌++◌, Option, Some, None, length, slice_index_or, slice_set, refl, sym, ap, subst}
 use Rattle.std.proofs.lemmas.List.{append-nil}
-use Rattle.sdd_space.specs.World.{World, IsPlaceOf, standing_at}
+use Rattle.sdd_space.specs.World.{World, IsPlaceOf}
 use Rattle.sdd_space.specs.WorldInvariant.{IsWhole}
 use Rattle.sdd_lists.specs.Lists.{Entry}
-use Rattle.sdd_lists.specs.declared.linked_entry.LinkedEntry.{LinkedEntry}
-use Rattle.sdd_bag.specs.Bag.{HasSameCells, IsBag, PopsInside, PushesInside}
+use Rattle.sdd_bag.specs.Bag.{HasSameCells, IsBag}
 use Rattle.sdd_bag.specs.Overflow.{LiesOn, OverflowParts}
 use Rattle.sdd_bag.specs.Storage.{AreEmpty}
 use Rattle.sdd_script_model.specs.declared.val.Body.{Body}
-use Rattle.sdd_script_model.specs.BagLines.{PutsNumber, PutsBehind, TakesAll, TakesBehind, TakesNumber}
+use Rattle.sdd_script_model.specs.BagLines.{PutsNumber, PutsBehind, TakesAll, TakesNumber}
 use Rattle.sdd_script_model.specs.Bags.{StandsOn}
 use Rattle.sdd_script_model.specs.Copies.{LosesNames}
-use Rattle.sdd_script_model.specs.ScriptState.{BeginsLine, NumberBag, ScriptState, IsDated, bag_at, bag_length, name_at, with_bag_at}
+use Rattle.sdd_script_model.specs.ScriptState.{BeginsLine, NumberBag, ScriptState, IsDated, bag_at, bag_length, with_bag_at}
 use Rattle.sdd_lists.specs.Stack.{cell_in}
 use Rattle.sdd_lists.specs.declared.stack.Stack.{Stack}
 use Rattle.sdd_script_model.specs.Listed.{Begins}

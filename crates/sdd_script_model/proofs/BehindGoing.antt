@@ -223,8 +223,8 @@ module _ (begins : ℕ → Type 0) (seconds : (c b : ℕ) → Type 0) (stored : 
 
 module _ (begins : ℕ → Type 0) (seconds : (c b : ℕ) → Type 0) (stored : ℕ → Type 0) (v : World Val) (outside : Claim → ℕ)
     (ledger : IsLedger holdings_of outside v) (own : AreOwn begins seconds outside) (had : HasLists begins seconds stored v) (p i : ℕ) (x : Val)
-    (at : value_at v i ≡ Some x) (alone : IsListed begins v i → ⊥) (t : Tag) (plain : t ≢ Both) (es : List (Entry Val)) (list : IsList link_of v (link_of x) t es)
-    (numbers : AreNumbers es) (free : (s : ℕ) → IsAmong s es → IsListed begins v s → ⊥) where
+    (at : value_at v i ≡ Some x) (alone : IsListed begins v i → ⊥) (t : Tag) (plain : t ≢ Both) (es : List (Entry Val))
+    (list : IsList link_of v (link_of x) t es) (numbers : AreNumbers es) (free : (s : ℕ) → IsAmong s es → IsListed begins v s → ⊥) where
   abbrev l : ℕ
   l = link_of x
 

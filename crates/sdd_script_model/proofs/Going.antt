@@ -1,5 +1,5 @@
 -- What is always true of a desk is true after each call
-use Rattle.std.proofs.Common.{◌≡◌, ◌≢◌, ◌⊎◌, ℕ, zero, suc, ◌+◌, ◌<◌, ◌≤◌, Bool, true, false, nat_lt, if◌then◌else◌, List, Option, Some, None, IsSome, is_some, map, length, count_by, slice_index, slice_index_or, slice_set, inl, inr, refl, sym, ap, ◌∙◌, subst, arith}
+use Rattle.std.proofs.Common.{◌≡◌, ◌≢◌, ◌⊎◌, ℕ, zero, suc, ◌+◌, ◌<◌, ◌≤◌, Bool, true, false, nat_lt, if◌then◌else◌, List, Option, Some, None, IsSome, is_some, map, length, count_by, slice_index_or, slice_set, inl, inr, refl, sym, ap, ◌∙◌, subst, arith}
 use Rattle.std.specs.Prelude.{All, Contains, IsTrue, replicate, ◌↔◌}
 use Rattle.std.specs.List.Sorted.{IsPermutation, IsNonDecreasingBy, IsStrictlyIncreasing}
 use Rattle.std.proofs.lemmas.List.{length_push, length-replicate}
@@ -44,12 +44,12 @@ use Rattle.sdd_script_model.specs.Sound.{IsSound, ParticipantsMatch, contained, 
 use Rattle.sdd_script_model.specs.Held.{slots_among, places_among, standing_first, holding_first}
 use Rattle.sdd_script_model.proofs.Entry.{at-other, at-same, not-free}
 use Rattle.sdd_script_model.proofs.Stocked.{stocked-as, stocked-made, slots-same, slots-opened}
-use Rattle.sdd_script_model.proofs.Links.{IsBareStorage, holds-so, less-shed, null, less-same}
+use Rattle.sdd_script_model.proofs.Links.{holds-so, less-shed, null, less-same}
 use Rattle.sdd_script_model.proofs.ListChanges.{has-made, has-same}
-use Rattle.sdd_script_model.proofs.Listed.{has-still, has-stored, listed-inside}
+use Rattle.sdd_script_model.proofs.Listed.{has-still, has-stored}
 use Rattle.sdd_script_model.proofs.Frames.{Passes, passes-on}
 use Rattle.sdd_script_model.proofs.Chains.{AtHome, IsMidway, LeavesSound, at_home-given, at_home-spent, finishes, moves, shares-one, sound-after, are-own, starts}
-use Rattle.sdd_script_model.proofs.Storing.{BagsStay, bags-still, off-owned, off-standing, off-valued, put-plain, spare-bare, spare-on, stays-as, stays-on, stored-still, spare-as}
+use Rattle.sdd_script_model.proofs.Storing.{BagsStay, bags-still, off-owned, off-standing, off-valued, put-plain, spare-on, stays-as, stays-on, stored-still, spare-as}
 use Rattle.sdd_script_model.specs.Bags.{AreSpare, IsStored, bagged}
 use Rattle.sdd_script_model.proofs.Attending.{keeps-time, keeps-deferred, attended-acts, attended-later, attended-start, attended-registered, attended-ended, attended-closed, attended-opened}
 use Rattle.sdd_script_model.proofs.Attending as attending
@@ -57,9 +57,8 @@ use Rattle.sdd_script_model.proofs.Kept as kept
 use Rattle.sdd_script_model.proofs.Kept.{WereOpen, kept-call, kept-later, kept-start, kept-opened, were-same, were-registered, were-ended, were-closed, unguarded}
 use Rattle.sdd_script_model.proofs.Dates.{first-waits-not, dated-same, dated-stands, early-dated, early-later, early-start, begins-line}
 use Rattle.sdd_script_model.proofs.Dates as dates
-use Rattle.sdd_space.proofs.Standings.{out-waits-not}
 use Rattle.sdd_space.proofs.Whole.{filled-there}
-use Rattle.sdd_script_model.proofs.Counting.{accounts, tells, owner-given, owner-spent, value-spent}
+use Rattle.sdd_script_model.proofs.Counting.{accounts, owner-given, owner-spent, value-spent}
 use Rattle.sdd_script_model.proofs.Layers.{filled-long, layered-less, layered-made}
 use Rattle.sdd_script_model.proofs.Gone as gone
 use Rattle.sdd_script_model.proofs.StackGoing.{IsDatedWithin, dated-all}

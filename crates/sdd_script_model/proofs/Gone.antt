@@ -7,36 +7,20 @@ use Rattle.std.proofs.Math.ListN.{get_or-map}
 use Rattle.std.proofs.lemmas.List.Elements.{Contains-get_or}
 use Rattle.std.proofs.lemmas.List.Recursion.{is_sum_by}
 use Rattle.std.proofs.lemmas.List.Sorted.{sum_by-IsPermutation, IsPermutation-sym, Contains-permutation}
-use Rattle.std.proofs.lemmas.List.Sums.{get_or-le-sum_by, sum_by_more, sum_by_more_le, sum_by-append}
-use Rattle.sdd_rights.specs.Units.{GhostName}
-use Rattle.sdd_participants.specs.EpochState.{due_next}
+use Rattle.std.proofs.lemmas.List.Sums.{get_or-le-sum_by, sum_by_more, sum_by_more_le}
 use Rattle.sdd_participants.specs.declared.standing.Standing.TheVariants.{Shared as standing_shared, Retired}
-use Rattle.sdd_space.specs.Owned as owned
-use Rattle.sdd_space.specs.Shared as shared
-use Rattle.sdd_space.specs.OwnerOrCell.{atomic_shared}
-use Rattle.sdd_space.specs.ReclaimBound.{Waits}
-use Rattle.sdd_space.specs.WorldChanges as steps
-use Rattle.sdd_space.specs.WorldChanges.{retired, with_standing, owner_given, cell_closed, freed, given_all, taken_out, waiting_value, reclaimed, all_reclaimed}
-use Rattle.sdd_space.specs.OwnerCounts.{IsAccounted, is_owner_of, times_held}
-use Rattle.sdd_space.proofs.Accounts.{in_value-out}
+use Rattle.sdd_space.specs.WorldChanges.{owner_given}
 use Rattle.sdd_space.proofs.Entries.{one-place}
-use Rattle.sdd_space.proofs.Opening.{Nests, IsChange, how, before, due-here}
-use Rattle.sdd_space.proofs.Rights.{given-same}
-use Rattle.sdd_space.proofs.Safe.{opens-keeps}
-use Rattle.sdd_space.proofs.Standings.{owner-given, out-some, out-waits-not}
+use Rattle.sdd_space.proofs.Standings.{owner-given}
 use Rattle.sdd_space.proofs.Whole.{some-waits, times-aged}
 use Rattle.sdd_script_text.specs.declared.name.ItemName.{ItemName}
-use Rattle.sdd_script_model.proofs.Entry.{at-other, at-default}
-use Rattle.sdd_script_model.proofs.StockWords.{◌≡◌, ◌≢◌, ◌⊎◌, ℕ, suc, ◌+◌, ◌-◌, ◌<◌, ◌≤◌, ◌==◌, ◌&&◌, ◌↔◌, Bool, true, false, nat_lt, if◌then◌else◌, List, [], ◌∷◌, ◌++◌, Option, Some, None, IsSome, is_some, map, length, count_by, slice_index_or, slice_set, inl, inr, refl, sym, ap, ◌∙◌, eq-eqb, ne_eqb, lt-ltb, cases_lt, arith, nat_tests, All, Contains, cases_eq, length-map, entry_at, LimboEntry, Item, Job, Standing, is_waiting, is_out, held_in, reclaims, IsWhole, is_of_slot, once_if, World, place_at, standing_at, value_at, one_where, times_among, count-cons, some-waits, filled-there, Val, holdings_of, body_of, link_of, zero, subst, without_entry}
-use Rattle.sdd_script_model.specs.declared.val.Body.{Body}
-use Rattle.sdd_script_model.specs.Val.{owner_in, link_home}
-use Rattle.sdd_script_model.specs.declared.val.Body.TheVariants.{Number, Owned, Shared, Storage}
-use Rattle.sdd_script_model.specs.ScriptState.{ScriptState, IsThere, IsDated, slot_at, name_at, date_at}
+use Rattle.sdd_script_model.proofs.Entry.{at-other}
+use Rattle.sdd_script_model.proofs.StockWords.{◌≡◌, ◌≢◌, ℕ, suc, ◌+◌, ◌-◌, ◌<◌, ◌≤◌, ◌==◌, ◌↔◌, Bool, true, false, List, [], ◌∷◌, Option, Some, None, IsSome, is_some, map, length, count_by, slice_index_or, inl, inr, refl, sym, ap, ◌∙◌, eq-eqb, ne_eqb, arith, nat_tests, All, Contains, cases_eq, length-map, LimboEntry, Item, Job, Standing, is_waiting, reclaims, IsWhole, is_of_slot, once_if, World, place_at, standing_at, value_at, one_where, times_among, count-cons, some-waits, filled-there, Val, zero, subst}
+use Rattle.sdd_script_model.specs.ScriptState.{ScriptState, IsThere, slot_at, name_at}
 use Rattle.sdd_script_model.specs.Shown.{named_in, names_in}
-use Rattle.sdd_script_model.specs.Sound.{SlotsHaveNames, named_owners}
+use Rattle.sdd_script_model.specs.Sound.{SlotsHaveNames}
 use Rattle.sdd_script_model.specs.Held.{slots_among}
 use Rattle.sdd_script_model.proofs.Stocked.{item-there, slot-inside}
-use Rattle.sdd_script_model.proofs.Links.{IsBareStorage, body-given, closed-bare, freed-bare, waiting-there}
 
 -- ---- how often a list names something
 

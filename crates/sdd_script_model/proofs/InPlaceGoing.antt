@@ -1,43 +1,28 @@
 -- What is always true of a desk is true after an item is changed or dropped in its place, goes raw or comes back
-use Rattle.std.proofs.Common.{◌≡◌, ℕ, ◌-◌, ◌<◌, ◌≤◌, Bool, true, false, if◌then◌else◌, List, [], ◌∷◌, Option, Some, None, slice_set, inl, inr, refl, sym, ap, ◌∙◌, subst, lt-ltb, arith}
-use Rattle.std.specs.Prelude.{◌==◌, IsTrue, ◌↔◌}
-use Rattle.std.proofs.lemmas.Bool.{false≢true, cases_eq}
+use Rattle.std.proofs.Common.{◌≡◌, ℕ, ◌-◌, ◌<◌, ◌≤◌, Bool, true, false, if◌then◌else◌, List, [], Some, None, slice_set, inl, inr, refl, sym, ap, ◌∙◌, subst, lt-ltb, arith}
 use Rattle.sdd_participants.specs.declared.standing.Standing.TheVariants.{Owned, Raw, Shared}
-use Rattle.sdd_standings.specs.Slots.{IsSharedBy, is_waiting}
+use Rattle.sdd_standings.specs.Slots.{IsSharedBy}
 use Rattle.sdd_space.specs.Ledger.{owner_of}
 use Rattle.sdd_space.specs.WorldChanges.{held_in}
-use Rattle.sdd_participants.specs.Slab.{entry_at}
 use Rattle.sdd_space.specs.Ledger.Moves.{puts_out_raw, releases, takes_back_raw, drops}
-use Rattle.sdd_space.specs.OwnerCounts.{times_held}
 use Rattle.sdd_space.specs.OwnerOrCell.{OwnerOrCell}
 use Rattle.sdd_space.specs.OwnerOrCell as holding
 use Rattle.sdd_space.specs.InPlace.{IsAlone, MayInPlace}
-use Rattle.sdd_space.specs.Out.{is_out}
 use Rattle.sdd_space.specs.WorldChanges as steps
 use Rattle.sdd_space.specs.WorldChanges.{with_standing, with_value, vacated, dropped, dropped_out, owner_given, given_all}
 use Rattle.sdd_space.specs.WorldInvariant.{IsWhole}
-use Rattle.sdd_space.specs.World.{World, AnyGuardOpen, IsPlaceOf, standing_at, value_at}
-use Rattle.sdd_space.proofs.Accounts.{in_value-out}
-use Rattle.sdd_space.proofs.Standings.{out-some, out-waits-not}
-use Rattle.sdd_space.proofs.Whole.{count-cons, one_where}
-use Rattle.sdd_space.proofs.Nesting.{one-if, none-if}
+use Rattle.sdd_space.specs.World.{World, AnyGuardOpen, IsPlaceOf, standing_at}
 use Rattle.sdd_script_text.specs.declared.answer.Reply.{Reply}
 use Rattle.sdd_script_text.specs.declared.answer.Reply.TheVariants as reply
-use Rattle.sdd_script_model.specs.declared.val.Body.{Body}
-use Rattle.sdd_script_model.specs.Val.{Val, holdings_of, body_of, link_of, link_home, owner_in, renumbered}
+use Rattle.sdd_script_model.specs.Val.{Val, holdings_of, body_of, owner_in, renumbered}
 use Rattle.sdd_script_model.specs.declared.val.Body.TheVariants as body
-use Rattle.sdd_script_model.specs.ScriptState.{ScriptState, IsDated, IsListCell, holding_at, slot_of, sole_slot, shared_slot, in_world, with_owner, without_owner}
+use Rattle.sdd_script_model.specs.ScriptState.{ScriptState, holding_at, slot_of, sole_slot, shared_slot, in_world, with_owner, without_owner}
 use Rattle.sdd_script_model.specs.InPlace.{Puts, Drops}
-use Rattle.sdd_script_model.specs.Sound.{IsSound, named, named_among, named_owners}
-use Rattle.sdd_script_model.proofs.Entry.{at-other, at-default, set-either}
-use Rattle.sdd_script_model.proofs.Stocked.{slot-inside}
-use Rattle.sdd_script_model.proofs.Dates.{dated-same, dated-stands, dated-kept, dated-either}
-use Rattle.sdd_script_model.specs.Listed.{IsListed}
+use Rattle.sdd_script_model.specs.Sound.{IsSound, named, named_among}
+use Rattle.sdd_script_model.proofs.Dates.{dated-same, dated-stands}
 use Rattle.sdd_script_model.proofs.Links.{same-once}
-use Rattle.sdd_script_model.proofs.Counting.{accounts, owner-given, owner-spent, some-holding}
-use Rattle.sdd_script_model.proofs.Chains.{LeavesSound, at_home-given, at_home-spent, edited, finishes, moves, owned-apart, starts}
-use Rattle.sdd_script_model.specs.Bags.{IsStored}
-use Rattle.sdd_script_model.proofs.Storing.{spare-bare}
+use Rattle.sdd_script_model.proofs.Counting.{owner-given, owner-spent, some-holding}
+use Rattle.sdd_script_model.proofs.Chains.{LeavesSound, at_home-given, at_home-spent, edited, finishes, moves, starts}
 use Rattle.sdd_script_model.proofs.Going.{shared-is, sole-is}
 use Rattle.sdd_script_model.proofs.StackGoing.{IsDatedWithin, dated-all}
 

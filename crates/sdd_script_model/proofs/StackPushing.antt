@@ -28,7 +28,7 @@ use Rattle.sdd_script_model.specs.declared.owner_kind.OwnerKind.TheVariants as o
 use Rattle.sdd_script_model.specs.Bags.{IsStored}
 use Rattle.sdd_script_model.specs.Listed.{Begins, IsNumber}
 use Rattle.sdd_script_model.specs.ScriptState.{ScriptState, IsDated, IsListCell, IsSecondCell, in_world, with_item, with_owner}
-use Rattle.sdd_script_model.specs.Sound.{IsSound, contained, named, named_among}
+use Rattle.sdd_script_model.specs.Sound.{IsSound, named, named_among}
 use Rattle.sdd_script_model.specs.Stacks.{IsStack, Pushes}
 use Rattle.sdd_script_model.specs.Val.{Val, body_of, holdings_of, link_of}
 use Rattle.sdd_script_model.proofs.Attending.{keeps-live}

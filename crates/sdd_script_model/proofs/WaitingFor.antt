@@ -3,7 +3,6 @@ use Rattle.std.specs.List.{filter, range_with_len}
 use Rattle.std.specs.List.Sorted.{IsPermutation, IsNonDecreasingBy, IsStrictlyIncreasing}
 use Rattle.std.proofs.lemmas.Bool.{false≢true}
 use Rattle.std.proofs.lemmas.List.Elements.{Contains-get_or, filter_passes}
-use Rattle.std.proofs.lemmas.List.Sums.{sum_by-append}
 use Rattle.sdd_participants.specs.Collecting.{is_private_to}
 use Rattle.sdd_participants.specs.declared.standing.Standing.TheVariants.{Owned, Raw, Shared, Retired, Private as privately}
 use Rattle.sdd_space.specs.Collecting.{is_for, waiting_for}
@@ -13,7 +12,7 @@ use Rattle.sdd_script_model.specs.ScriptState.{ScriptState, IsThere, slot_at}
 use Rattle.sdd_script_model.specs.Held.{slots_among, slots_waiting_for}
 use Rattle.sdd_script_model.specs.Shown.{names_in}
 use Rattle.sdd_script_model.specs.Sound.{SlotsHaveNames}
-use Rattle.sdd_script_model.proofs.StockWords.{◌≡◌, ℕ, zero, suc, ◌+◌, ◌<◌, ◌≤◌, ◌==◌, Bool, true, false, if◌then◌else◌, List, [], ◌∷◌, ◌++◌, Option, Some, None, IsSome, map, length, slice_index_or, inl, inr, refl, sym, ap, ◌∙◌, eq-eqb, arith, nat_tests, All, Contains, ◌↔◌, cases_eq, cases_lt, LimboEntry, Item, Job, Standing, is_waiting, IsWhole, is_of_slot, World, standing_at, value_at, one_where, times_among, count-cons, some-waits, filled-there, Val}
+use Rattle.sdd_script_model.proofs.StockWords.{◌≡◌, ℕ, zero, suc, ◌+◌, ◌<◌, ◌≤◌, ◌==◌, Bool, true, false, if◌then◌else◌, List, ◌∷◌, Option, Some, None, IsSome, map, length, slice_index_or, inl, inr, refl, sym, ap, ◌∙◌, eq-eqb, arith, nat_tests, All, Contains, ◌↔◌, cases_eq, LimboEntry, Item, Job, Standing, is_waiting, IsWhole, is_of_slot, World, standing_at, one_where, times_among, count-cons, some-waits, Val}
 use Rattle.sdd_script_model.proofs.Gone.{among-slots, counted-contains, counted-there, names-found, slots-contain, times_in}
 use Rattle.sdd_script_model.proofs.Stocked.{slot-inside}
 
