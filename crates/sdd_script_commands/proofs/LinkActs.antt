@@ -169,6 +169,13 @@ module _ (h : Environment) (t : IsTied h) (whole : IsWhole h.world) (o : ℕ) (x
   its-out =
       owned-out (desk_of h) (accounts (desk_of h) t.sound) o (owner_holding (Share x)) (slot_of x) (named-owner h t whole o (Share x) mine) refl
 
+  -- what is told of it is told of the one that is taken by that name
+  pub loose-taken : (y : Shared Val) (k : ℕ) → slice_index_or h.owners.entries.items o None ≡ Some (Share y) →
+      IsLooseEntry h.world (slot_of x) × (slot_of x ≢ k) → IsLooseEntry h.world (slot_of y) × (slot_of y ≢ k)
+  loose-taken y k taken loose =
+      let both : Some (Share x) ≡ Some (Share y) = sym mine ∙ taken in
+      let same : x ≡ y = cc in subst (λ (z : Shared Val). IsLooseEntry h.world (slot_of z) × (slot_of z ≢ k)) same loose
+
   -- where its item isn't loose, or is the one that it would come behind, it may not be put there
   pub may-not : (i : ℕ) → (IsLooseEntry h.world (slot_of x) × (slot_of x ≢ slot_at (desk_of h) i) → ⊥) → MayAppend (desk_of h) i o → ⊥
   may-not i cannot may =
@@ -208,8 +215,8 @@ module _ (h : Environment) (t : IsTied h) (whole : IsWhole h.world) (name : Plac
   abbrev cell : CellContents
   cell = record { held = first_slot es; tag = its-list.0 }
 
-  is-link : IsLink (desk_of h) i.0 (link_of v) cell
-  is-link = record { entry = v; there = shown; link = refl; holds = its-list.2.list.begins }
+  its-link : IsLink (desk_of h) i.0 (link_of v) cell
+  its-link = record { entry = v; there = shown; link = refl; holds = its-list.2.list.begins }
 
   entry : holding_at (desk_of h).owners o.0 ≡ Some (owner_holding (Share x))
   entry = named-owner h t whole o.0 (Share x) mine
@@ -230,9 +237,9 @@ module _ (h : Environment) (t : IsTied h) (whole : IsWhole h.world) (name : Plac
         let (undeleted, world) = did cell loose.entry its-list.2.list.begins loose.there in
         let gone = owner-spent h t whole owners o.0 taken in
         leads h t (At name (call.Append i o mark g)) reply.Done refl (cc (world, gone))
-        (appended-leaves (desk_of h) t.sound whole (index_of a.place) (in_range h t whole name a there) i.0 o.0 mark k (link_of v) cell is-link undeleted
+        (appended-leaves (desk_of h) t.sound whole (index_of a.place) (in_range h t whole name a there) i.0 o.0 mark k (link_of v) cell its-link undeleted
         can.0 owner loose other)
-        (valid, (link_of v, cell, k, loose.entry, is-link, undeleted, owner, loose.there, refl))
+        (valid, (link_of v, cell, k, loose.entry, its-link, undeleted, owner, loose.there, refl))
 
     -- the item is deleted, and the owner stands under its name again
     pub acts-deleted : (w : World Val) (between after : Vec (Option AnyOwner)) (y : Shared Val) →
@@ -244,4 +251,4 @@ module _ (h : Environment) (t : IsTied h) (whole : IsWhole h.world) (name : Plac
         let (deleted, same, world) = did cell loose.entry its-list.2.list.begins loose.there in
         let as_before = same-desk h w after world (put-back h between after o.0 (Share x) (Share y) mine taken back same) in
         does (desk_of h) (At name (call.Append i o mark g)) reply.Deleted (goes as_before t.sound t.guards)
-        (still (desk_of h) (At name (call.Append i o mark g)) reply.Deleted (valid, ((link_of v, cell, is-link, deleted), refl)))
+        (still (desk_of h) (At name (call.Append i o mark g)) reply.Deleted (valid, ((link_of v, cell, its-link, deleted), refl)))

@@ -110,7 +110,13 @@ pub fn append(
     };
     let place = &attending.place;
     let guard = &held.guard;
-    if !is_loose_beside(&mut stage.hand.world, place, guard, slot_of_share(owned), slot) {
+    if !is_loose_beside(
+        &mut stage.hand.world,
+        place,
+        guard,
+        slot_of_share(owned),
+        slot,
+    ) {
         return Reply::Invalid;
     }
     let entry = value_shown(&mut stage.hand.world, place, guard, slot);
