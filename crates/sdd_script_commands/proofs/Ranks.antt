@@ -124,24 +124,24 @@ module _ (d : ScriptState) (s : IsSound d) (no_list : (c : ℕ) → IsListCell d
   link-falls j k v there holds =
       let mine = behind j v there in
       by mine.entries mine.linked mine.numbers (sym mine.held ∙ holds) (long-is j v there mine.entries mine.linked mine.held) where
-    number-low : (x : Val) → IsNumber (body_of x) → value_at d.world k ≡ Some x → rank k ≡ long k
-    number-low x number at = by-body (body_of x) refl number where
-      by-body : (b : Body) → body_of x ≡ b → IsNumber b → rank k ≡ long k
-      by-body (Number n) body number = rank-is k x (Number n) at body
-      by-body (Owned o) body never = absurd never
-      by-body (Shared o) body never = absurd never
-      by-body (Storage st) body never = absurd never
+        number-low : (x : Val) → IsNumber (body_of x) → value_at d.world k ≡ Some x → rank k ≡ long k
+        number-low x number at = by-body (body_of x) refl number where
+          by-body : (b : Body) → body_of x ≡ b → IsNumber b → rank k ≡ long k
+          by-body (Number n) body number = rank-is k x (Number n) at body
+          by-body (Owned o) body never = absurd never
+          by-body (Shared o) body never = absurd never
+          by-body (Storage st) body never = absurd never
 
-    above-it : (m : ℕ) → rank k ≡ m → m < long j → m < bound → (b : Body) → body_of v ≡ b → rank k < rank j
-    above-it m is less few (Number n) body = omega (arith, is, less, rank-is j v (Number n) there body)
-    above-it m is less few (Owned o) body = omega (arith, is, few, rank-is j v (Owned o) there body)
-    above-it m is less few (Shared o) body = omega (arith, is, few, rank-is j v (Shared o) there body)
-    above-it m is less few (Storage st) body = omega (arith, is, few, rank-is j v (Storage st) there body)
+        above-it : (m : ℕ) → rank k ≡ m → m < long j → m < bound → (b : Body) → body_of v ≡ b → rank k < rank j
+        above-it m is less few (Number n) body = omega (arith, is, less, rank-is j v (Number n) there body)
+        above-it m is less few (Owned o) body = omega (arith, is, few, rank-is j v (Owned o) there body)
+        above-it m is less few (Shared o) body = omega (arith, is, few, rank-is j v (Shared o) there body)
+        above-it m is less few (Storage st) body = omega (arith, is, few, rank-is j v (Storage st) there body)
 
-    by : (es : List (Entry Val)) → AreLinked link_of d.world es → AreNumbers es → first_slot es ≡ Some k → long j ≡ length es → rank k < rank j
-    by [] linked numbers first many = absurd (cc)
-    by (e ∷ es) linked numbers first many =
-        let slot : e.slot ≡ k = cc in
-        let at : value_at d.world k ≡ Some e.value = ap (λ (i : ℕ). value_at d.world i) (sym slot) ∙ linked.0.there in
-        let tail = long-is k e.value at es linked.1 (ap held_in linked.0.linked) in
-        above-it (length es) (number-low e.value numbers.0 at ∙ tail) (omega (arith, many)) (omega (arith, below k e.value at, tail)) (body_of v) refl
+        by : (es : List (Entry Val)) → AreLinked link_of d.world es → AreNumbers es → first_slot es ≡ Some k → long j ≡ length es → rank k < rank j
+        by [] linked numbers first many = absurd (cc)
+        by (e ∷ es) linked numbers first many =
+            let slot : e.slot ≡ k = cc in
+            let at : value_at d.world k ≡ Some e.value = ap (λ (i : ℕ). value_at d.world i) (sym slot) ∙ linked.0.there in
+            let tail = long-is k e.value at es linked.1 (ap held_in linked.0.linked) in
+            above-it (length es) (number-low e.value numbers.0 at ∙ tail) (omega (arith, many)) (omega (arith, below k e.value at, tail)) (body_of v) refl
