@@ -1,5 +1,4 @@
-use Rattle.std.proofs.Common.{◌≡◌, ◌++◌, [], ◌∷◌, ℕ, Option, List, refl, sym, ap, ◌∙◌, subst, length, arith, rules}
-use Rattle.std.proofs.lemmas.List.{length_push}
+use Rattle.std.proofs.Common.{◌++◌, [], ◌∷◌, ℕ, List, refl, sym, ap, ◌∙◌, subst, rules}
 use Rattle.sdd_space.specs.CallerId.{CallerId, IsExact}
 use Rattle.sdd_space.specs.OwnerOrCell.{SpaceId}
 use Rattle.sdd_space.specs.World.{World}

@@ -1,4 +1,4 @@
-use Rattle.std.proofs.Common.{◌≡◌, ◌+◌, ◌≤◌, ◌++◌, ℕ, List, Option, length, vec_capacity}
+use Rattle.std.proofs.Common.{◌≡◌, ◌≤◌, ◌++◌, ℕ, List, Option, length, vec_capacity}
 use Rattle.sdd_space.specs.Ptr.{PtrIsShown, slot_named}
 use Rattle.sdd_lists.specs.Lists.{AreLinked, Entry, first_slot}
 use Rattle.sdd_script_model.specs.Copies.{ArePlain, entry_slots}

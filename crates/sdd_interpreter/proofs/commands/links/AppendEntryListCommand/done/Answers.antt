@@ -1,5 +1,4 @@
-use Rattle.std.proofs.Common.{◌≡◌, Option, Some, refl, sym, ap, ◌∙◌, subst}
-use Rattle.sdd_participants.specs.declared.standing.CellContents.{CellContents}
+use Rattle.std.proofs.Common.{◌≡◌, Option, Some, sym, ap, ◌∙◌}
 use Rattle.sdd_space.specs.OwnerOrCell as holding
 use Rattle.sdd_rights.specs.Right.{number_of, home_of}
 use Rattle.sdd_rights.specs.declared.right.Right.{Right}
@@ -20,8 +19,7 @@ returns-in-Ok-clause-done g c = λ cell v is there.
     let w = g.S.Caller.world c.args.s.now in
     let l = link_of c.args.self.entry.now in
     let k = slot_of c.args.self.owner in
-    let tag = mark_tag c.args.self.mark in
-    (
+    let tag = mark_tag c.args.self.mark in (
       c.in-Ok.ensures.refused c.requires.exact cell is,
       linked.world ∙ ap (λ (x : Val). linked_in w l tag (link_of x) k (first_slot es)) value
           ∙ ap (λ (x : Option _). linked_in w l tag (link_of v) k x) next,
