@@ -76,15 +76,17 @@ module _ (d : ScriptState) (s : IsSound d) (no_list : (c : ℕ) → IsListCell d
   abbrev above : ℕ → ℕ
   above k = bound + number_in (name_at d k)
 
-  abbrev pub rank : ℕ → ℕ
+  pub rank : ℕ → ℕ
   rank k = weight_at (value_at d.world k) (long k) (above k)
 
   rank-is : (k : ℕ) (v : Val) (b : Body) → value_at d.world k ≡ Some v → body_of v ≡ b → rank k ≡ weight b (long k) (above k)
+  unfolding rank
   rank-is k v b there body =
       ap (λ (x : Option Val). weight_at x (long k) (above k)) there ∙ ap (λ (y : Body). weight y (long k) (above k)) body
 
   -- it is that of a number, or as high as the name says
   low-or : (k : ℕ) → (rank k < bound) ⊎ (rank k ≡ above k)
+  unfolding rank
   low-or k = by (value_at d.world k) refl where
     by-body : (v : Val) → value_at d.world k ≡ Some v → (b : Body) → body_of v ≡ b → (rank k < bound) ⊎ (rank k ≡ above k)
     by-body v there (Number n) body = inl (omega (arith, below k v there, rank-is k v (Number n) there body))
