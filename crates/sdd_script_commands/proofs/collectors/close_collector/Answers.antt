@@ -69,7 +69,7 @@ returns-in-Err c =
           (λ s e. e) (λ k e. e));
     }
 
-told : (c : goal.After-drop-waited) → AreTold c.stage.inside.hand c.in_ok-waited.waited.items
+told : (c : goal.After-drop-waited-2) → AreTold c.stage.inside.hand c.in_ok-waited.waited.items
 told c = λ s lt. c.in_ok-waited.ensures.each s (omega (arith, lt, ap length c.as_slice-names.ensures.value))
 
 pub invariant_of-stage-2 : goal.invariant_of-stage-2

@@ -25,7 +25,7 @@ pub in_place_step_at-requires-clause-asked : goal.in_place_step_at-requires-clau
 in_place_step_at-requires-clause-asked c =
     owner-home c.stage.inside.hand c.stage.invariant c.is_whole.ensures c.args.owner.0 _ (sym c.in-Some-take.ensures.taken)
 
-went : (c : goal.After-drop-waited) → Does (desk_of c.stage.inside.hand) (At c.args.name (call.Drop c.args.owner)) c.in-Ok.reply
+went : (c : goal.After-drop-waited-2) → Does (desk_of c.stage.inside.hand) (At c.args.name (call.Drop c.args.owner)) c.in-Ok.reply
     (record c.stage.inside.hand { world = c.in_place_step_at.new.world; owners = c.take.new.self; dates = c.date_new.new.dates })
 went c =
     let h = c.stage.inside.hand in
@@ -42,7 +42,7 @@ pub returns : goal.returns
 returns c = record { acts = rw (← c.stage.view_is) (went c).1 }
 
 -- where it is refused, the desk is as it was
-back : (c : goal.After-put_back) → desk_of (record c.stage.inside.hand { world = c.in_place_step_at.new.world; owners = c.put_back.new.self })
+back : (c : goal.After-drop-waited-in-Err) → desk_of (record c.stage.inside.hand { world = c.in_place_step_at.new.world; owners = c.put_back.new.self })
     ≡ desk_of c.stage.inside.hand
 back c =
     let h = c.stage.inside.hand in
