@@ -1,11 +1,11 @@
 -- What each action on a bag leaves in hand: it is sound, and it is what the call means
-use Rattle.std.proofs.Common.{◌≡◌, ◌<◌, ◌≤◌, ◌+◌, ℕ, Bool, true, false, List, [], ◌∷◌, ◌++◌, Option, Some, None, is_some, length, slice_index_or, slice_set, refl, sym, ap, ◌∙◌, subst, arith}
+use Rattle.std.proofs.Common.{◌≡◌, ◌+◌, ℕ, Bool, true, false, List, [], ◌∷◌, ◌++◌, Option, Some, None, is_some, length, slice_index_or, slice_set, refl, sym, ap, ◌∙◌, subst}
 use Rattle.std.specs.Global.{Vec}
 use Rattle.std.specs.List.Sorted.{IsNonDecreasing, IsPermutation}
 use Rattle.std.proofs.lemmas.List.{length-append, set-get_or, set-set}
 use Rattle.sdd_core.specs.declared.refused.Refused.{Refused}
 use Rattle.sdd_core.specs.declared.refused.Refused.TheVariants.{NoCell}
-use Rattle.sdd_space.specs.World.{World, IsPlaceOf, standing_at}
+use Rattle.sdd_space.specs.World.{World, IsPlaceOf}
 use Rattle.sdd_space.specs.WorldInvariant.{IsWhole}
 use Rattle.sdd_lists.specs.Lists.{Entry}
 use Rattle.sdd_lists.specs.Queue.{HasOneAtMost}
@@ -25,7 +25,7 @@ use Rattle.sdd_script_text.specs.declared.answer.Reply.TheVariants as reply
 use Rattle.sdd_script_model.specs.BagLines.{BeginsBag, PutsNumber, TakesAll, TakesNumber, holds_nothing}
 use Rattle.sdd_script_model.specs.Bags.{StandsOn}
 use Rattle.sdd_script_model.specs.Copies.{LosesNames}
-use Rattle.sdd_script_model.specs.ScriptState.{BeginsLine, NumberBag, ScriptState, bag_at, bag_length, in_world, opening_at, place_of, with_bag_at, without_bag}
+use Rattle.sdd_script_model.specs.ScriptState.{BeginsLine, NumberBag, ScriptState, bag_at, bag_length, opening_at, place_of, with_bag_at}
 use Rattle.sdd_script_model.specs.Script.{Acts, HasOpen, IsBagName, IsParticipant, IsUnderGuard}
 use Rattle.sdd_script_model.specs.Val.{Val, storage_in}
 use Rattle.sdd_script_model.proofs.BagEnds.{bag_begun-leaves, bag_closed-leaves}

@@ -1,5 +1,5 @@
 -- What each action of a cell leaves in hand: it is sound, and it is what the call means
-use Rattle.std.proofs.Common.{◌≡◌, ℕ, Bool, true, false, if◌then◌else◌, List, [], ◌∷◌, ◌++◌, ◌<◌, Option, Some, None, IsSome, is_some, map, length, slice_index, slice_index_or, slice_set, refl, sym, ap, ◌∙◌}
+use Rattle.std.proofs.Common.{◌≡◌, ℕ, Bool, true, false, if◌then◌else◌, List, [], ◌∷◌, ◌++◌, ◌<◌, Option, Some, None, IsSome, is_some, map, length, slice_index_or, slice_set, refl, sym, ap, ◌∙◌}
 use Rattle.std.specs.Prelude.{IsTrue, ◌↔◌, IfSome}
 use Rattle.std.specs.Option.{option_map}
 use Rattle.std.specs.Global.{Vec}
@@ -35,7 +35,7 @@ use Rattle.sdd_interpreter.specs.declared.participants.NamedParticipant.{NamedPa
 use Rattle.sdd_interpreter.specs.declared.interpreter.Environment.{Environment}
 use Rattle.sdd_script_model.specs.ScriptState.{ScriptState, opening_at, holding_at, cell_of, in_world, slot_of}
 use Rattle.sdd_script_model.specs.Script.{Acts, Meets, HasOpen, IsParticipant, IsCellName, IsValid, slot_put, cell_as}
-use Rattle.sdd_script_model.specs.Shown.{IsCell, item_held, item_in}
+use Rattle.sdd_script_model.specs.Shown.{IsCell, item_held}
 use Rattle.sdd_interpreter.specs.Environment.{attending, FitsIn, Fills, named_owner, dated_if_waiting}
 use Rattle.sdd_interpreter.specs.Owners.{owner_holding, cell_holding, cell_number, holding_around, filling_holding, filling_kind}
 use Rattle.sdd_interpreter.specs.Interpreter.{desk_of, IsTied}

@@ -1,5 +1,5 @@
 -- What each action of a collector leaves in hand: it is sound, and it is what the call means
-use Rattle.std.proofs.Common.{◌≡◌, ℕ, ◌<◌, Bool, List, [], ◌∷◌, ◌++◌, Option, Some, None, IsSome, is_some, map, length, slice_index, slice_index_or, slice_set, refl, sym, ap, ◌∙◌, subst}
+use Rattle.std.proofs.Common.{◌≡◌, ℕ, ◌<◌, Bool, List, [], ◌∷◌, ◌++◌, Option, Some, None, IsSome, is_some, map, length, slice_index_or, slice_set, refl, sym, ap, ◌∙◌, subst}
 use Rattle.std.specs.List.Sorted.{IsPermutation, IsNonDecreasingBy}
 use Rattle.std.specs.Option.{option_map}
 use Rattle.std.specs.Global.{Vec}
@@ -29,7 +29,7 @@ use Rattle.sdd_script_text.specs.declared.answer.Reply.{Reply}
 use Rattle.sdd_script_text.specs.declared.answer.Reply.TheVariants as reply
 use Rattle.sdd_script_model.specs.Val.{Val, holdings_of}
 use Rattle.sdd_script_model.specs.Collecting.{Collects}
-use Rattle.sdd_script_model.specs.ScriptState.{ScriptState, IsDated, collector_of, holding_at, in_world, opening_at, slot_of, without_collector}
+use Rattle.sdd_script_model.specs.ScriptState.{ScriptState, collector_of, holding_at, in_world, opening_at, slot_of, without_collector}
 use Rattle.sdd_script_model.specs.Held.{slots_waiting_for}
 use Rattle.sdd_script_model.specs.Script.{Acts, Answers, HasOpen, IsCollector, IsOwnerName, IsParticipant, Meets}
 use Rattle.sdd_script_model.specs.Shown.{names_in}

@@ -1,5 +1,5 @@
 -- What a copy of a queue or a stack leaves in hand, refused or not: it is sound, and it is what the call means
-use Rattle.std.proofs.Common.{◌≡◌, ◌⊎◌, ◌<◌, ◌≤◌, inl, inr, ℕ, Bool, true, false, List, [], ◌∷◌, ◌++◌, Option, Some, None, is_some, map, length, slice_index, slice_index_or, if◌then◌else◌, refl, sym, ap, ◌∙◌, subst, arith}
+use Rattle.std.proofs.Common.{◌≡◌, ◌<◌, ◌≤◌, inl, inr, ℕ, Bool, true, false, List, [], ◌∷◌, ◌++◌, Option, Some, None, is_some, map, length, slice_index, slice_index_or, if◌then◌else◌, refl, sym, ap, ◌∙◌, subst, arith}
 use Rattle.std.specs.Prelude.{Err, Ok, ◌&&◌, not}
 use Rattle.std.specs.Option.{option_map}
 use Rattle.std.specs.Global.{Vec}
@@ -14,7 +14,7 @@ use Rattle.sdd_space.specs.OwnerOrCell as holding
 use Rattle.sdd_space.specs.World.{World, IsPlaceOf, standing_at}
 use Rattle.sdd_space.specs.WorldInvariant.{IsWhole}
 use Rattle.sdd_lists.specs.Lists.{Entry}
-use Rattle.sdd_lists.specs.Queue.{AreOfCells, IsQueue, QueueCells, cells_in, queue_closed}
+use Rattle.sdd_lists.specs.Queue.{AreOfCells, IsQueue, cells_in, queue_closed}
 use Rattle.sdd_lists.specs.Stack.{cell_in, home_in}
 use Rattle.sdd_lists.specs.Walk.{shown_of}
 use Rattle.sdd_lists.specs.declared.queue.Queue.{Queue}
@@ -32,7 +32,7 @@ use Rattle.sdd_script_model.specs.declared.val.Body.{Body}
 use Rattle.sdd_script_model.specs.Copies.{ArePlain, LosesNames, MakesQueueOf, MakesStackOf, entry_slots}
 use Rattle.sdd_script_model.specs.Listed.{AreNumbers, Begins}
 use Rattle.sdd_script_model.specs.Queues.{IsNamedQueue}
-use Rattle.sdd_script_model.specs.ScriptState.{BeginsLine, ScriptState, name_at, names_from, opening_at, place_of}
+use Rattle.sdd_script_model.specs.ScriptState.{BeginsLine, ScriptState, names_from, opening_at, place_of}
 use Rattle.sdd_script_model.specs.Script.{HasOpen}
 use Rattle.sdd_script_model.specs.Stacks.{IsStack, stack_closed}
 use Rattle.sdd_script_model.specs.Val.{Val, link_of}

@@ -33,7 +33,7 @@ use Rattle.sdd_world.proofs.Sweeping.{all-uncounted}
 use Rattle.sdd_script_model.specs.Val.{Val, body_of, owner_in, link_of, link_holding, holdings_of, storage_in}
 use Rattle.sdd_bag.specs.Storages.{StorageName}
 use Rattle.sdd_script_model.specs.Bags.{AreBags, IsStored, is_own_cell, is_stack_cell}
-use Rattle.sdd_script_model.specs.ScriptState.{NumberBag, ScriptState, OpenSince, IsListCell, IsSecondCell, bag_at, holding_at, shared_cell, opening_at, place_in, slot_at, slot_of, cell_of, collector_of, name_at, in_world, without_owner}
+use Rattle.sdd_script_model.specs.ScriptState.{NumberBag, ScriptState, OpenSince, IsListCell, IsSecondCell, bag_at, holding_at, shared_cell, opening_at, place_in, slot_at, slot_of, cell_of, collector_of, in_world, without_owner}
 use Rattle.sdd_script_model.specs.Sound.{IsSound, SlotsHaveNames, NamesAreAtHome, has_right, is_of, named, named_owners, owns, contained}
 use Rattle.sdd_script_model.specs.Script.{Acts, HasOpen, Meets}
 use Rattle.sdd_script_commands.specs.Leaving.{SpendsOwner, SpendsCell, SpendsCollector, SpendsGuard, LeavesRaw}
@@ -57,7 +57,7 @@ use Rattle.sdd_script_model.proofs.SmallSteps.{keeps-closed, keeps-given}
 use Rattle.sdd_script_model.proofs.Attending.{KeepsGuards, attended-same, placed-still}
 use Rattle.sdd_script_model.proofs.Chains.{are-own, at_home-spent}
 use Rattle.sdd_script_model.proofs.JobDates.{job_dates-shut}
-use Rattle.sdd_script_model.proofs.Counting.{accounts, cell-spent, collector-spent, linked, out-there, owned-out, owner-spent, some-holding}
+use Rattle.sdd_script_model.proofs.Counting.{accounts, cell-spent, collector-spent, linked, owned-out, owner-spent, some-holding}
 use Rattle.sdd_interpreter.proofs.Collectors.{collectors-spent, number-is}
 use Rattle.sdd_script_commands.proofs.Ranks.{link-falls, rank, value-falls}
 use Rattle.sdd_script_model.proofs.Layers.{layered-less}

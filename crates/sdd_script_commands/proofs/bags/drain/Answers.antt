@@ -1,8 +1,7 @@
-use Rattle.std.proofs.Common.{◌≡◌, Some, length, slice_set, ap, ◌∙◌, arith, rules, List, ℕ, subst, sym}
+use Rattle.std.proofs.Common.{◌≡◌, length, arith, rules, List, ℕ, subst, sym}
 use Rattle.sdd_script_text.specs.declared.call.Call.TheVariants.{At}
 use Rattle.sdd_script_text.specs.declared.call.Action.TheVariants as call
 use Rattle.sdd_script_text.specs.declared.answer.Reply.TheVariants as reply
-use Rattle.sdd_script_model.specs.ScriptState.{NumberBag}
 use Rattle.sdd_interpreter.specs.Interpreter.{desk_of}
 use Rattle.sdd_interpreter.proofs.Acts.{Does}
 use Rattle.sdd_interpreter.proofs.Missing.{invalid}

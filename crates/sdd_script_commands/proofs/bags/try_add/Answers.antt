@@ -1,6 +1,5 @@
-use Rattle.std.proofs.Common.{◌≡◌, Some, slice_set, refl, ap, ◌∙◌}
-use Rattle.sdd_bag.specs.Bag.{BagParts, HasSameCells, PushesInside}
-use Rattle.sdd_bag.specs.Overflow.{OverflowParts}
+use Rattle.std.proofs.Common.{Some, slice_set, refl, ap, ◌∙◌}
+use Rattle.sdd_bag.specs.Bag.{HasSameCells}
 use Rattle.sdd_script_text.specs.declared.call.Call.TheVariants.{At}
 use Rattle.sdd_script_text.specs.declared.call.Action.TheVariants as call
 use Rattle.sdd_script_text.specs.declared.answer.Reply.TheVariants as reply

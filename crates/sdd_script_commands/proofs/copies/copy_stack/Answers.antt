@@ -1,16 +1,12 @@
-use Rattle.std.proofs.Common.{◌≡◌, ◌+◌, ◌≤◌, ℕ, None, length, map, sym, ap, ◌∙◌, subst, arith, rules, vec_capacity}
-use Rattle.std.specs.Prelude.{Err, Ok}
+use Rattle.std.proofs.Common.{◌≡◌, ◌+◌, ◌≤◌, None, length, sym, ap, ◌∙◌, arith, rules, vec_capacity}
 use Rattle.std.proofs.lemmas.List.{length-map}
-use Rattle.sdd_space.specs.World.{World}
 use Rattle.sdd_lists.specs.Lists.{Entry}
-use Rattle.sdd_world.specs.Place.{index_of}
 use Rattle.sdd_script_text.specs.declared.call.Call.TheVariants.{At}
 use Rattle.sdd_script_text.specs.declared.call.Action.TheVariants as call
 use Rattle.sdd_script_text.specs.declared.name.ListName.TheVariants as list
 use Rattle.sdd_script_text.specs.declared.answer.Reply.TheVariants as reply
 use Rattle.sdd_script_model.specs.Copies.{entry_slots}
 use Rattle.sdd_script_model.specs.Val.{Val}
-use Rattle.sdd_interpreter.specs.Copies.{StackIsCopied}
 use Rattle.sdd_interpreter.specs.Interpreter.{desk_of}
 use Rattle.sdd_interpreter.proofs.Acts.{Does}
 use Rattle.sdd_interpreter.proofs.Missing.{invalid}

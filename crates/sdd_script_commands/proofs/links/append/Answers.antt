@@ -1,4 +1,4 @@
-use Rattle.std.proofs.Common.{◌≡◌, ◌≢◌, Some, inl, is_some, length, slice_index_or, sym, ap, ◌∙◌}
+use Rattle.std.proofs.Common.{◌≢◌, inl, is_some, slice_index_or, ap, ◌∙◌}
 use Rattle.sdd_script_text.specs.declared.call.Call.TheVariants.{At}
 use Rattle.sdd_script_text.specs.declared.call.Action.TheVariants as call
 use Rattle.sdd_script_text.specs.declared.answer.Reply.TheVariants as reply
@@ -8,7 +8,7 @@ use Rattle.sdd_script_model.specs.Appending.{IsLooseEntry}
 use Rattle.sdd_script_model.specs.ScriptState.{slot_at}
 use Rattle.sdd_interpreter.specs.Interpreter.{desk_of}
 use Rattle.sdd_interpreter.specs.declared.holding.AnyOwner.TheVariants.{Share}
-use Rattle.sdd_interpreter.proofs.Acts.{Does, named-owner, owner-home, stays-here}
+use Rattle.sdd_interpreter.proofs.Acts.{Does, owner-home, stays-here}
 use Rattle.sdd_interpreter.proofs.Missing.{invalid, no-shared, points, points-not}
 use Rattle.sdd_script_commands.proofs.ContainerActs.{reader-is}
 use Rattle.sdd_script_commands.proofs.LinkActs.{acts-appended, acts-deleted, its-out, loose-taken, may-come, may-not}

@@ -1,11 +1,9 @@
-use Rattle.std.proofs.Common.{◌≡◌, map, length, ap, ◌∙◌}
-use Rattle.std.specs.Option.{option_map}
+use Rattle.std.proofs.Common.{length, ap, ◌∙◌}
 use Rattle.sdd_core.specs.declared.refused.Refused.TheVariants.{NoCell}
 use Rattle.sdd_script_text.specs.declared.call.Call.TheVariants.{At}
 use Rattle.sdd_script_text.specs.declared.call.Action.TheVariants as call
 use Rattle.sdd_script_text.specs.declared.answer.Reply.TheVariants as reply
 use Rattle.sdd_interpreter.specs.Interpreter.{desk_of}
-use Rattle.sdd_interpreter.specs.Owners.{stack_holding}
 use Rattle.sdd_interpreter.proofs.Acts.{Does, does, goes}
 use Rattle.sdd_interpreter.proofs.Missing.{invalid}
 use Rattle.sdd_interpreter.proofs.Stacks.{no-stack, stack-home}
