@@ -6,7 +6,7 @@ use Rattle.sdd_lists.proofs.iter.IterIterator.next.Given as goal
 abbrev pub invariant-loop-most : goal.invariant-loop-most
 invariant-loop-most g l = record {
   space : l.self.space ≡ l.fn.self.space;
-  home : IsIterOf (g.S.Caller.seat l.self.space.now).home.cells l.self;
+  home : IsIterOf (g.S.Caller.seat l.self.space.now).home.slots l.self;
   few : l.self.most ≤ l.fn.self.most;
   gives : IsExact (g.S.Caller.seat l.fn.self.space.now) → (vs : List _) → GivesInOrder (g.S.Caller.world l.fn.self.space.now) l.fn.self vs →
       GivesInOrder (g.S.Caller.world l.fn.self.space.now) l.self vs;
