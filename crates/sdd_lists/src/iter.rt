@@ -1,5 +1,5 @@
 //! The values of queues and stacks, while the space is borrowed for that.
-ghost use Rattle.std.specs.Prelude.{◌≡◌, ◌<◌, List, IfSome};
+ghost use Rattle.std.specs.Prelude.{◌≡◌, ◌≤◌, List, IfSome};
 ghost use Rattle.std.specs.Iterator.{at_most};
 ghost use Rattle.sdd_core.specs.declared.tag.Tag.{Tag};
 ghost use Rattle.sdd_space.specs.CallerId.{IsExact};
@@ -60,8 +60,34 @@ impl<'a, T: Item<LinkedEntry<T>>, S: HeldItems<LinkedEntry<T>>> Iterator for Ite
     ghost remaining = { λ it. at_most (values_left it) };
 
     fn next(&mut self) -> Option<&'a T> {
-        while let Some(most) = self.most.checked_sub(1) {
-            let Some(owner) = self.next else {
+        let Some(most) = self.most.checked_sub(1) else {
+            return None;
+        };
+        let Some(owner) = self.next else {
+            return None;
+        };
+        let entry = self.space.value_of(owner);
+        let link = entry.link_ref();
+        self.next = holder_in(link, self.space);
+        self.most = most;
+        match tag_held_in(link, self.space) {
+            Tag::Second => self.next_kept(),
+            _ => Some(entry.as_ref()),
+        }
+    }
+}
+
+impl<'a, T: Item<LinkedEntry<T>>, S: HeldItems<LinkedEntry<T>>> Iter<'a, T, S> {
+    /// The same where it may stand before deleted entries.
+    #[inline(always)]
+    fn next_kept(&mut self) -> Option<&'a T>
+        requires { IsIterOf (S.seat (space_of self.old)).home.slots self.old }
+        ensures steps { GoesInOrder S.seat S.world self.old result self.new }
+        ensures home { IsIterOf (S.seat (space_of self.new)).home.slots self.new }
+        ensures few { values_left self.new ≤ values_left self.old }
+    {
+        while let Some(owner) = self.next {
+            let Some(most) = self.most.checked_sub(1) else {
                 return None;
             };
             self.most = most;
