@@ -1,6 +1,6 @@
 -- What an iterator gives, and where it is then
-use Rattle.std.proofs.Common.{◌≡◌, ◌≤◌, ℕ, ◌-◌, List, [], ◌∷◌, ◌++◌, length, true, false, Option, Some, None, refl, sym, ap, ◌∙◌, arith, subst}
-use Rattle.std.specs.Prelude.{IfSome, drop, map, slice_get}
+use Rattle.std.proofs.Common.{◌≡◌, ◌≤◌, ℕ, ◌-◌, List, [], ◌∷◌, ◌++◌, length, Bool, true, false, Option, Some, None, refl, sym, ap, ◌∙◌, arith, subst}
+use Rattle.std.specs.Prelude.{IfSome, drop, map, option_copied, slice_get, if◌then◌else◌}
 use Rattle.std.specs.Borrow.{Bor}
 use Rattle.std.proofs.iter.runs.Sources.{lists}
 use Rattle.std.specs.Iterator.{AlwaysYields, Yields}
@@ -20,9 +20,10 @@ use Rattle.sdd_lists.specs.declared.iter.Iter.{Iter}
 use Rattle.sdd_lists.specs.declared.linked_entry.LinkedEntry.{LinkedEntry}
 use Rattle.sdd_lists.specs.Entries.{holdings_of, link_home_of, link_of, link_part, value_of}
 use Rattle.sdd_lists.specs.Iter.{GivesInOrder, GoesInOrder, IsBefore}
-use Rattle.sdd_lists.specs.Lists.{AreLinked, Entry, IsList, first_slot, is_deleted, is_deleting}
-use Rattle.sdd_lists.specs.Walk.{shown_of}
+use Rattle.sdd_lists.specs.Lists.{AreLinked, Entry, IsList, first_slot, is_deleted, is_deleting, left}
+use Rattle.sdd_lists.specs.Walk.{first_shown, shown_of}
 use Rattle.sdd_lists.proofs.Order.{values-gone, values-kept}
+use Rattle.sdd_lists.proofs.Walking.{shown-first, shown-left}
 
 module _ {T : Type 0} (holds : T → List OwnerOrCell) (home : SpaceId) where
   -- the link of an entry of a home is of that home
@@ -40,6 +41,60 @@ module _ {T S : Type 0} (world : S → World (LinkedEntry T)) (s t : Bor S) (sam
   tag-at tag is =
       subst (λ (k : ℕ). IfSome (entry_at (world t.now).cells k) (λ held. held.tag ≡ tag)) cell
       (subst (λ (x : Bor S). IfSome (entry_at (world x.now).cells c) (λ held. held.tag ≡ tag)) same is)
+
+-- what the holder of an owner leads to
+module _ {T : Type 0} (w : World (LinkedEntry T)) (owner : Right) (v : LinkedEntry T) (there : value_at w (number_of owner) ≡ Some v) where
+  pub record IsAhead (es : List (Entry (LinkedEntry T))) : Type 0 where
+    pub first : Entry (LinkedEntry T)
+    pub rest : List (Entry (LinkedEntry T))
+    pub is : es ≡ first ∷ rest
+    pub value : first.value ≡ v
+    pub linked : AreLinked link_of w rest
+    pub cell : entry_at w.cells (link_of v) ≡ Some (record { held = first_slot rest; tag = first.tag })
+
+  pub ahead : (o : Option Right) → o ≡ Some owner → (es : List (Entry (LinkedEntry T))) → AreLinked link_of w es → slot_held o ≡ first_slot es → IsAhead es
+  ahead o at [] linked holds = let never : Some (number_of owner) ≡ None = sym (ap slot_held at) ∙ holds in absurd (cc)
+  ahead o at (e ∷ es) linked holds =
+      let here : Some (number_of owner) ≡ Some e.slot = sym (ap slot_held at) ∙ holds in
+      let number : e.slot ≡ number_of owner = cc in
+      let same : Some e.value ≡ Some v = sym linked.0.there ∙ ap (λ (k : ℕ). value_at w k) number ∙ there in
+      let value : e.value ≡ v = cc in
+      record {
+        first = e;
+        rest = es;
+        is = refl;
+        value = value;
+        linked = linked.1;
+        cell = subst (λ (x : LinkedEntry T). entry_at w.cells (link_of x) ≡ Some (record { held = first_slot es; tag = e.tag })) value linked.0.linked;
+      }
+
+  module _ (tag : Tag) (tagged : IfSome (entry_at w.cells (link_of v)) (λ held. held.tag ≡ tag)) (es : List (Entry (LinkedEntry T))) (a : IsAhead es) where
+    tag-is : a.first.tag ≡ tag
+    tag-is = subst (λ (o : Option CellContents). IfSome o (λ held. held.tag ≡ tag)) a.cell tagged
+
+    pub passed : is_deleting tag ≡ true → left es ≡ left a.rest
+    passed deleted =
+        let gone : is_deleted a.first ≡ true = subst (λ (t : Tag). is_deleting t ≡ true) (sym tag-is) deleted in
+        ap (λ (xs : List (Entry (LinkedEntry T))). left xs) a.is ∙ ap (λ (b : Bool). if b then left a.rest else a.first ∷ a.rest) gone
+
+    pub stays : is_deleting tag ≡ false → left es ≡ es
+    stays kept =
+        let still : is_deleted a.first ≡ false = subst (λ (t : Tag). is_deleting t ≡ false) (sym tag-is) kept in
+        ap (λ (xs : List (Entry (LinkedEntry T))). left xs) a.is ∙ ap (λ (b : Bool). if b then left a.rest else a.first ∷ a.rest) still ∙ sym a.is
+
+    -- what is shown of these is what is shown of the others
+    pub shown-passed : is_deleting tag ≡ true → shown_of es ≡ shown_of a.rest
+    shown-passed deleted =
+        let gone : is_deleted a.first ≡ true = subst (λ (t : Tag). is_deleting t ≡ true) (sym tag-is) deleted in
+        ap (λ (xs : List (Entry (LinkedEntry T))). shown_of xs) a.is ∙ ap (λ (xs : List (LinkedEntry T)). map value_of xs) (values-gone a.first a.rest gone)
+
+pub none-ahead : {T : Type 0} (o : Option Right) → o ≡ None → (es : List (Entry (LinkedEntry T))) → slot_held o ≡ first_slot es → es ≡ []
+none-ahead o none [] holds = refl
+none-ahead o none (e ∷ es) holds = let never : None ≡ Some e.slot = sym (ap slot_held none) ∙ holds in absurd (cc)
+
+pub none-left : {T : Type 0} (es : List (Entry (LinkedEntry T))) → length es ≤ 0 → es ≡ []
+none-left [] few = refl
+none-left (e ∷ es) few = absurd (omega (arith, few))
 
 module _ {T S : Type 0} (w : World (LinkedEntry T)) where
   pub gives-all : (it : Iter T S) (c : ℕ) (t : Tag) (es : List (Entry (LinkedEntry T))) → IsList link_of w c t es →
@@ -60,10 +115,10 @@ module _ {T S : Type 0} (w : World (LinkedEntry T)) where
 
   -- at the end nothing is left
   pub gives-none : (it : Iter T S) (vs : List T) → it.next.now ≡ None → GivesInOrder w it vs → (None ≡ slice_get vs 0) × GivesInOrder w it (drop 1 vs)
-  gives-none it vs none gives = no-entries it vs gives (none-left gives.entries gives.before) where
-    none-left : (es : List (Entry (LinkedEntry T))) → IsBefore w it es → es ≡ []
-    none-left [] before = refl
-    none-left (e ∷ es) before = let never : None ≡ Some e.slot = sym (ap slot_held none) ∙ before.next in absurd (cc)
+  gives-none it vs none gives = no-entries it vs gives (at-end gives.entries gives.before) where
+    at-end : (es : List (Entry (LinkedEntry T))) → IsBefore w it es → es ≡ []
+    at-end [] before = refl
+    at-end (e ∷ es) before = let never : None ≡ Some e.slot = sym (ap slot_held none) ∙ before.next in absurd (cc)
 
   -- an iterator that may give nothing more gives nothing
   pub gives-no-more : (it : Iter T S) (vs : List T) → it.most ≡ 0 → GivesInOrder w it vs → (None ≡ slice_get vs 0) × GivesInOrder w it (drop 1 vs)
@@ -71,6 +126,20 @@ module _ {T S : Type 0} (w : World (LinkedEntry T)) where
     short : (es : List (Entry (LinkedEntry T))) → length es ≤ it.most → es ≡ []
     short [] few = refl
     short (e ∷ es) few = absurd (omega (arith, few, most))
+
+  -- the first of these is given, which isn't deleted, and the iterator is before the others then
+  pub given-first : (after : Iter T S) (es : List (Entry (LinkedEntry T))) → left es ≡ es → (given : Option (Bor T)) → option_copied given ≡ first_shown es →
+      IsBefore w after (drop 1 es) → (vs : List T) → vs ≡ shown_of es → (option_copied given ≡ slice_get vs 0) × GivesInOrder w after (drop 1 vs)
+  given-first after [] kept given first before vs values = (
+    first ∙ sym (ap (λ (xs : List T). slice_get xs 0) values),
+    record { entries = []; before = before; values = ap (drop 1) values },
+  )
+  given-first after (e ∷ es) kept given first before vs values =
+      let all : vs ≡ value_of e.value ∷ shown_of es =
+      values ∙ shown-first e es kept ∙ ap (λ (xs : List T). value_of e.value ∷ xs) (shown-left es) in (
+        first ∙ sym (ap (λ (xs : List T). slice_get xs 0) all),
+        record { entries = es; before = before; values = ap (drop 1) all },
+      )
 
   -- one entry on
   module _ (it after : Iter T S) (owner : Right) (v : LinkedEntry T) (next : it.next.now ≡ Some owner)

@@ -1,13 +1,15 @@
 //! The values of queues and stacks, while the space is borrowed for that.
-ghost use Rattle.std.specs.Prelude.{◌≡◌, ◌≤◌, List, IfSome};
+ghost use Rattle.std.specs.Prelude.{◌≡◌, ◌≤◌, List, IfSome, drop, length, option_copied};
 ghost use Rattle.std.specs.Iterator.{at_most};
 ghost use Rattle.sdd_core.specs.declared.tag.Tag.{Tag};
+ghost use Rattle.sdd_rights.specs.Right.{home_of};
 ghost use Rattle.sdd_space.specs.CallerId.{IsExact};
 ghost use Rattle.sdd_space.specs.Shared.{cell_of, cells_home};
 ghost use Rattle.sdd_lists.specs.Entries.{link_of};
-ghost use Rattle.sdd_lists.specs.Iter.{GivesInOrder, GoesInOrder, IsIterOf, space_of, values_left};
-ghost use Rattle.sdd_lists.specs.Lists.{Entry, IsList};
-ghost use Rattle.sdd_lists.specs.Walk.{shown_of};
+ghost use Rattle.sdd_lists.specs.Iter.{GivesInOrder, GoesInOrder, IsBefore, IsIterOf, space_of, values_left};
+ghost use Rattle.sdd_lists.specs.Lists.{AreLinked, Entry, IsList, first_slot, left};
+ghost use Rattle.sdd_lists.specs.Walk.{first_shown, shown_of};
+ghost use Rattle.sdd_standings.specs.Cells.{slot_held};
 
 use crate::linked_entry::LinkedEntry;
 use crate::linked_list::LinkedList;
@@ -68,37 +70,68 @@ impl<'a, T: Item<LinkedEntry<T>>, S: HeldItems<LinkedEntry<T>>> Iterator for Ite
         };
         let entry = self.space.value_of(owner);
         let link = entry.link_ref();
-        self.next = holder_in(link, self.space);
+        let behind = holder_in(link, self.space);
         self.most = most;
         match tag_held_in(link, self.space) {
-            Tag::Second => self.next_kept(),
-            _ => Some(entry.as_ref()),
+            Tag::Second => {
+                self.next = past_deleted::<T, S>(behind, most, self.space);
+                self.give()
+            }
+            _ => {
+                self.next = behind;
+                Some(entry.as_ref())
+            }
         }
     }
 }
 
 impl<'a, T: Item<LinkedEntry<T>>, S: HeldItems<LinkedEntry<T>>> Iter<'a, T, S> {
-    /// The same where it may stand before deleted entries.
+    /// The value of the entry before which it stands, whether that is deleted or not.
     #[inline(always)]
-    fn next_kept(&mut self) -> Option<&'a T>
+    fn give(&mut self) -> Option<&'a T>
         requires { IsIterOf (S.seat (space_of self.old)).home.slots self.old }
-        ensures steps { GoesInOrder S.seat S.world self.old result self.new }
+        ensures space { self.new.space ≡ self.old.space }
         ensures home { IsIterOf (S.seat (space_of self.new)).home.slots self.new }
         ensures few { values_left self.new ≤ values_left self.old }
+        ensures exact { IsExact (S.seat (space_of self.old)) → (es : List (Entry (LinkedEntry T))) → IsBefore (S.world (space_of self.old)) self.old es →
+            (option_copied result ≡ first_shown es) × IsBefore (S.world (space_of self.old)) self.new (drop 1 es) }
     {
-        while let Some(owner) = self.next {
-            let Some(most) = self.most.checked_sub(1) else {
-                return None;
-            };
-            self.most = most;
-            let entry = self.space.value_of(owner);
-            let link = entry.link_ref();
-            self.next = holder_in(link, self.space);
-            match tag_held_in(link, self.space) {
-                Tag::Second => {}
-                _ => return Some(entry.as_ref()),
-            }
-        }
-        None
+        let Some(owner) = self.next else {
+            return None;
+        };
+        let Some(most) = self.most.checked_sub(1) else {
+            return None;
+        };
+        let entry = self.space.value_of(owner);
+        self.next = holder_in(entry.link_ref(), self.space);
+        self.most = most;
+        Some(entry.as_ref())
     }
+}
+
+/// Where the owner of the first entry lies that isn't deleted, of those to which this leads, if there is one among so many.
+#[cold]
+#[inline(never)]
+fn past_deleted<'a, T: Item<LinkedEntry<T>>, S: HeldItems<LinkedEntry<T>>>(
+    holder: &'a Option<Right>,
+    most: u64,
+    s: &'a S,
+) -> &'a Option<Right>
+    requires { IfSome holder.now (λ owner. home_of owner ≡ (S.seat s.now).home.slots) }
+    ensures home { IfSome result.now (λ owner. home_of owner ≡ (S.seat s.now).home.slots) }
+    ensures exact { IsExact (S.seat s.now) → (es : List (Entry (LinkedEntry T))) → AreLinked link_of (S.world s.now) es →
+        slot_held holder.now ≡ first_slot es → length es ≤ most → slot_held result.now ≡ first_slot (left es) }
+{
+    let mut at = holder;
+    for _step in 0..most {
+        let Some(owner) = at else {
+            return at;
+        };
+        let link = s.value_of(owner).link_ref();
+        let Tag::Second = tag_held_in(link, s) else {
+            return at;
+        };
+        at = holder_in(link, s);
+    }
+    at
 }
