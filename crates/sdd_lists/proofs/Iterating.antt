@@ -98,10 +98,10 @@ none-left (e ∷ es) few = absurd (omega (arith, few))
 
 module _ {T S : Type 0} (w : World (LinkedEntry T)) where
   pub gives-all : (it : Iter T S) (c : ℕ) (t : Tag) (es : List (Entry (LinkedEntry T))) → IsList link_of w c t es →
-      slot_held it.next.now ≡ held_in (entry_at w.cells c) → length es ≤ it.most → GivesInOrder w it (shown_of es)
-  gives-all it c t es list next few = record {
+      slot_held it.next.now ≡ held_in (entry_at w.cells c) → length es ≤ it.most → it.reach ≡ it.most → GivesInOrder w it (shown_of es)
+  gives-all it c t es list next few reach = record {
     entries = es;
-    before = record { linked = list.linked; next = next ∙ ap held_in list.begins; few = few };
+    before = record { linked = list.linked; next = next ∙ ap held_in list.begins; few = few; within = omega (arith, few, reach) };
     values = refl;
   }
 
@@ -144,7 +144,7 @@ module _ {T S : Type 0} (w : World (LinkedEntry T)) where
   -- one entry on
   module _ (it after : Iter T S) (owner : Right) (v : LinkedEntry T) (next : it.next.now ≡ Some owner)
       (there : value_at w (number_of owner) ≡ Some v) (behind : slot_held after.next.now ≡ held_in (entry_at w.cells (link_of v)))
-      (most : after.most ≡ it.most - 1) (tag : Tag) (tagged : IfSome (entry_at w.cells (link_of v)) (λ held. held.tag ≡ tag)) where
+      (most : after.most ≡ it.most - 1) (reach : after.reach ≡ it.reach) (tag : Tag) (tagged : IfSome (entry_at w.cells (link_of v)) (λ held. held.tag ≡ tag)) where
     slot : slot_held it.next.now ≡ Some (number_of owner)
     slot = ap slot_held next
 
@@ -165,6 +165,7 @@ module _ {T S : Type 0} (w : World (LinkedEntry T)) where
         let value : e.value ≡ v = cc in
         let linked = before.linked.0.linked in
         let few : length (e ∷ es) ≤ it.most = before.few in
+        let within : length (e ∷ es) ≤ it.reach = before.within in
         let begins : entry_at w.cells (link_of v) ≡ Some (record { held = first_slot es; tag = e.tag }) =
         subst (λ (x : LinkedEntry T). entry_at w.cells (link_of x) ≡ Some (record { held = first_slot es; tag = e.tag })) value linked in
         record {
@@ -177,6 +178,7 @@ module _ {T S : Type 0} (w : World (LinkedEntry T)) where
             linked = before.linked.1;
             next = behind ∙ ap held_in begins;
             few = omega (arith, few, most);
+            within = omega (arith, within, reach);
           };
         }
 

@@ -30,6 +30,7 @@ module _ {T S : Type 0} where
     pub linked : AreLinked link_of w es
     pub next : slot_held it.next.now ≡ first_slot es
     pub few : length es ≤ it.most
+    pub within : length es ≤ it.reach
 
   -- it gives these values, in order
   pub record GivesInOrder (w : World (LinkedEntry T)) (it : Iter T S) (vs : List T) : Type 0 where

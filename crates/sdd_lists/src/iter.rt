@@ -28,6 +28,8 @@ pub struct Iter<'a, T, S> {
     /// Where the owner of the next entry lies, if there is one.
     next: &'a Option<Right>,
     most: u64,
+    /// How many entries may follow at most.
+    reach: u64,
     space: &'a S,
     of: PhantomData<&'a T>,
 }
@@ -44,9 +46,11 @@ pub(crate) fn iter_in<
     ensures exact { IsExact (S.seat s.now) → (t : Tag) (es : List (Entry (LinkedEntry T))) → IsList link_of (S.world s.now) (cell_of cell.now) t es →
         GivesInOrder (S.world s.now) result (shown_of es) }
 {
+    let reach = reach::<LinkedEntry<T>, S>(s);
     Iter {
         next: holder_in(cell, s),
-        most: reach::<LinkedEntry<T>, S>(s),
+        most: reach,
+        reach,
         space: s,
         of: PhantomData,
     }
@@ -74,7 +78,7 @@ impl<'a, T: Item<LinkedEntry<T>>, S: HeldItems<LinkedEntry<T>>> Iterator for Ite
         self.most = most;
         match tag_held_in(link, self.space) {
             Tag::Second => {
-                self.next = past_deleted::<T, S>(behind, most, self.space);
+                self.next = past_deleted::<T, S>(behind, self.reach, self.space);
                 self.give()
             }
             _ => {
@@ -92,38 +96,33 @@ impl<'a, T: Item<LinkedEntry<T>>, S: HeldItems<LinkedEntry<T>>> Iter<'a, T, S> {
         requires { IsIterOf (S.seat (space_of self.old)).home.slots self.old }
         ensures space { self.new.space ≡ self.old.space }
         ensures home { IsIterOf (S.seat (space_of self.new)).home.slots self.new }
-        ensures few { values_left self.new ≤ values_left self.old }
+        ensures most { values_left self.new ≡ values_left self.old }
         ensures exact { IsExact (S.seat (space_of self.old)) → (es : List (Entry (LinkedEntry T))) → IsBefore (S.world (space_of self.old)) self.old es →
             (option_copied result ≡ first_shown es) × IsBefore (S.world (space_of self.old)) self.new (drop 1 es) }
     {
         let Some(owner) = self.next else {
             return None;
         };
-        let Some(most) = self.most.checked_sub(1) else {
-            return None;
-        };
         let entry = self.space.value_of(owner);
         self.next = holder_in(entry.link_ref(), self.space);
-        self.most = most;
         Some(entry.as_ref())
     }
 }
 
 /// Where the owner of the first entry lies that isn't deleted, of those to which this leads, if there is one among so many.
-#[cold]
-#[inline(never)]
+#[inline(always)]
 fn past_deleted<'a, T: Item<LinkedEntry<T>>, S: HeldItems<LinkedEntry<T>>>(
     holder: &'a Option<Right>,
-    most: u64,
+    reach: u64,
     s: &'a S,
 ) -> &'a Option<Right>
     requires { IfSome holder.now (λ owner. home_of owner ≡ (S.seat s.now).home.slots) }
     ensures home { IfSome result.now (λ owner. home_of owner ≡ (S.seat s.now).home.slots) }
     ensures exact { IsExact (S.seat s.now) → (es : List (Entry (LinkedEntry T))) → AreLinked link_of (S.world s.now) es →
-        slot_held holder.now ≡ first_slot es → length es ≤ most → slot_held result.now ≡ first_slot (left es) }
+        slot_held holder.now ≡ first_slot es → length es ≤ reach → slot_held result.now ≡ first_slot (left es) }
 {
     let mut at = holder;
-    for _step in 0..most {
+    for _step in 0..reach {
         let Some(owner) = at else {
             return at;
         };

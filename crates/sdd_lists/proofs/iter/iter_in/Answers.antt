@@ -1,6 +1,7 @@
+use Rattle.std.proofs.Common.{refl}
 use Rattle.sdd_lists.proofs.Iterating.{gives-all}
 use Rattle.sdd_lists.proofs.iter.iter_in.Goals as goal
 
 pub returns-clause-exact : goal.returns-clause-exact
 returns-clause-exact g c = λ e t es list.
-    gives-all (g.S.Caller.world c.args.s.now) _ _ t es list (c.holder_in.ensures.exact e) (c.reach.ensures e es list.linked)
+    gives-all (g.S.Caller.world c.args.s.now) _ _ t es list (c.holder_in.ensures.exact e) (c.reach-reach.ensures e es list.linked) refl

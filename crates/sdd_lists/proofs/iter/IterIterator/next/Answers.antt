@@ -34,11 +34,11 @@ returns-in-Second-clause-steps g c = record {
       let tagged = tag-at g.S.Caller.world it.space it.space refl _ _ c.link_ref-link.ensures.link c.tag_held_in.result (c.tag_held_in.ensures.exact e) in
       let behind = c.holder_in-behind.ensures.exact e ∙ ap (λ (k : ℕ). held_in (entry_at w.cells k)) c.link_ref-link.ensures.link ∙ ap held_in a.cell in
       let long = ap length a.is in
-      let found = c.past_deleted-self.ensures.exact e a.rest a.linked behind (omega (arith, long, gives.before.few)) in
+      let found = c.past_deleted-self.ensures.exact e a.rest a.linked behind (omega (arith, long, gives.before.within)) in
       let fewer = no-more a.rest in
       let given = c.give.ensures.exact e (left a.rest)
-          (record { linked = linked-left link_of w a.rest a.linked; next = found; few = omega (arith, long, fewer, gives.before.few) }) in
+      (record { linked = linked-left link_of w a.rest a.linked; next = found; few = omega (arith, long, fewer, gives.before.few); within = omega (arith, long, fewer, gives.before.within) }) in
       let values = gives.values ∙ shown-passed w owner v (c.value_of-entry.ensures.exact e) c.tag_held_in.result tagged es a (ap is_deleting c.in-Second.is)
-          ∙ sym (shown-left a.rest) in
+      ∙ sym (shown-left a.rest) in
       given-first w _ (left a.rest) (left-left a.rest) c.give.result given.0 given.1 vs values;
 }
