@@ -161,7 +161,7 @@ module _ {T B S : Type 0} {len : ℕ} (shown : B → Option StorageName) (seat :
 
     -- it goes on to another storage, or asks for one in vain
     pub goes : (after : Iter B S) (b : Option (Behind B)) (at : ℕ) (es : List (Entry (LinkedEntry B))) → after.space ≡ old.shelves.space
-        → IsIterOf (seat (space_of after)).home.cells after → StandsIn shown len b old.bag.now → HasFirst len b old.bag.now → at ≤ len
+        → IsIterOf (seat (space_of after)).home.slots after → StandsIn shown len b old.bag.now → HasFirst len b old.bag.now → at ≤ len
         → AreShelves shown len (world (space_in old)) es → GivesInOrder (world (space_in old)) after (shown_of es)
         → names_of (drop (start_behind len b) old.bag.now.overflow.places) ≡ places_on shown len es
         → values_before b at old.bag.now ≡ values_before old.behind old.at old.bag.now
@@ -318,14 +318,14 @@ module _ {T B S : Type 0} {len : ℕ} (shown : B → Option StorageName) (seat :
 
   -- a cursor that has given nothing
   pub begins : (bag : MutBor (BagParts T B)) (shelves : Iter B S) (fits : Fits T len B) (s : S) → space_of shelves ≡ s → IsExact (seat s)
-      → IsIterOf (seat s).home.cells shelves → IsBag shown len (world s) bag.now → IsInOrder len bag.now
+      → IsIterOf (seat s).home.slots shelves → IsBag shown len (world s) bag.now → IsInOrder len bag.now
       → ((es : List (Entry (LinkedEntry B))) → LiesOn shown len (world s) es bag.now.overflow → GivesInOrder (world s) shelves (shown_of es))
       → IsCursor shown seat world (record { bag = bag; shelves = shelves; behind = None; at = 0; gap = 0; held = None; fits = fits })
   begins bag shelves fits s space exact can is order gives = record {
     bag = subst (λ (x : S). IsBag shown len (world x) bag.now) (sym space) is;
     order = order;
     exact = subst (λ (x : S). IsExact (seat x)) (sym space) exact;
-    can = subst (λ (x : S). IsIterOf (seat x).home.cells shelves) (sym space) can;
+    can = subst (λ (x : S). IsIterOf (seat x).home.slots shelves) (sym space) can;
     stands = tt;
     first = tt;
     room = omega arith;

@@ -502,7 +502,7 @@ impl<T, const ARRAY_LEN: usize, B: Shelf<T, ARRAY_LEN>> Bag<T, ARRAY_LEN, B> {
         requires home { home_in self.now.overflow.stack ≡ (S.seat s.now).home.cells }
         requires exact { IsExact (S.seat s.now) }
         ensures space { space_of result ≡ s.now }
-        ensures home { IsIterOf (S.seat s.now).home.cells result }
+        ensures home { IsIterOf (S.seat s.now).home.slots result }
         ensures list { (es : List (Entry (Linked B))) → LiesOn B.shown ARRAY_LEN (S.world s.now) es self.now.overflow →
             GivesInOrder (S.world s.now) result (shown_of es) }
     {

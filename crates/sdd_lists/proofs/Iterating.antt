@@ -1,6 +1,6 @@
 -- What an iterator gives, and where it is then
-use Rattle.std.proofs.Common.{◌≡◌, ◌≤◌, ℕ, ◌-◌, List, [], ◌∷◌, ◌++◌, length, true, false, Option, Some, None, refl, sym, ap, ◌∙◌, arith, subst}
-use Rattle.std.specs.Prelude.{IfSome, drop, map, option_copied, slice_get}
+use Rattle.std.proofs.Common.{◌≡◌, ◌≤◌, ℕ, ◌-◌, List, [], ◌∷◌, ◌++◌, length, Bool, true, false, Option, Some, None, refl, sym, ap, ◌∙◌, arith, subst}
+use Rattle.std.specs.Prelude.{IfSome, drop, map, option_copied, slice_get, if◌then◌else◌}
 use Rattle.std.specs.Borrow.{Bor}
 use Rattle.std.proofs.iter.runs.Sources.{lists}
 use Rattle.std.specs.Iterator.{AlwaysYields, Yields}
@@ -9,124 +9,176 @@ use Rattle.sdd_core.specs.declared.tag.Tag.{Tag}
 use Rattle.sdd_participants.specs.Slab.{entry_at}
 use Rattle.sdd_participants.specs.declared.standing.CellContents.{CellContents}
 use Rattle.sdd_space.specs.CallerId.{CallerId, IsExact}
-use Rattle.sdd_space.specs.HeldItems.{value_held, value_in}
+use Rattle.sdd_rights.specs.Right.{number_of}
+use Rattle.sdd_rights.specs.declared.right.Right.{Right}
+use Rattle.sdd_standings.specs.Cells.{slot_held}
 use Rattle.sdd_space.specs.OwnerOrCell.{SpaceId, OwnerOrCell, AreOf}
-use Rattle.sdd_space.specs.World.{World}
+use Rattle.sdd_space.specs.World.{World, value_at}
 use Rattle.sdd_space.specs.WorldChanges.{held_in}
 use Rattle.sdd_space.proofs.Composed.{rest-of}
 use Rattle.sdd_lists.specs.declared.iter.Iter.{Iter}
-use Rattle.sdd_lists.specs.declared.iter.Position.{Position}
-use Rattle.sdd_lists.specs.declared.iter.Position.TheVariants.{Behind, First}
 use Rattle.sdd_lists.specs.declared.linked_entry.LinkedEntry.{LinkedEntry}
 use Rattle.sdd_lists.specs.Entries.{holdings_of, link_home_of, link_of, link_part, value_of}
-use Rattle.sdd_lists.specs.Iter.{GivesInOrder, GoesInOrder, IsBefore, LeadsTo}
-use Rattle.sdd_lists.specs.Lists.{AreLinked, Entry, IsList, first_slot, first_value, is_deleted, is_deleting}
-use Rattle.sdd_lists.specs.Walk.{shown_of}
+use Rattle.sdd_lists.specs.Iter.{GivesInOrder, GoesInOrder, IsBefore}
+use Rattle.sdd_lists.specs.Lists.{AreLinked, Entry, IsList, first_slot, is_deleted, is_deleting, left}
+use Rattle.sdd_lists.specs.Walk.{first_shown, shown_of}
 use Rattle.sdd_lists.proofs.Order.{values-gone, values-kept}
+use Rattle.sdd_lists.proofs.Walking.{shown-first, shown-left}
 
 module _ {T : Type 0} (holds : T → List OwnerOrCell) (home : SpaceId) where
-  -- the link of what a cell of a home holds is of that home
-  pub links-home : (o : Option (Bor (LinkedEntry T))) → IfSome o (λ e. AreOf home (holdings_of holds e.now)) →
-      IfSome o (λ e. link_home_of e.now ≡ home.cells)
-  links-home None are = tt
-  links-home (Some e) are = let parts : AreOf home (link_part e.now) = rest-of home (holds (value_of e.now)) (link_part e.now) are in parts.0
+  -- the link of an entry of a home is of that home
+  pub link-home : (e : LinkedEntry T) → AreOf home (holdings_of holds e) → link_home_of e ≡ home.cells
+  link-home e are = let parts : AreOf home (link_part e) = rest-of home (holds (value_of e)) (link_part e) are in parts.0
 
-module _ {T : Type 0} (w : World (LinkedEntry T)) where
-  first-there : (es : List (Entry (LinkedEntry T))) → AreLinked link_of w es → value_in w (first_slot es) ≡ first_value es
-  first-there [] linked = refl
-  first-there (e ∷ es) linked = linked.0.there
-
-  -- what the cell shows that holds the first entry
-  pub value-first : (c : ℕ) (t : Tag) (es : List (Entry (LinkedEntry T))) → AreLinked link_of w es →
-      entry_at w.cells c ≡ Some (record { held = first_slot es; tag = t }) → value_held w c ≡ first_value es
-  value-first c t es linked begins =
-      ap (λ (o : Option CellContents). value_in w (held_in o)) begins ∙ first-there es linked
-
--- the tag that is found in one borrow of a space by one cell's number is found in the other by the other
+-- what is found in one borrow of a space by one cell's number is found in the other by the other
 module _ {T S : Type 0} (world : S → World (LinkedEntry T)) (s t : Bor S) (same : s ≡ t) (c l : ℕ) (cell : c ≡ l) where
+  pub slot-at : (o : Option ℕ) → o ≡ held_in (entry_at (world s.now).cells c) → o ≡ held_in (entry_at (world t.now).cells l)
+  slot-at o is =
+      is ∙ ap (λ (x : Bor S). held_in (entry_at (world x.now).cells c)) same ∙ ap (λ (k : ℕ). held_in (entry_at (world t.now).cells k)) cell
+
   pub tag-at : (tag : Tag) → IfSome (entry_at (world s.now).cells c) (λ held. held.tag ≡ tag) →
       IfSome (entry_at (world t.now).cells l) (λ held. held.tag ≡ tag)
   tag-at tag is =
       subst (λ (k : ℕ). IfSome (entry_at (world t.now).cells k) (λ held. held.tag ≡ tag)) cell
       (subst (λ (x : Bor S). IfSome (entry_at (world x.now).cells c) (λ held. held.tag ≡ tag)) same is)
 
--- what is ahead of a place in one borrow of a space is so in the other
-module _ {T S : Type 0} (world : S → World (LinkedEntry T)) (s t : Bor S) (same : s ≡ t) (position : Position T) (o : Option (LinkedEntry T)) where
-  pub ahead-at : ((es : List (Entry (LinkedEntry T))) → AreLinked link_of (world s.now) es → LeadsTo (world s.now) position es → o ≡ first_value es) →
-      (es : List (Entry (LinkedEntry T))) → AreLinked link_of (world t.now) es → LeadsTo (world t.now) position es → o ≡ first_value es
-  ahead-at = subst (λ (x : Bor S). (es : List (Entry (LinkedEntry T))) → AreLinked link_of (world x.now) es → LeadsTo (world x.now) position es →
-      o ≡ first_value es) same
+-- what the holder of an owner leads to
+module _ {T : Type 0} (w : World (LinkedEntry T)) (owner : Right) (v : LinkedEntry T) (there : value_at w (number_of owner) ≡ Some v) where
+  pub record IsAhead (es : List (Entry (LinkedEntry T))) : Type 0 where
+    pub first : Entry (LinkedEntry T)
+    pub rest : List (Entry (LinkedEntry T))
+    pub is : es ≡ first ∷ rest
+    pub value : first.value ≡ v
+    pub linked : AreLinked link_of w rest
+    pub cell : entry_at w.cells (link_of v) ≡ Some (record { held = first_slot rest; tag = first.tag })
+
+  pub ahead : (o : Option Right) → o ≡ Some owner → (es : List (Entry (LinkedEntry T))) → AreLinked link_of w es → slot_held o ≡ first_slot es → IsAhead es
+  ahead o at [] linked holds = let never : Some (number_of owner) ≡ None = sym (ap slot_held at) ∙ holds in absurd (cc)
+  ahead o at (e ∷ es) linked holds =
+      let here : Some (number_of owner) ≡ Some e.slot = sym (ap slot_held at) ∙ holds in
+      let number : e.slot ≡ number_of owner = cc in
+      let same : Some e.value ≡ Some v = sym linked.0.there ∙ ap (λ (k : ℕ). value_at w k) number ∙ there in
+      let value : e.value ≡ v = cc in
+      record {
+        first = e;
+        rest = es;
+        is = refl;
+        value = value;
+        linked = linked.1;
+        cell = subst (λ (x : LinkedEntry T). entry_at w.cells (link_of x) ≡ Some (record { held = first_slot es; tag = e.tag })) value linked.0.linked;
+      }
+
+  module _ (tag : Tag) (tagged : IfSome (entry_at w.cells (link_of v)) (λ held. held.tag ≡ tag)) (es : List (Entry (LinkedEntry T))) (a : IsAhead es) where
+    tag-is : a.first.tag ≡ tag
+    tag-is = subst (λ (o : Option CellContents). IfSome o (λ held. held.tag ≡ tag)) a.cell tagged
+
+    pub passed : is_deleting tag ≡ true → left es ≡ left a.rest
+    passed deleted =
+        let gone : is_deleted a.first ≡ true = subst (λ (t : Tag). is_deleting t ≡ true) (sym tag-is) deleted in
+        ap (λ (xs : List (Entry (LinkedEntry T))). left xs) a.is ∙ ap (λ (b : Bool). if b then left a.rest else a.first ∷ a.rest) gone
+
+    pub stays : is_deleting tag ≡ false → left es ≡ es
+    stays kept =
+        let still : is_deleted a.first ≡ false = subst (λ (t : Tag). is_deleting t ≡ false) (sym tag-is) kept in
+        ap (λ (xs : List (Entry (LinkedEntry T))). left xs) a.is ∙ ap (λ (b : Bool). if b then left a.rest else a.first ∷ a.rest) still ∙ sym a.is
+
+    -- what is shown of these is what is shown of the others
+    pub shown-passed : is_deleting tag ≡ true → shown_of es ≡ shown_of a.rest
+    shown-passed deleted =
+        let gone : is_deleted a.first ≡ true = subst (λ (t : Tag). is_deleting t ≡ true) (sym tag-is) deleted in
+        ap (λ (xs : List (Entry (LinkedEntry T))). shown_of xs) a.is ∙ ap (λ (xs : List (LinkedEntry T)). map value_of xs) (values-gone a.first a.rest gone)
+
+pub none-ahead : {T : Type 0} (o : Option Right) → o ≡ None → (es : List (Entry (LinkedEntry T))) → slot_held o ≡ first_slot es → es ≡ []
+none-ahead o none [] holds = refl
+none-ahead o none (e ∷ es) holds = let never : None ≡ Some e.slot = sym (ap slot_held none) ∙ holds in absurd (cc)
+
+pub none-left : {T : Type 0} (es : List (Entry (LinkedEntry T))) → length es ≤ 0 → es ≡ []
+none-left [] few = refl
+none-left (e ∷ es) few = absurd (omega (arith, few))
 
 module _ {T S : Type 0} (w : World (LinkedEntry T)) where
-  pub gives-all : (it : Iter T S) (first : Option (Bor (LinkedEntry T))) (c : ℕ) (t : Tag) (es : List (Entry (LinkedEntry T))) → it.position ≡ First first →
-      IsList link_of w c t es → option_copied first ≡ value_held w c → length es ≤ it.most → GivesInOrder w it (shown_of es)
-  gives-all it first c t es at list next few = record {
+  pub gives-all : (it : Iter T S) (c : ℕ) (t : Tag) (es : List (Entry (LinkedEntry T))) → IsList link_of w c t es →
+      slot_held it.next.now ≡ held_in (entry_at w.cells c) → length es ≤ it.most → it.reach ≡ it.most → GivesInOrder w it (shown_of es)
+  gives-all it c t es list next few reach = record {
     entries = es;
-    before = record {
-      linked = list.linked;
-      next = subst (λ (p : Position T). LeadsTo w p es) (sym at) (next ∙ value-first w c t es list.linked list.begins);
-      few = few;
-    };
+    before = record { linked = list.linked; next = next ∙ ap held_in list.begins; few = few; within = omega (arith, few, reach) };
     values = refl;
   }
 
-  -- nothing is ahead
-  gives-nothing : (it : Iter T S) (vs : List T) (gives : GivesInOrder w it vs) → gives.entries ≡ [] →
-      (None ≡ slice_get vs 0) × GivesInOrder w it (drop 1 vs)
-  gives-nothing it vs gives empty =
+  -- where no entry is ahead nothing is given, and it stays so
+  no-entries : (it : Iter T S) (vs : List T) (gives : GivesInOrder w it vs) → gives.entries ≡ [] → (None ≡ slice_get vs 0) × GivesInOrder w it (drop 1 vs)
+  no-entries it vs gives empty =
       let is : vs ≡ [] = gives.values ∙ ap (λ (es : List (Entry (LinkedEntry T))). shown_of es) empty in (
         sym (ap (λ (xs : List T). slice_get xs 0) is),
         record { entries = gives.entries; before = gives.before; values = ap (drop 1) is ∙ sym is ∙ gives.values },
       )
 
   -- at the end nothing is left
-  pub gives-none : (it : Iter T S) (vs : List T) →
-      ((es : List (Entry (LinkedEntry T))) → AreLinked link_of w es → LeadsTo w it.position es → None ≡ first_value es) → GivesInOrder w it vs →
-      (None ≡ slice_get vs 0) × GivesInOrder w it (drop 1 vs)
-  gives-none it vs none gives = gives-nothing it vs gives (no-first gives.entries (none gives.entries gives.before.linked gives.before.next)) where
-    no-first : (es : List (Entry (LinkedEntry T))) → None ≡ first_value es → es ≡ []
-    no-first [] is = refl
-    no-first (e ∷ es) is = absurd (cc)
+  pub gives-none : (it : Iter T S) (vs : List T) → it.next.now ≡ None → GivesInOrder w it vs → (None ≡ slice_get vs 0) × GivesInOrder w it (drop 1 vs)
+  gives-none it vs none gives = no-entries it vs gives (at-end gives.entries gives.before) where
+    at-end : (es : List (Entry (LinkedEntry T))) → IsBefore w it es → es ≡ []
+    at-end [] before = refl
+    at-end (e ∷ es) before = let never : None ≡ Some e.slot = sym (ap slot_held none) ∙ before.next in absurd (cc)
 
   -- an iterator that may give nothing more gives nothing
   pub gives-no-more : (it : Iter T S) (vs : List T) → it.most ≡ 0 → GivesInOrder w it vs → (None ≡ slice_get vs 0) × GivesInOrder w it (drop 1 vs)
-  gives-no-more it vs most gives = gives-nothing it vs gives (short gives.entries gives.before.few) where
+  gives-no-more it vs most gives = no-entries it vs gives (short gives.entries gives.before.few) where
     short : (es : List (Entry (LinkedEntry T))) → length es ≤ it.most → es ≡ []
     short [] few = refl
     short (e ∷ es) few = absurd (omega (arith, few, most))
 
+  -- the first of these is given, which isn't deleted, and the iterator is before the others then
+  pub given-first : (after : Iter T S) (es : List (Entry (LinkedEntry T))) → left es ≡ es → (given : Option (Bor T)) → option_copied given ≡ first_shown es →
+      IsBefore w after (drop 1 es) → (vs : List T) → vs ≡ shown_of es → (option_copied given ≡ slice_get vs 0) × GivesInOrder w after (drop 1 vs)
+  given-first after [] kept given first before vs values = (
+    first ∙ sym (ap (λ (xs : List T). slice_get xs 0) values),
+    record { entries = []; before = before; values = ap (drop 1) values },
+  )
+  given-first after (e ∷ es) kept given first before vs values =
+      let all : vs ≡ value_of e.value ∷ shown_of es =
+      values ∙ shown-first e es kept ∙ ap (λ (xs : List T). value_of e.value ∷ xs) (shown-left es) in (
+        first ∙ sym (ap (λ (xs : List T). slice_get xs 0) all),
+        record { entries = es; before = before; values = ap (drop 1) all },
+      )
+
   -- one entry on
-  module _ (it after : Iter T S) (entry : Bor (LinkedEntry T))
-      (ahead : (es : List (Entry (LinkedEntry T))) → AreLinked link_of w es → LeadsTo w it.position es → Some entry.now ≡ first_value es)
-      (behind : after.position ≡ Behind entry) (most : after.most ≡ it.most - 1)
-      (tag : Tag) (tagged : IfSome (entry_at w.cells (link_of entry.now)) (λ held. held.tag ≡ tag)) where
+  module _ (it after : Iter T S) (owner : Right) (v : LinkedEntry T) (next : it.next.now ≡ Some owner)
+      (there : value_at w (number_of owner) ≡ Some v) (behind : slot_held after.next.now ≡ held_in (entry_at w.cells (link_of v)))
+      (most : after.most ≡ it.most - 1) (reach : after.reach ≡ it.reach) (tag : Tag) (tagged : IfSome (entry_at w.cells (link_of v)) (λ held. held.tag ≡ tag)) where
+    slot : slot_held it.next.now ≡ Some (number_of owner)
+    slot = ap slot_held next
+
     record IsStep (es : List (Entry (LinkedEntry T))) : Type 0 where
-      first : Entry (LinkedEntry T)
+      entry : Entry (LinkedEntry T)
       rest : List (Entry (LinkedEntry T))
-      is : es ≡ first ∷ rest
-      value : first.value ≡ entry.now
-      tag_is : first.tag ≡ tag
+      is : es ≡ entry ∷ rest
+      value : entry.value ≡ v
+      tag_is : entry.tag ≡ tag
       before : IsBefore w after rest
 
     steps : (es : List (Entry (LinkedEntry T))) → IsBefore w it es → IsStep es
-    steps [] before = let never : Some entry.now ≡ None = ahead [] before.linked before.next in absurd (cc)
+    steps [] before = let never : Some (number_of owner) ≡ None = sym slot ∙ before.next in absurd (cc)
     steps (e ∷ es) before =
-        let same : Some entry.now ≡ Some e.value = ahead (e ∷ es) before.linked before.next in
-        let value : e.value ≡ entry.now = cc in
+        let here : Some (number_of owner) ≡ Some e.slot = sym slot ∙ before.next in
+        let number : e.slot ≡ number_of owner = cc in
+        let same : Some e.value ≡ Some v = sym before.linked.0.there ∙ ap (λ (k : ℕ). value_at w k) number ∙ there in
+        let value : e.value ≡ v = cc in
         let linked = before.linked.0.linked in
         let few : length (e ∷ es) ≤ it.most = before.few in
-        let begins : entry_at w.cells (link_of entry.now) ≡ Some (record { held = first_slot es; tag = e.tag }) =
+        let within : length (e ∷ es) ≤ it.reach = before.within in
+        let begins : entry_at w.cells (link_of v) ≡ Some (record { held = first_slot es; tag = e.tag }) =
         subst (λ (x : LinkedEntry T). entry_at w.cells (link_of x) ≡ Some (record { held = first_slot es; tag = e.tag })) value linked in
         record {
-          first = e;
+          entry = e;
           rest = es;
           is = refl;
           value = value;
           tag_is = subst (λ (o : Option CellContents). IfSome o (λ held. held.tag ≡ tag)) begins tagged;
           before = record {
             linked = before.linked.1;
-            next = subst (λ (p : Position T). LeadsTo w p es) (sym behind) (ap held_in begins);
+            next = behind ∙ ap held_in begins;
             few = omega (arith, few, most);
+            within = omega (arith, within, reach);
           };
         }
 
@@ -134,22 +186,22 @@ module _ {T S : Type 0} (w : World (LinkedEntry T)) where
     pub passes : (vs : List T) → is_deleting tag ≡ true → GivesInOrder w it vs → GivesInOrder w after vs
     passes vs deleted gives =
         let step = steps gives.entries gives.before in
-        let gone : is_deleted step.first ≡ true = subst (λ (t : Tag). is_deleting t ≡ true) (sym step.tag_is) deleted in
+        let gone : is_deleted step.entry ≡ true = subst (λ (t : Tag). is_deleting t ≡ true) (sym step.tag_is) deleted in
         record {
           entries = step.rest;
           before = step.before;
           values = gives.values ∙ ap (λ (es : List (Entry (LinkedEntry T))). shown_of es) step.is
-              ∙ ap (λ (vs : List (LinkedEntry T)). map value_of vs) (values-gone step.first step.rest gone);
+              ∙ ap (λ (vs : List (LinkedEntry T)). map value_of vs) (values-gone step.entry step.rest gone);
         }
 
     -- an entry that isn't deleted is shown
     pub shows : (vs : List T) → is_deleting tag ≡ false → GivesInOrder w it vs →
-        (Some (value_of entry.now) ≡ slice_get vs 0) × GivesInOrder w after (drop 1 vs)
+        (Some (value_of v) ≡ slice_get vs 0) × GivesInOrder w after (drop 1 vs)
     shows vs kept gives =
         let step = steps gives.entries gives.before in
-        let stays : is_deleted step.first ≡ false = subst (λ (t : Tag). is_deleting t ≡ false) (sym step.tag_is) kept in
-        let values : vs ≡ value_of entry.now ∷ shown_of step.rest = gives.values ∙ ap (λ (es : List (Entry (LinkedEntry T))). shown_of es) step.is
-        ∙ ap (λ (vs : List (LinkedEntry T)). map value_of vs) (values-kept step.first step.rest stays)
+        let stays : is_deleted step.entry ≡ false = subst (λ (t : Tag). is_deleting t ≡ false) (sym step.tag_is) kept in
+        let values : vs ≡ value_of v ∷ shown_of step.rest = gives.values ∙ ap (λ (es : List (Entry (LinkedEntry T))). shown_of es) step.is
+        ∙ ap (λ (vs : List (LinkedEntry T)). map value_of vs) (values-kept step.entry step.rest stays)
         ∙ ap (λ (x : LinkedEntry T). value_of x ∷ shown_of step.rest) step.value in (
           sym (ap (λ (xs : List T). slice_get xs 0) values),
           record { entries = step.rest; before = step.before; values = ap (drop 1) values },

@@ -12,7 +12,7 @@ use Rattle.sdd_lists.specs.declared.walk.Walk.{Walk}
 use Rattle.sdd_lists.specs.declared.walks.Front.{Front}
 use Rattle.sdd_lists.specs.Entries.{link_of, value_of}
 use Rattle.sdd_lists.specs.Lists.{AreLinked, Entry, first_slot, is_deleted, left}
-use Rattle.sdd_lists.specs.Walk.{IsFirst, ShowsInOrder, StandsBefore, first_shown, shown_of}
+use Rattle.sdd_lists.specs.Walk.{ShowsInOrder, StandsBefore, first_shown, shown_of}
 use Rattle.sdd_lists.proofs.Order.{values-kept, values-left}
 use Rattle.sdd_lists.proofs.Popping.{stays-of}
 
@@ -42,14 +42,21 @@ module _ {T : Type 0} (w : World (LinkedEntry T)) where
   Found o es = MatchOption o (es ≡ []) (λ f. (e : Entry (LinkedEntry T)) × (rest : List (Entry (LinkedEntry T))) × (es ≡ e ∷ rest) ×
       (slot_named f.ptr ≡ Some e.slot) × (f.entry.now ≡ e.value) × ((n : ℕ) × IsSharedBy n (standing_at w e.slot)))
 
-  pub first-of : (o : Option (Front (LinkedEntry T))) (es : List (Entry (LinkedEntry T))) → Found o es →
-      IfSome o (λ f. cell_of f.link.now ≡ link_of f.entry.now) → IsFirst o es
-  first-of None es found linked = found
-  first-of (Some f) es found linked = (found.0, found.1, found.2, found.4, linked ∙ ap link_of found.4)
+  next-of : (o : Option (Front (LinkedEntry T))) (es : List (Entry (LinkedEntry T))) → Found o es →
+      IfSome o (λ f. cell_of f.link.now ≡ link_of f.entry.now) →
+      MatchOption o (es ≡ []) (λ f. (e : Entry (LinkedEntry T)) × (rest : List (Entry (LinkedEntry T))) × (es ≡ e ∷ rest) ×
+      (f.entry.now ≡ e.value) × (cell_of f.link.now ≡ link_of e.value))
+  next-of None es found linked = found
+  next-of (Some f) es found linked = (found.0, found.1, found.2, found.4, linked ∙ ap link_of found.4)
 
-  pub stands : (walk : Walk T) (es : List (Entry (LinkedEntry T))) → AreLinked link_of w es → IsFirst walk.next (left es) →
-      length (left es) ≤ walk.most → StandsBefore w walk (left es)
-  stands walk es linked found few = record { linked = linked-left link_of w es linked; front = left-left es; next = found; few = few }
+  pub stands : (walk : Walk T) (es : List (Entry (LinkedEntry T))) → AreLinked link_of w es → Found walk.next (left es) →
+      IfSome walk.next (λ f. cell_of f.link.now ≡ link_of f.entry.now) → length (left es) ≤ walk.most → StandsBefore w walk (left es)
+  stands walk es linked found cell few = record {
+    linked = linked-left link_of w es linked;
+    front = left-left es;
+    next = next-of walk.next (left es) found cell;
+    few = few;
+  }
 
 shorter-by : {T : Type 0} (e : Entry T) (es : List (Entry T)) → length (left es) ≤ length es → (b : Bool) →
     length (if b then left es else e ∷ es) ≤ length (e ∷ es)
@@ -86,25 +93,28 @@ after walk o = record { next = o; most = walk.most - 1 }
 
 -- where it shows a value, it stands before what is left of the entries behind that one
 module _ {T : Type 0} (w : World (LinkedEntry T)) (walk : Walk T) (f : Front (LinkedEntry T)) (at : walk.next ≡ Some f)
-    (o : Option (Front (LinkedEntry T)))
+    (o : Option (Front (LinkedEntry T))) (cell : IfSome o (λ f. cell_of f.link.now ≡ link_of f.entry.now))
     (found : (es : List (Entry (LinkedEntry T))) → AreLinked link_of w es → (held : CellContents) → entry_at w.cells (cell_of f.link.now) ≡ Some held →
-    held.held ≡ first_slot es → length (left es) ≤ walk.most - 1 → IsFirst o (left es)) (v : T) (value : v ≡ value_of f.entry.now) where
+    held.held ≡ first_slot es → Found w o (left es)) (v : T) (value : v ≡ value_of f.entry.now) where
+  abbrev next-entry : List (Entry (LinkedEntry T)) → Option (Front (LinkedEntry T)) → Type 0
+  next-entry es o = MatchOption o (es ≡ []) (λ f. (e : Entry (LinkedEntry T)) × (rest : List (Entry (LinkedEntry T))) × (es ≡ e ∷ rest) ×
+      (f.entry.now ≡ e.value) × (cell_of f.link.now ≡ link_of e.value))
+
   pub stands-next : (es : List (Entry (LinkedEntry T))) → StandsBefore w walk es →
       (Some v ≡ first_shown es) × StandsBefore w (after walk o) (left (drop 1 es))
   stands-next [] stood =
-      let here : IsFirst (Some f) [] = subst (λ (x : Option (Front (LinkedEntry T))). IsFirst x []) at stood.next in absurd (cc (here.2))
+      let here : next-entry [] (Some f) = subst (λ (x : Option (Front (LinkedEntry T))). next-entry [] x) at stood.next in absurd (cc (here.2))
   stands-next (x ∷ xs) stood =
-      let here : IsFirst (Some f) (x ∷ xs) = subst (λ (y : Option (Front (LinkedEntry T))). IsFirst y (x ∷ xs)) at stood.next in
+      let here : next-entry (x ∷ xs) (Some f) = subst (λ (y : Option (Front (LinkedEntry T))). next-entry (x ∷ xs) y) at stood.next in
       let both : x ∷ xs ≡ here.0 ∷ here.1 = here.2 in
       let heads : here.0 ≡ x = cc in
       let held : CellContents = record { held = first_slot xs; tag = x.tag } in
       let cell_is : cell_of f.link.now ≡ link_of x.value = here.4 ∙ ap (λ (y : Entry (LinkedEntry T)). link_of y.value) heads in
+      let behind = found xs stood.linked.1 held (ap (λ (k : ℕ). entry_at w.cells k) cell_is ∙ stood.linked.0.linked) refl in
       let none : length (left xs) ≤ length xs = no-more xs in
-      let few : length (x ∷ xs) ≤ walk.most = stood.few in
-      let fewer : length (left xs) ≤ walk.most - 1 = omega (arith, none, few) in
-      let behind = found xs stood.linked.1 held (ap (λ (k : ℕ). entry_at w.cells k) cell_is ∙ stood.linked.0.linked) refl fewer in (
+      let few : length (x ∷ xs) ≤ walk.most = stood.few in (
         ap (λ (y : T). Some y) (value ∙ ap value_of here.3 ∙ ap (λ (y : Entry (LinkedEntry T)). value_of y.value) heads),
-        stands w (after walk o) xs stood.linked.1 behind fewer,
+        stands w (after walk o) xs stood.linked.1 behind cell (omega (arith, none, few)),
       )
 
   pub shows-next : (vs : List T) → ShowsInOrder w walk vs → (Some v ≡ slice_get vs 0) × ShowsInOrder w (after walk o) (drop 1 vs)

@@ -5,7 +5,6 @@ use Rattle.sdd_space.specs.World.{World}
 use Rattle.sdd_space.specs.Shared.{cell_of, cells_home}
 use Rattle.sdd_lists.specs.declared.linked_entry.LinkedEntry.{LinkedEntry}
 use Rattle.sdd_lists.specs.declared.walk.Walk.{Walk}
-use Rattle.sdd_lists.specs.declared.walks.Front.{Front}
 use Rattle.sdd_lists.specs.Entries.{link_of, value_of}
 use Rattle.sdd_lists.specs.Histories.{values_of}
 use Rattle.sdd_lists.specs.Lists.{AreLinked, Entry, left}
@@ -28,16 +27,12 @@ module _ {T : Type 0} where
   abbrev pub IsWalkOf : token.GhostName → Walk T → Type 0
   IsWalkOf home walk = IfSome walk.next (λ f. cells_home f.link.now ≡ home)
 
-  -- what was found is the first of these entries
-  abbrev pub IsFirst : Option (Front (LinkedEntry T)) → List (Entry (LinkedEntry T)) → Type 0
-  IsFirst found es = MatchOption found (es ≡ []) (λ f. (e : Entry (LinkedEntry T)) × (rest : List (Entry (LinkedEntry T))) × (es ≡ e ∷ rest) ×
-      (f.entry.now ≡ e.value) × (cell_of f.link.now ≡ link_of e.value))
-
   -- it is before these entries, the first of which isn't deleted
   pub record StandsBefore (w : World (LinkedEntry T)) (walk : Walk T) (es : List (Entry (LinkedEntry T))) : Type 0 where
     pub linked : AreLinked link_of w es
     pub front : left es ≡ es
-    pub next : IsFirst walk.next es
+    pub next : MatchOption walk.next (es ≡ []) (λ f. (e : Entry (LinkedEntry T)) × (rest : List (Entry (LinkedEntry T))) × (es ≡ e ∷ rest) ×
+        (f.entry.now ≡ e.value) × (cell_of f.link.now ≡ link_of e.value))
     pub few : length es ≤ walk.most
 
   -- it shows these values, in order, where nothing is called in between that changes them

@@ -1,54 +1,37 @@
 //! The values of queues and stacks, while the space is borrowed for that.
-ghost use Rattle.std.specs.Prelude.{◌≡◌, ◌<◌, List, IfSome, option_copied};
+ghost use Rattle.std.specs.Prelude.{◌≡◌, ◌≤◌, List, IfSome, drop, length, option_copied};
 ghost use Rattle.std.specs.Iterator.{at_most};
 ghost use Rattle.sdd_core.specs.declared.tag.Tag.{Tag};
+ghost use Rattle.sdd_rights.specs.Right.{home_of};
 ghost use Rattle.sdd_space.specs.CallerId.{IsExact};
 ghost use Rattle.sdd_space.specs.Shared.{cell_of, cells_home};
-ghost use Rattle.sdd_lists.specs.Entries.{link_home_of, link_of};
-ghost use Rattle.sdd_lists.specs.Iter.{GivesInOrder, GoesInOrder, IsIterOf, IsPositionOf, LeadsTo, space_of, values_left};
-ghost use Rattle.sdd_lists.specs.Lists.{AreLinked, Entry, IsList, first_value};
-ghost use Rattle.sdd_lists.specs.Walk.{shown_of};
+ghost use Rattle.sdd_lists.specs.Entries.{link_of};
+ghost use Rattle.sdd_lists.specs.Iter.{GivesInOrder, GoesInOrder, IsBefore, IsIterOf, space_of, values_left};
+ghost use Rattle.sdd_lists.specs.Lists.{AreLinked, Entry, IsList, first_slot, left};
+ghost use Rattle.sdd_lists.specs.Walk.{first_shown, shown_of};
+ghost use Rattle.sdd_standings.specs.Cells.{slot_held};
 
 use crate::linked_entry::LinkedEntry;
 use crate::linked_list::LinkedList;
 use crate::walks::reach;
 use sdd_core::Tag;
-use sdd_space::inner::{tag_held_in, value_held_in};
+use sdd_rights::Right;
+use sdd_space::inner::{holder_in, tag_held_in};
 use sdd_space::{AtomicShared, HeldItems, Item, Items};
-
-/// Where an iterator is.
-#[derive(Drop)]
-enum Position<'a, T> {
-    /// Before its first entry, if there is one.
-    First(Option<&'a LinkedEntry<T>>),
-    /// Behind the entry that it looked at last.
-    Behind(&'a LinkedEntry<T>),
-}
-
-/// The entry that comes next, deleted or not, if there is one.
-fn entry_ahead<'a, T: Item<LinkedEntry<T>>, S: HeldItems<LinkedEntry<T>>>(
-    position: &Position<'a, T>,
-    s: &'a S,
-) -> Option<&'a LinkedEntry<T>>
-    requires { IsPositionOf (S.seat s.now).home.cells position.now }
-    ensures home { IfSome result (λ entry. link_home_of entry.now ≡ (S.seat s.now).home.cells) }
-    ensures exact { IsExact (S.seat s.now) → (es : List (Entry (LinkedEntry T))) → AreLinked link_of (S.world s.now) es →
-        LeadsTo (S.world s.now) position.now es → option_copied result ≡ first_value es }
-{
-    match position {
-        Position::First(first) => *first,
-        Position::Behind(entry) => value_held_in(entry.link_ref(), s),
-    }
-}
+use std::marker::PhantomData;
 
 /// The values of a queue or a stack in order. It borrows the space, so that nobody pushes, pops or deletes meanwhile.
 ///
 /// It ends after as many entries as there are slots, as where links run in a ring.
 #[derive(Drop)]
 pub struct Iter<'a, T, S> {
-    position: Position<'a, T>,
+    /// Where the owner of the next entry lies, if there is one.
+    next: &'a Option<Right>,
     most: u64,
+    /// How many entries may follow at most.
+    reach: u64,
     space: &'a S,
+    of: PhantomData<&'a T>,
 }
 
 /// The values of the list in a cell.
@@ -59,38 +42,95 @@ pub(crate) fn iter_in<
 >(cell: &AtomicShared<LinkedEntry<T>>, s: &'a S) -> Iter<'a, T, S>
     requires home { cells_home cell.now ≡ (S.seat s.now).home.cells }
     ensures space { space_of result ≡ s.now }
-    ensures home { IsIterOf (S.seat s.now).home.cells result }
+    ensures home { IsIterOf (S.seat s.now).home.slots result }
     ensures exact { IsExact (S.seat s.now) → (t : Tag) (es : List (Entry (LinkedEntry T))) → IsList link_of (S.world s.now) (cell_of cell.now) t es →
         GivesInOrder (S.world s.now) result (shown_of es) }
 {
+    let reach = reach::<LinkedEntry<T>, S>(s);
     Iter {
-        position: Position::First(value_held_in(cell, s)),
-        most: reach::<LinkedEntry<T>, S>(s),
+        next: holder_in(cell, s),
+        most: reach,
+        reach,
         space: s,
+        of: PhantomData,
     }
 }
 
 impl<'a, T: Item<LinkedEntry<T>>, S: HeldItems<LinkedEntry<T>>> Iterator for Iter<'a, T, S> {
     type Item = &'a T;
 
-    ghost can_next = { λ it. IsIterOf (S.seat (space_of it)).home.cells it };
+    ghost can_next = { λ it. IsIterOf (S.seat (space_of it)).home.slots it };
 
     ghost next_gives = { GoesInOrder S.seat S.world };
 
     ghost remaining = { λ it. at_most (values_left it) };
 
     fn next(&mut self) -> Option<&'a T> {
-        while let Some(most) = self.most.checked_sub(1) {
-            let Some(entry) = entry_ahead(&self.position, self.space) else {
-                return None;
-            };
-            self.most = most;
-            self.position = Position::Behind(entry);
-            match tag_held_in(entry.link_ref(), self.space) {
-                Tag::Second => {}
-                _ => return Some(entry.as_ref()),
+        let Some(most) = self.most.checked_sub(1) else {
+            return None;
+        };
+        let Some(owner) = self.next else {
+            return None;
+        };
+        let entry = self.space.value_of(owner);
+        let link = entry.link_ref();
+        let behind = holder_in(link, self.space);
+        self.most = most;
+        match tag_held_in(link, self.space) {
+            Tag::Second => {
+                self.next = past_deleted::<T, S>(behind, self.reach, self.space);
+                self.give()
+            }
+            _ => {
+                self.next = behind;
+                Some(entry.as_ref())
             }
         }
-        None
     }
+}
+
+impl<'a, T: Item<LinkedEntry<T>>, S: HeldItems<LinkedEntry<T>>> Iter<'a, T, S> {
+    /// The value of the entry before which it stands, whether that is deleted or not.
+    #[inline(always)]
+    fn give(&mut self) -> Option<&'a T>
+        requires { IsIterOf (S.seat (space_of self.old)).home.slots self.old }
+        ensures space { self.new.space ≡ self.old.space }
+        ensures home { IsIterOf (S.seat (space_of self.new)).home.slots self.new }
+        ensures most { values_left self.new ≡ values_left self.old }
+        ensures exact { IsExact (S.seat (space_of self.old)) → (es : List (Entry (LinkedEntry T))) → IsBefore (S.world (space_of self.old)) self.old es →
+            (option_copied result ≡ first_shown es) × IsBefore (S.world (space_of self.old)) self.new (drop 1 es) }
+    {
+        let Some(owner) = self.next else {
+            return None;
+        };
+        let entry = self.space.value_of(owner);
+        self.next = holder_in(entry.link_ref(), self.space);
+        Some(entry.as_ref())
+    }
+}
+
+/// Where the owner of the first entry lies that isn't deleted, of those to which this leads, if there is one among so many.
+#[inline(always)]
+fn past_deleted<'a, T: Item<LinkedEntry<T>>, S: HeldItems<LinkedEntry<T>>>(
+    holder: &'a Option<Right>,
+    reach: u64,
+    s: &'a S,
+) -> &'a Option<Right>
+    requires { IfSome holder.now (λ owner. home_of owner ≡ (S.seat s.now).home.slots) }
+    ensures home { IfSome result.now (λ owner. home_of owner ≡ (S.seat s.now).home.slots) }
+    ensures exact { IsExact (S.seat s.now) → (es : List (Entry (LinkedEntry T))) → AreLinked link_of (S.world s.now) es →
+        slot_held holder.now ≡ first_slot es → length es ≤ reach → slot_held result.now ≡ first_slot (left es) }
+{
+    let mut at = holder;
+    for _step in 0..reach {
+        let Some(owner) = at else {
+            return at;
+        };
+        let link = s.value_of(owner).link_ref();
+        let Tag::Second = tag_held_in(link, s) else {
+            return at;
+        };
+        at = holder_in(link, s);
+    }
+    at
 }

@@ -634,7 +634,7 @@ impl<T: Item<LinkedEntry<T>>> Queue<T> {
     ) -> Iter<'a, T, S>
         requires home { AreOfCells (S.seat s.now).home.cells self.now }
         ensures space { space_of result ≡ s.now }
-        ensures home { IsIterOf (S.seat s.now).home.cells result }
+        ensures home { IsIterOf (S.seat s.now).home.slots result }
         ensures list { IsExact (S.seat s.now) → (vs : List T) → QueueHas (S.world s.now) self.now vs → GivesInOrder (S.world s.now) result vs }
         ensures items { IsExact (S.seat s.now) → (vs : List T) → QueueHas (S.world s.now) self.now vs →
             AlwaysYields (GoesInOrder S.seat S.world) (λ v. v.now) result vs }

@@ -421,7 +421,7 @@ impl<T: Item<LinkedEntry<T>>> Stack<T> {
     ) -> Iter<'a, T, S>
         requires home { home_in self.now ≡ (S.seat s.now).home.cells }
         ensures space { space_of result ≡ s.now }
-        ensures home { IsIterOf (S.seat s.now).home.cells result }
+        ensures home { IsIterOf (S.seat s.now).home.slots result }
         ensures list { IsExact (S.seat s.now) → (vs : List T) → StackHas (S.world s.now) self.now vs → GivesInOrder (S.world s.now) result vs }
         ensures items { IsExact (S.seat s.now) → (vs : List T) → StackHas (S.world s.now) self.now vs →
             AlwaysYields (GoesInOrder S.seat S.world) (λ v. v.now) result vs }
@@ -438,7 +438,7 @@ impl<T: Item<LinkedEntry<T>>> Stack<T> {
     ) -> Iter<'a, T, S>
         requires home { home_in self.now ≡ (S.seat s.now).home.cells }
         ensures space { space_of result ≡ s.now }
-        ensures home { IsIterOf (S.seat s.now).home.cells result }
+        ensures home { IsIterOf (S.seat s.now).home.slots result }
         ensures list { IsExact (S.seat s.now) → (vs : List T) → StackHas (S.world s.now) self.now vs → GivesInOrder (S.world s.now) result vs }
     {
         iter_in(&self.newest, s)

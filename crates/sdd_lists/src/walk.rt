@@ -1,15 +1,13 @@
 //! Walks along queues and stacks.
-ghost use Rattle.std.specs.Prelude.{◌≡◌, ◌<◌, ◌≤◌, List, IfSome, Some, drop, length, option_copied, slice_get};
+ghost use Rattle.std.specs.Prelude.{◌≡◌, ◌<◌, ◌∷◌, ℕ, List, IfOk, IfSome, MatchOption, MatchResult, None, Option, Some, drop, length, option_copied, slice_get};
 ghost use Rattle.sdd_core.specs.declared.tag.Tag.{Tag};
-ghost use Rattle.sdd_participants.specs.Slab.{entry_at};
-ghost use Rattle.sdd_participants.specs.declared.standing.CellContents.{CellContents};
 ghost use Rattle.sdd_space.specs.CallerId.{IsSeated, IsExact};
 ghost use Rattle.sdd_space.specs.Guard.{reader_of};
 ghost use Rattle.sdd_space.specs.Shared.{cell_of, cells_home};
 ghost use Rattle.sdd_space.specs.Undisturbed.{Undisturbed};
 ghost use Rattle.sdd_lists.specs.Entries.{link_of};
-ghost use Rattle.sdd_lists.specs.Lists.{AreLinked, Entry, IsList, first_slot, left};
-ghost use Rattle.sdd_lists.specs.Walk.{IsFirst, IsWalkOf, ShowsInOrder, StandsBefore, first_shown, steps_left};
+ghost use Rattle.sdd_lists.specs.Lists.{Entry, IsList, left};
+ghost use Rattle.sdd_lists.specs.Walk.{IsWalkOf, ShowsInOrder, StandsBefore, first_shown, steps_left};
 
 use crate::linked_entry::LinkedEntry;
 use crate::walks::{Front, front_in, reach};
@@ -23,33 +21,6 @@ use sdd_space::{AtomicShared, Cells, Guard, Item, Items, LookThrough};
 pub struct Walk<'g, T> {
     next: Option<Front<'g, LinkedEntry<T>>>,
     most: u64,
-}
-
-/// The first entry of the list in a cell that isn't deleted, for a walk that shows at most so many more.
-fn front_ahead<
-    'g,
-    T: Item<LinkedEntry<T>>,
-    S: Items<LinkedEntry<T>> + Cells<LinkedEntry<T>> + LookThrough<LinkedEntry<T>>,
->(
-    cell: &AtomicShared<LinkedEntry<T>>,
-    most: u64,
-    guard: &'g Guard,
-    s: &mut S,
-) -> Option<Front<'g, LinkedEntry<T>>>
-    requires seated { IsSeated (S.seat s.old) }
-    requires home { cells_home cell.now ≡ (S.seat s.old).home.cells }
-    requires reader { reader_of guard.now ≡ (S.seat s.old).reader }
-    ensures undisturbed { Undisturbed S.seat S.own S.known S.shows s.old s.new }
-    ensures home { IfSome result (λ f. cells_home f.link.now ≡ (S.seat s.old).home.cells) }
-    ensures world { IsExact (S.seat s.old) → S.world s.new ≡ S.world s.old }
-    ensures exact { IsExact (S.seat s.old) → (es : List (Entry (LinkedEntry T))) → AreLinked link_of (S.world s.old) es →
-        (held : CellContents) → entry_at (S.world s.old).cells (cell_of cell.now) ≡ Some held → held.held ≡ first_slot es →
-        length (left es) ≤ most → IsFirst result (left es) }
-{
-    if most == 0 {
-        return None;
-    }
-    front_in(cell, guard, s)
 }
 
 /// A walk along the list in a cell.
@@ -68,7 +39,7 @@ pub(crate) fn walk_in<
         StandsBefore (S.world s.new) result (left es) }
 {
     let most = reach::<LinkedEntry<T>, S>(s);
-    let next = front_ahead(cell, most, guard, s);
+    let next = front_in(cell, guard, s);
     Walk { next, most }
 }
 
@@ -91,14 +62,14 @@ impl<'g, T: Item<LinkedEntry<T>>> Walk<'g, T> {
             (option_copied result ≡ first_shown es) × StandsBefore (S.world s.new) self.new (left (drop 1 es)) }
         ensures ends { IfSome result (λ _. steps_left self.new < steps_left self.old) }
     {
-        let Some(most) = self.most.checked_sub(1) else {
-            return None;
-        };
         let Some(front) = self.next.take() else {
             return None;
         };
+        let Some(most) = self.most.checked_sub(1) else {
+            return None;
+        };
         self.most = most;
-        self.next = front_ahead(front.link, most, guard, s);
+        self.next = front_in(front.link, guard, s);
         Some(front.entry.as_ref())
     }
 }

@@ -12,7 +12,6 @@ pub mod Shared
 pub mod RawPtr
 pub mod RawCell
 pub mod Loans
-pub mod HeldItems
 pub mod WorldInvariant
 pub mod Jobs
 pub mod Out

@@ -1,15 +1,15 @@
 //! What the spaces need beyond the public surface: an owner, a cell, a guard and a pointer as what they are made of.
 ghost use Rattle.std.specs.Prelude.{◌≡◌, IfErr, IfOk, IfSome, MatchResult, None, Some, option_copied};
-ghost use Rattle.sdd_rights.specs.Right.{kind_of};
+ghost use Rattle.sdd_rights.specs.Right.{home_of, kind_of};
 ghost use Rattle.sdd_space.specs.Owned.{slot_of, right_of, cell_right};
 ghost use Rattle.sdd_space.specs.Shared as shared;
-ghost use Rattle.sdd_space.specs.HeldItems.{value_held};
 ghost use Rattle.sdd_space.specs.OwnerOrCell.{AreOf};
 ghost use Rattle.sdd_space.specs.World.{World};
 ghost use Rattle.sdd_space.specs.CallerId.{IsSeated, IsExact};
 ghost use Rattle.sdd_space.specs.Refusals.{IsRefusedBy};
 ghost use Rattle.sdd_space.specs.Undisturbed.{Undisturbed};
-ghost use Rattle.sdd_space.specs.WorldChanges.{made_as};
+ghost use Rattle.sdd_space.specs.WorldChanges.{held_in, made_as};
+ghost use Rattle.sdd_standings.specs.Cells.{slot_held};
 ghost use Rattle.sdd_participants.specs.Slab.{IsEmptyAt, IsFull, entry_at};
 ghost use Rattle.sdd_space.specs.RawPtr as raw;
 ghost use Rattle.sdd_space.specs.Ptr.{slot_named, shown_by, tag_of};
@@ -257,16 +257,16 @@ pub fn make_two<T: Item<T>, S: Several<T>>(
     }
 }
 
-/// The value of the item that a cell of shared owners holds, if it holds one.
-pub fn value_held_in<'a, T: Item<T>, S: HeldItems<T>>(
+/// Where the right of the owner lies that a cell of shared owners holds, if it holds one.
+pub fn holder_in<'a, T: Item<T>, S: HeldItems<T>>(
     cell: &AtomicShared<T>,
     s: &'a S,
-) -> Option<&'a T>
+) -> &'a Option<Right>
     requires home { shared.cells_home cell.now ≡ (S.seat s.now).home.cells }
-    ensures held { IfSome result (λ value. AreOf (S.seat s.now).home (T.holds value.now)) }
-    ensures exact { IsExact (S.seat s.now) → option_copied result ≡ value_held (S.world s.now) (shared.cell_of cell.now) }
+    ensures home { IfSome result.now (λ owner. home_of owner ≡ (S.seat s.now).home.slots) }
+    ensures exact { IsExact (S.seat s.now) → slot_held result.now ≡ held_in (entry_at (S.world s.now).cells (shared.cell_of cell.now)) }
 {
-    s.held(cell.right())
+    s.holder(cell.right())
 }
 
 /// The tag of a cell of shared owners.

@@ -243,10 +243,15 @@ impl<T: Item<T>, J: Job> HeldItems<T> for Turn<'_, T, J> {
         world.core.is_guarded()
     }
 
-    fn held<'a>(&'a self, cell: &Right) -> Option<&'a T> {
+    fn holder<'a>(&'a self, cell: &Right) -> &'a Option<Right> {
+        let world: &World<T, J> = self.world;
+        world.core.holder(cell)
+    }
+
+    fn value_of<'a>(&'a self, owner: &Right) -> &'a T {
         let world: &World<T, J> = self.world;
         world.core.values_are_of_home();
-        world.core.value_held(cell)
+        world.core.value(owner)
     }
 
     fn contents(&self, cell: &Right) -> CellContents {

@@ -6,9 +6,8 @@ ghost use Rattle.sdd_standings.specs.Slots.{IsOwnedBy, IsSharedBy};
 ghost use Rattle.sdd_standings.specs.Cells.{MayHold, cell_with, slot_held};
 ghost use Rattle.sdd_participants.specs.EpochState as time;
 ghost use Rattle.sdd_participants.specs.Slab.{entry_at, IsEmptyAt, IsFull};
-ghost use Rattle.sdd_space.specs.HeldItems.{value_held};
 ghost use Rattle.sdd_space.specs.World.{KeepsSizes, standing_at, HasPlace};
-ghost use Rattle.sdd_space.specs.WorldChanges.{with_standing, with_cell, without_cell, cell_closed, held_in};
+ghost use Rattle.sdd_space.specs.WorldChanges.{cell_closed, held_in, with_cell, with_standing, without_cell};
 ghost use Rattle.sdd_space.specs.WorldInvariant.{IsWhole};
 ghost use Rattle.sdd_world_core.specs.Lending.{AreLent};
 
@@ -91,15 +90,13 @@ impl<T: Item<T>, J: Job> WorldCore<T, J> {
         Some(self.slots.slot_of(right))
     }
 
-    /// The value of the item that a cell holds, if it holds one.
-    pub fn value_held(&self, cell: &Right) -> Option<&T>
+    /// Where the right of the owner lies that a cell holds, if it holds one.
+    pub fn holder(&self, cell: &Right) -> &Option<Right>
         requires { home_of cell.now ≡ self.now.world.home.cells }
-        ensures { option_copied result ≡ value_held self.now.world (number_of cell.now) }
+        ensures home { IfSome result.now (λ owner. home_of owner ≡ self.now.world.home.slots) }
+        ensures held { slot_held result.now ≡ held_in (entry_at self.now.world.cells (number_of cell.now)) }
     {
-        match self.cells.owner(cell) {
-            Some(owner) => Some(self.slots.value(owner)),
-            None => None,
-        }
+        self.cells.holder(cell)
     }
 
     /// One owner more of what a cell of shared owners holds, if it holds anything.

@@ -12,7 +12,7 @@ pub returns-clause-exact : goal.returns-clause-exact
 returns-clause-exact g c = λ e t es list.
     let w = g.S.Caller.world c.args.s.now in
     let held : CellContents = record { held = first_slot es; tag = t } in
-    let walk : Walk _ = record { next = c.front_ahead-next.result; most = c.reach-most.result } in
-    let few = c.reach-most.ensures e (left es) (linked-left link_of w es list.linked) in
-    let found = c.front_ahead-next.ensures.exact e es list.linked held list.begins refl few in
-    subst (λ (y : World _). StandsBefore y walk (left es)) (sym (c.front_ahead-next.ensures.world e)) (stands w walk es list.linked found few)
+    let walk : Walk _ = record { next = c.front_in-next.result; most = c.reach-most.result } in
+    let found = c.front_in-next.ensures.exact e es list.linked held list.begins refl in
+    subst (λ (y : World _). StandsBefore y walk (left es)) (sym (c.front_in-next.ensures.world e))
+    (stands w walk es list.linked found c.front_in-next.ensures.link (c.reach-most.ensures e (left es) (linked-left link_of w es list.linked)))

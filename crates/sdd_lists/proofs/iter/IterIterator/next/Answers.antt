@@ -1,69 +1,44 @@
-use Rattle.std.proofs.Common.{Some, sym, ap, ◌∙◌, subst, refl, arith}
-use Rattle.sdd_space.specs.CallerId.{IsExact}
-use Rattle.sdd_lists.specs.Lists.{is_deleting}
-use Rattle.sdd_lists.proofs.Fronts.{undeleting}
-use Rattle.sdd_lists.proofs.Iterating.{ahead-at, gives-no-more, gives-none, passes, shows, tag-at}
+use Rattle.std.proofs.Common.{◌≡◌, ℕ, List, ◌∙◌, ap, sym, refl, length, subst, arith}
+use Rattle.sdd_participants.specs.Slab.{entry_at}
+use Rattle.sdd_space.specs.WorldChanges.{held_in}
+use Rattle.sdd_lists.specs.Entries.{link_of}
+use Rattle.sdd_lists.specs.Lists.{Entry, is_deleting, left}
+use Rattle.sdd_lists.specs.Walk.{shown_of}
+use Rattle.sdd_lists.proofs.Iterating.{ahead, given-first, link-home, shown-passed, tag-at}
+use Rattle.sdd_lists.proofs.Walking.{left-left, linked-left, no-more, shown-left}
 use Rattle.sdd_lists.proofs.iter.IterIterator.next.Goals as goal
 
-pub loop-most-preserved : goal.loop-most-preserved
-loop-most-preserved g c = record {
-  space = c.loop-most.invariant.space;
-  home = c.in-Some-entry_ahead.ensures.home;
-  few = omega arith;
+pub holder_in-behind-requires : goal.holder_in-behind-requires
+holder_in-behind-requires g c = record {
+  home = c.link_ref-link.ensures.home
+      ∙ link-home g.T.Item.holds (g.S.Caller.seat c.args.self.now.space.now).home c.value_of-entry.result.now c.value_of-entry.ensures.held;
+}
+
+pub tag_held_in-requires : goal.tag_held_in-requires
+tag_held_in-requires g c = record {
+  home = c.link_ref-link.ensures.home
+      ∙ link-home g.T.Item.holds (g.S.Caller.seat c.args.self.now.space.now).home c.value_of-entry.result.now c.value_of-entry.ensures.held;
+}
+
+pub returns-in-Second-clause-steps : goal.returns-in-Second-clause-steps
+returns-in-Second-clause-steps g c = record {
+  space = c.give.ensures.space;
+  home = λ _. c.give.ensures.home;
   gives = λ e vs gives.
-      let same = c.loop-most.invariant.space in
-      let here = subst (λ s. IsExact (g.S.Caller.seat s.now)) (sym same) e in
-      let entry = c.in-Some-entry_ahead.entry in
-      passes (g.S.Caller.world c.args.self.now.space.now) c.loop-most.self _ entry
-      (ahead-at g.S.Caller.world c.loop-most.self.space c.args.self.now.space same c.loop-most.self.position (Some entry.now)
-      (c.in-Some-entry_ahead.ensures.exact here))
-      refl (omega arith) c.tag_held_in.result
-      (tag-at g.S.Caller.world c.loop-most.self.space c.args.self.now.space same _ _ c.link_ref.ensures.link c.tag_held_in.result
-      (c.tag_held_in.ensures.exact here)) vs (ap is_deleting c.in-Second.is) (c.loop-most.invariant.gives e vs gives);
-}
-
-pub returns-in_default-tag_held_in : goal.returns-in_default-tag_held_in
-returns-in_default-tag_held_in g c = record {
-  steps = record {
-    space = c.loop-most.invariant.space;
-    home = λ _. c.in-Some-entry_ahead.ensures.home;
-    gives = λ e vs gives.
-        let same = c.loop-most.invariant.space in
-        let here = subst (λ s. IsExact (g.S.Caller.seat s.now)) (sym same) e in
-        let entry = c.in-Some-entry_ahead.entry in
-        let next = shows (g.S.Caller.world c.args.self.now.space.now) c.loop-most.self _ entry
-        (ahead-at g.S.Caller.world c.loop-most.self.space c.args.self.now.space same c.loop-most.self.position (Some entry.now)
-        (c.in-Some-entry_ahead.ensures.exact here))
-        refl (omega arith) c.tag_held_in.result
-        (tag-at g.S.Caller.world c.loop-most.self.space c.args.self.now.space same _ _ c.link_ref.ensures.link c.tag_held_in.result
-        (c.tag_held_in.ensures.exact here)) vs (undeleting c.tag_held_in.result c.in_default-tag_held_in.not-Second)
-        (c.loop-most.invariant.gives e vs gives) in (
-          ap (λ x. Some x) c.as_ref.ensures ∙ next.0,
-          next.1,
-        );
-  };
-  goes = record {
-    on = λ _. (c.in-Some-entry_ahead.ensures.home, tt, omega arith);
-    keeps = c.in-Some-entry_ahead.ensures.home;
-    rests = λ _. tt;
-  };
-}
-
-pub returns-in_default-entry_ahead-clause-steps : goal.returns-in_default-entry_ahead-clause-steps
-returns-in_default-entry_ahead-clause-steps g c = record {
-  space = c.loop-most.invariant.space;
-  home = λ _. c.loop-most.invariant.home;
-  gives = λ e vs gives.
-      let same = c.loop-most.invariant.space in
-      let here = subst (λ s. IsExact (g.S.Caller.seat s.now)) (sym same) e in
-      gives-none (g.S.Caller.world c.args.self.now.space.now) c.loop-most.self vs
-      (ahead-at g.S.Caller.world c.loop-most.self.space c.args.self.now.space same c.loop-most.self.position _
-      (c.in_default-entry_ahead.ensures.exact here)) (c.loop-most.invariant.gives e vs gives);
-}
-
-pub returns-clause-steps : goal.returns-clause-steps
-returns-clause-steps g c = record {
-  space = c.loop-most.invariant.space;
-  home = λ _. c.loop-most.invariant.home;
-  gives = λ e vs gives. gives-no-more (g.S.Caller.world c.args.self.now.space.now) c.loop-most.self vs (omega arith) (c.loop-most.invariant.gives e vs gives);
+      let it = c.args.self.now in
+      let w = g.S.Caller.world it.space.now in
+      let es : List (Entry _) = gives.entries in
+      let owner = c.in-Some-next.owner in
+      let v = c.value_of-entry.result.now in
+      let a = ahead w owner v (c.value_of-entry.ensures.exact e) it.next.now c.in-Some-next.is es gives.before.linked gives.before.next in
+      let tagged = tag-at g.S.Caller.world it.space it.space refl _ _ c.link_ref-link.ensures.link c.tag_held_in.result (c.tag_held_in.ensures.exact e) in
+      let behind = c.holder_in-behind.ensures.exact e ∙ ap (λ (k : ℕ). held_in (entry_at w.cells k)) c.link_ref-link.ensures.link ∙ ap held_in a.cell in
+      let long = ap length a.is in
+      let found = c.past_deleted-self.ensures.exact e a.rest a.linked behind (omega (arith, long, gives.before.within)) in
+      let fewer = no-more a.rest in
+      let given = c.give.ensures.exact e (left a.rest)
+      (record { linked = linked-left link_of w a.rest a.linked; next = found; few = omega (arith, long, fewer, gives.before.few); within = omega (arith, long, fewer, gives.before.within) }) in
+      let values = gives.values ∙ shown-passed w owner v (c.value_of-entry.ensures.exact e) c.tag_held_in.result tagged es a (ap is_deleting c.in-Second.is)
+      ∙ sym (shown-left a.rest) in
+      given-first w _ (left a.rest) (left-left a.rest) c.give.result given.0 given.1 vs values;
 }
