@@ -27,8 +27,9 @@ use std::marker::PhantomData;
 pub struct Iter<'a, T, S> {
     /// Where the owner of the next entry lies, if there is one.
     next: &'a Option<Right>,
+    /// How many values it gives at most from here on.
     most: u64,
-    /// How many entries may follow at most.
+    /// How many entries are linked one behind another at most.
     reach: u64,
     space: &'a S,
     of: PhantomData<&'a T>,
