@@ -68,7 +68,7 @@ module _ {T B S : Type 0} {len : ℕ} where
       pub bag : IsBag shown len (world (space_in it)) (whole it)
       pub order : IsInOrder len (whole it)
       pub exact : IsExact (seat (space_in it))
-      pub can : IsIterOf (seat (space_in it)).home.cells it.shelves
+      pub can : IsIterOf (seat (space_in it)).home.slots it.shelves
       pub stands : StandsIn shown len it.behind it.bag.now
       pub first : HasFirst len it.behind (whole it)
       pub room : it.at ≤ len
