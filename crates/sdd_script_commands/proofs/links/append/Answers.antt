@@ -34,7 +34,8 @@ returns-in_default-slot_since c =
 
 pub returns-in_default-shared_of : goal.returns-in_default-shared_of
 returns-in_default-shared_of c = record {
-  acts = rw (← c.stage.view_is) (invalid _ _ _ (λ valid. no-shared c.stage.inside.hand c.args.owner.0 c.in_default-shared_of.ensures (ap is_some valid.2.owner)));
+  acts = rw (← c.stage.view_is)
+      (invalid _ _ _ (λ valid. no-shared c.stage.inside.hand c.args.owner.0 c.in_default-shared_of.ensures (ap is_some valid.2.owner)));
 }
 
 pub is_loose_beside-requires-clause-stays : goal.is_loose_beside-requires-clause-stays
