@@ -67,17 +67,18 @@ impl<'a, T: Item<LinkedEntry<T>>, S: HeldItems<LinkedEntry<T>>> Iterator for Ite
     ghost remaining = { λ it. at_most (values_left it) };
 
     fn next(&mut self) -> Option<&'a T> {
-        let Some(most) = self.most.checked_sub(1) else {
-            return None;
-        };
         let Some(owner) = self.next else {
             return None;
         };
         let entry = self.space.value_of(owner);
         let link = entry.link_ref();
         let behind = holder_in(link, self.space);
+        let tag = tag_held_in(link, self.space);
+        let Some(most) = self.most.checked_sub(1) else {
+            return None;
+        };
         self.most = most;
-        match tag_held_in(link, self.space) {
+        match tag {
             Tag::Second => {
                 self.next = past_deleted::<T, S>(behind, self.reach, self.space);
                 self.give()
