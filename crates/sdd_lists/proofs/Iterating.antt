@@ -22,7 +22,7 @@ use Rattle.sdd_lists.specs.Entries.{holdings_of, link_home_of, link_of, link_par
 use Rattle.sdd_lists.specs.Iter.{GivesInOrder, GoesInOrder, IsBefore}
 use Rattle.sdd_lists.specs.Lists.{AreLinked, Entry, IsList, first_slot, is_deleted, is_deleting, left}
 use Rattle.sdd_lists.specs.Walk.{first_shown, shown_of}
-use Rattle.sdd_lists.proofs.Order.{values-gone, values-kept}
+use Rattle.sdd_lists.proofs.Order.{values-gone}
 use Rattle.sdd_lists.proofs.Walking.{shown-first, shown-left}
 
 module _ {T : Type 0} (holds : T → List OwnerOrCell) (home : SpaceId) where
@@ -105,28 +105,6 @@ module _ {T S : Type 0} (w : World (LinkedEntry T)) where
     values = refl;
   }
 
-  -- where no entry is ahead nothing is given, and it stays so
-  no-entries : (it : Iter T S) (vs : List T) (gives : GivesInOrder w it vs) → gives.entries ≡ [] → (None ≡ slice_get vs 0) × GivesInOrder w it (drop 1 vs)
-  no-entries it vs gives empty =
-      let is : vs ≡ [] = gives.values ∙ ap (λ (es : List (Entry (LinkedEntry T))). shown_of es) empty in (
-        sym (ap (λ (xs : List T). slice_get xs 0) is),
-        record { entries = gives.entries; before = gives.before; values = ap (drop 1) is ∙ sym is ∙ gives.values },
-      )
-
-  -- at the end nothing is left
-  pub gives-none : (it : Iter T S) (vs : List T) → it.next.now ≡ None → GivesInOrder w it vs → (None ≡ slice_get vs 0) × GivesInOrder w it (drop 1 vs)
-  gives-none it vs none gives = no-entries it vs gives (at-end gives.entries gives.before) where
-    at-end : (es : List (Entry (LinkedEntry T))) → IsBefore w it es → es ≡ []
-    at-end [] before = refl
-    at-end (e ∷ es) before = let never : None ≡ Some e.slot = sym (ap slot_held none) ∙ before.next in absurd (cc)
-
-  -- an iterator that may give nothing more gives nothing
-  pub gives-no-more : (it : Iter T S) (vs : List T) → it.most ≡ 0 → GivesInOrder w it vs → (None ≡ slice_get vs 0) × GivesInOrder w it (drop 1 vs)
-  gives-no-more it vs most gives = no-entries it vs gives (short gives.entries gives.before.few) where
-    short : (es : List (Entry (LinkedEntry T))) → length es ≤ it.most → es ≡ []
-    short [] few = refl
-    short (e ∷ es) few = absurd (omega (arith, few, most))
-
   -- the first of these is given, which isn't deleted, and the iterator is before the others then
   pub given-first : (after : Iter T S) (es : List (Entry (LinkedEntry T))) → left es ≡ es → (given : Option (Bor T)) → option_copied given ≡ first_shown es →
       IsBefore w after (drop 1 es) → (vs : List T) → vs ≡ shown_of es → (option_copied given ≡ slice_get vs 0) × GivesInOrder w after (drop 1 vs)
@@ -140,72 +118,6 @@ module _ {T S : Type 0} (w : World (LinkedEntry T)) where
         first ∙ sym (ap (λ (xs : List T). slice_get xs 0) all),
         record { entries = es; before = before; values = ap (drop 1) all },
       )
-
-  -- one entry on
-  module _ (it after : Iter T S) (owner : Right) (v : LinkedEntry T) (next : it.next.now ≡ Some owner)
-      (there : value_at w (number_of owner) ≡ Some v) (behind : slot_held after.next.now ≡ held_in (entry_at w.cells (link_of v)))
-      (most : after.most ≡ it.most - 1) (reach : after.reach ≡ it.reach) (tag : Tag) (tagged : IfSome (entry_at w.cells (link_of v)) (λ held. held.tag ≡ tag)) where
-    slot : slot_held it.next.now ≡ Some (number_of owner)
-    slot = ap slot_held next
-
-    record IsStep (es : List (Entry (LinkedEntry T))) : Type 0 where
-      entry : Entry (LinkedEntry T)
-      rest : List (Entry (LinkedEntry T))
-      is : es ≡ entry ∷ rest
-      value : entry.value ≡ v
-      tag_is : entry.tag ≡ tag
-      before : IsBefore w after rest
-
-    steps : (es : List (Entry (LinkedEntry T))) → IsBefore w it es → IsStep es
-    steps [] before = let never : Some (number_of owner) ≡ None = sym slot ∙ before.next in absurd (cc)
-    steps (e ∷ es) before =
-        let here : Some (number_of owner) ≡ Some e.slot = sym slot ∙ before.next in
-        let number : e.slot ≡ number_of owner = cc in
-        let same : Some e.value ≡ Some v = sym before.linked.0.there ∙ ap (λ (k : ℕ). value_at w k) number ∙ there in
-        let value : e.value ≡ v = cc in
-        let linked = before.linked.0.linked in
-        let few : length (e ∷ es) ≤ it.most = before.few in
-        let within : length (e ∷ es) ≤ it.reach = before.within in
-        let begins : entry_at w.cells (link_of v) ≡ Some (record { held = first_slot es; tag = e.tag }) =
-        subst (λ (x : LinkedEntry T). entry_at w.cells (link_of x) ≡ Some (record { held = first_slot es; tag = e.tag })) value linked in
-        record {
-          entry = e;
-          rest = es;
-          is = refl;
-          value = value;
-          tag_is = subst (λ (o : Option CellContents). IfSome o (λ held. held.tag ≡ tag)) begins tagged;
-          before = record {
-            linked = before.linked.1;
-            next = behind ∙ ap held_in begins;
-            few = omega (arith, few, most);
-            within = omega (arith, within, reach);
-          };
-        }
-
-    -- a deleted entry is passed over
-    pub passes : (vs : List T) → is_deleting tag ≡ true → GivesInOrder w it vs → GivesInOrder w after vs
-    passes vs deleted gives =
-        let step = steps gives.entries gives.before in
-        let gone : is_deleted step.entry ≡ true = subst (λ (t : Tag). is_deleting t ≡ true) (sym step.tag_is) deleted in
-        record {
-          entries = step.rest;
-          before = step.before;
-          values = gives.values ∙ ap (λ (es : List (Entry (LinkedEntry T))). shown_of es) step.is
-              ∙ ap (λ (vs : List (LinkedEntry T)). map value_of vs) (values-gone step.entry step.rest gone);
-        }
-
-    -- an entry that isn't deleted is shown
-    pub shows : (vs : List T) → is_deleting tag ≡ false → GivesInOrder w it vs →
-        (Some (value_of v) ≡ slice_get vs 0) × GivesInOrder w after (drop 1 vs)
-    shows vs kept gives =
-        let step = steps gives.entries gives.before in
-        let stays : is_deleted step.entry ≡ false = subst (λ (t : Tag). is_deleting t ≡ false) (sym step.tag_is) kept in
-        let values : vs ≡ value_of v ∷ shown_of step.rest = gives.values ∙ ap (λ (es : List (Entry (LinkedEntry T))). shown_of es) step.is
-        ∙ ap (λ (vs : List (LinkedEntry T)). map value_of vs) (values-kept step.entry step.rest stays)
-        ∙ ap (λ (x : LinkedEntry T). value_of x ∷ shown_of step.rest) step.value in (
-          sym (ap (λ (xs : List T). slice_get xs 0) values),
-          record { entries = step.rest; before = step.before; values = ap (drop 1) values },
-        )
 
 module _ {T S : Type 0} (seat : S → CallerId) (world : S → World (LinkedEntry T)) where
   -- whatever calls give, it is these values in order, and then nothing more

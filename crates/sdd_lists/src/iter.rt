@@ -16,7 +16,7 @@ use crate::linked_list::LinkedList;
 use crate::walks::reach;
 use sdd_core::Tag;
 use sdd_rights::Right;
-use sdd_space::inner::{holder_in, tag_held_in};
+use sdd_space::inner::{right_in, tag_held_in};
 use sdd_space::{AtomicShared, HeldItems, Item, Items};
 use std::marker::PhantomData;
 
@@ -49,7 +49,7 @@ pub(crate) fn iter_in<
 {
     let reach = reach::<LinkedEntry<T>, S>(s);
     Iter {
-        next: holder_in(cell, s),
+        next: right_in(cell, s),
         most: reach,
         reach,
         space: s,
@@ -72,7 +72,7 @@ impl<'a, T: Item<LinkedEntry<T>>, S: HeldItems<LinkedEntry<T>>> Iterator for Ite
         };
         let entry = self.space.value_of(owner);
         let link = entry.link_ref();
-        let behind = holder_in(link, self.space);
+        let behind = right_in(link, self.space);
         let tag = tag_held_in(link, self.space);
         let Some(most) = self.most.checked_sub(1) else {
             return None;
@@ -106,7 +106,7 @@ impl<'a, T: Item<LinkedEntry<T>>, S: HeldItems<LinkedEntry<T>>> Iter<'a, T, S> {
             return None;
         };
         let entry = self.space.value_of(owner);
-        self.next = holder_in(entry.link_ref(), self.space);
+        self.next = right_in(entry.link_ref(), self.space);
         Some(entry.as_ref())
     }
 }
@@ -114,16 +114,16 @@ impl<'a, T: Item<LinkedEntry<T>>, S: HeldItems<LinkedEntry<T>>> Iter<'a, T, S> {
 /// Where the owner of the first entry lies that isn't deleted, of those to which this leads, if there is one among so many.
 #[inline(always)]
 fn past_deleted<'a, T: Item<LinkedEntry<T>>, S: HeldItems<LinkedEntry<T>>>(
-    holder: &'a Option<Right>,
+    held: &'a Option<Right>,
     reach: u64,
     s: &'a S,
 ) -> &'a Option<Right>
-    requires { IfSome holder.now (λ owner. home_of owner ≡ (S.seat s.now).home.slots) }
+    requires { IfSome held.now (λ owner. home_of owner ≡ (S.seat s.now).home.slots) }
     ensures home { IfSome result.now (λ owner. home_of owner ≡ (S.seat s.now).home.slots) }
     ensures exact { IsExact (S.seat s.now) → (es : List (Entry (LinkedEntry T))) → AreLinked link_of (S.world s.now) es →
-        slot_held holder.now ≡ first_slot es → length es ≤ reach → slot_held result.now ≡ first_slot (left es) }
+        slot_held held.now ≡ first_slot es → length es ≤ reach → slot_held result.now ≡ first_slot (left es) }
 {
-    let mut at = holder;
+    let mut at = held;
     for _step in 0..reach {
         let Some(owner) = at else {
             return at;
@@ -132,7 +132,7 @@ fn past_deleted<'a, T: Item<LinkedEntry<T>>, S: HeldItems<LinkedEntry<T>>>(
         let Tag::Second = tag_held_in(link, s) else {
             return at;
         };
-        at = holder_in(link, s);
+        at = right_in(link, s);
     }
     at
 }

@@ -258,7 +258,7 @@ pub fn make_two<T: Item<T>, S: Several<T>>(
 }
 
 /// Where the right of the owner lies that a cell of shared owners holds, if it holds one.
-pub fn holder_in<'a, T: Item<T>, S: HeldItems<T>>(
+pub fn right_in<'a, T: Item<T>, S: HeldItems<T>>(
     cell: &AtomicShared<T>,
     s: &'a S,
 ) -> &'a Option<Right>
@@ -266,7 +266,7 @@ pub fn holder_in<'a, T: Item<T>, S: HeldItems<T>>(
     ensures home { IfSome result.now (λ owner. home_of owner ≡ (S.seat s.now).home.slots) }
     ensures exact { IsExact (S.seat s.now) → slot_held result.now ≡ held_in (entry_at (S.world s.now).cells (shared.cell_of cell.now)) }
 {
-    s.holder(cell.right())
+    s.right_in(cell.right())
 }
 
 /// The tag of a cell of shared owners.

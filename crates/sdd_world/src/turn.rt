@@ -243,9 +243,9 @@ impl<T: Item<T>, J: Job> HeldItems<T> for Turn<'_, T, J> {
         world.core.is_guarded()
     }
 
-    fn holder<'a>(&'a self, cell: &Right) -> &'a Option<Right> {
+    fn right_in<'a>(&'a self, cell: &Right) -> &'a Option<Right> {
         let world: &World<T, J> = self.world;
-        world.core.holder(cell)
+        world.core.right_in(cell)
     }
 
     fn value_of<'a>(&'a self, owner: &Right) -> &'a T {

@@ -132,7 +132,7 @@ impl WorldCells {
     }
 
     /// Where the right of the owner lies that a cell holds, if it holds one.
-    pub fn holder(&self, right: &Right) -> &Option<Right>
+    pub fn right_in(&self, right: &Right) -> &Option<Right>
         requires { home_of right.now ≡ self.now.home }
         ensures taken { IsSome (entry_at self.now.cells (number_of right.now)) }
         ensures held { IfSome (entry_at self.now.cells (number_of right.now)) (λ cell. cell.held ≡ slot_held result.now) }
@@ -149,7 +149,7 @@ impl WorldCells {
         ensures held { IfSome (entry_at self.now.cells (number_of right.now)) (λ cell. cell.held ≡ slot_held (option_copied result)) }
         ensures owner { MayHold self.now.slots (kind_of right.now) (option_copied result) }
     {
-        self.holder(right).as_ref()
+        self.right_in(right).as_ref()
     }
 
     /// The cell holds this from now on; the owner that it held comes back.

@@ -19,7 +19,7 @@ pub trait HeldItems<T: Item<T>>: Caller<T> {
         ensures exact { IsExact (Self.seat self.now) → IsTrue result ↔ AnyGuardOpen (Self.world self.now) };
 
     /// Where the right of the owner lies that a cell holds, if it holds one.
-    fn holder<'a>(&'a self, cell: &Right) -> &'a Option<Right>
+    fn right_in<'a>(&'a self, cell: &Right) -> &'a Option<Right>
         requires home { home_of cell.now ≡ (Self.seat self.now).home.cells }
         ensures home { IfSome result.now (λ owner. home_of owner ≡ (Self.seat self.now).home.slots) }
         ensures exact { IsExact (Self.seat self.now) → slot_held result.now ≡ held_in (entry_at (Self.world self.now).cells (number_of cell.now)) };

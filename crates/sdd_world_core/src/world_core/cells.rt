@@ -91,12 +91,12 @@ impl<T: Item<T>, J: Job> WorldCore<T, J> {
     }
 
     /// Where the right of the owner lies that a cell holds, if it holds one.
-    pub fn holder(&self, cell: &Right) -> &Option<Right>
+    pub fn right_in(&self, cell: &Right) -> &Option<Right>
         requires { home_of cell.now ≡ self.now.world.home.cells }
         ensures home { IfSome result.now (λ owner. home_of owner ≡ self.now.world.home.slots) }
         ensures held { slot_held result.now ≡ held_in (entry_at self.now.world.cells (number_of cell.now)) }
     {
-        self.cells.holder(cell)
+        self.cells.right_in(cell)
     }
 
     /// One owner more of what a cell of shared owners holds, if it holds anything.

@@ -12,8 +12,8 @@ tag_held_in-requires g c = record {
       ∙ link-home g.T.Item.holds (g.S.Caller.seat c.args.s.now).home c.value_of.result.now c.value_of.ensures.held;
 }
 
-pub holder_in-at-requires : goal.holder_in-at-requires
-holder_in-at-requires g c = record {
+pub right_in-at-requires : goal.right_in-at-requires
+right_in-at-requires g c = record {
   home = c.link_ref-link.ensures.home
       ∙ link-home g.T.Item.holds (g.S.Caller.seat c.args.s.now).home c.value_of.result.now c.value_of.ensures.held;
 }
@@ -23,7 +23,7 @@ loop-step-init g c = record { home = c.requires; found = λ e es linked holds fe
 
 pub loop-step-preserved : goal.loop-step-preserved
 loop-step-preserved g c = record {
-  home = c.holder_in-at.ensures.home;
+  home = c.right_in-at.ensures.home;
   found = λ e es linked holds few.
       let w = g.S.Caller.world c.args.s.now in
       let inv = c.loop-step.invariant.found e es linked holds few in
@@ -32,7 +32,7 @@ loop-step-preserved g c = record {
       let long = ap length a.is in (
         a.rest,
         a.linked,
-        c.holder_in-at.ensures.exact e ∙ ap (λ (k : ℕ). held_in (entry_at w.cells k)) c.link_ref-link.ensures.link ∙ ap held_in a.cell,
+        c.right_in-at.ensures.exact e ∙ ap (λ (k : ℕ). held_in (entry_at w.cells k)) c.link_ref-link.ensures.link ∙ ap held_in a.cell,
         sym (passed w c.in-Some.owner c.value_of.result.now (c.value_of.ensures.exact e) c.tag_held_in.result tagged inv.0 a (ap is_deleting c.in-Second.is)) ∙ inv.3,
         omega (arith, long, inv.4),
       );

@@ -11,7 +11,7 @@ use Rattle.sdd_lists.proofs.iter.past_deleted.Given as goal
 abbrev pub invariant-loop-step : goal.invariant-loop-step
 invariant-loop-step g l = record {
   home : IfSome l.at (λ owner. home_of owner ≡ (g.S.Caller.seat l.s).home.slots);
-  found : IsExact (g.S.Caller.seat l.s) → (es : List (Entry _)) → AreLinked link_of (g.S.Caller.world l.s) es → slot_held l.fn.holder ≡ first_slot es →
+  found : IsExact (g.S.Caller.seat l.s) → (es : List (Entry _)) → AreLinked link_of (g.S.Caller.world l.s) es → slot_held l.fn.held ≡ first_slot es →
       length es ≤ l.reach → (fs : List (Entry _)) × AreLinked link_of (g.S.Caller.world l.s) fs × (slot_held l.at ≡ first_slot fs) × (left fs ≡ left es) ×
       (length fs + l._step ≤ l.reach);
 }

@@ -2,8 +2,8 @@ use Rattle.std.proofs.Common.{◌∙◌}
 use Rattle.sdd_lists.proofs.Iterating.{link-home}
 use Rattle.sdd_lists.proofs.iter.Iter.give.Goals as goal
 
-pub holder_in-self-requires : goal.holder_in-self-requires
-holder_in-self-requires g c = record {
+pub right_in-self-requires : goal.right_in-self-requires
+right_in-self-requires g c = record {
   home = c.link_ref.ensures.home
       ∙ link-home g.T.Item.holds (g.S.Caller.seat c.args.self.now.space.now).home c.value_of-entry.result.now c.value_of-entry.ensures.held;
 }

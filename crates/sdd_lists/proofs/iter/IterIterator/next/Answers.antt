@@ -8,8 +8,8 @@ use Rattle.sdd_lists.proofs.Iterating.{ahead, given-first, link-home, shown-pass
 use Rattle.sdd_lists.proofs.Walking.{left-left, linked-left, no-more, shown-left}
 use Rattle.sdd_lists.proofs.iter.IterIterator.next.Goals as goal
 
-pub holder_in-behind-requires : goal.holder_in-behind-requires
-holder_in-behind-requires g c = record {
+pub right_in-behind-requires : goal.right_in-behind-requires
+right_in-behind-requires g c = record {
   home = c.link_ref-link.ensures.home
       ∙ link-home g.T.Item.holds (g.S.Caller.seat c.args.self.now.space.now).home c.value_of-entry.result.now c.value_of-entry.ensures.held;
 }
@@ -32,7 +32,7 @@ returns-in-Second-clause-steps g c = record {
       let v = c.value_of-entry.result.now in
       let a = ahead w owner v (c.value_of-entry.ensures.exact e) it.next.now c.in-Some.is es gives.before.linked gives.before.next in
       let tagged = tag-at g.S.Caller.world it.space it.space refl _ _ c.link_ref-link.ensures.link c.tag_held_in-tag.result (c.tag_held_in-tag.ensures.exact e) in
-      let behind = c.holder_in-behind.ensures.exact e ∙ ap (λ (k : ℕ). held_in (entry_at w.cells k)) c.link_ref-link.ensures.link ∙ ap held_in a.cell in
+      let behind = c.right_in-behind.ensures.exact e ∙ ap (λ (k : ℕ). held_in (entry_at w.cells k)) c.link_ref-link.ensures.link ∙ ap held_in a.cell in
       let long = ap length a.is in
       let found = c.past_deleted-self.ensures.exact e a.rest a.linked behind (omega (arith, long, gives.before.within)) in
       let fewer = no-more a.rest in
