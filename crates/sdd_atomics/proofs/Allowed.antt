@@ -14,14 +14,14 @@ use Rattle.sdd_shared_values.specs.declared.value_fraction.ValueFraction.{ValueF
 use Rattle.sdd_shared_values.specs.SharedValues.{IsNoValueCode, lot}
 use Rattle.sdd_shared_values.specs.ValueFractions.{FractionContent}
 use Rattle.sdd_shared_values.specs.Bank.{Comes, Leaves, AllowsDeal}
-use Rattle.sdd_views.specs.declared.EpochView.{EpochView}
-use Rattle.sdd_views.specs.declared.View.{View}
-use Rattle.sdd_views.specs.declared.Sizes.{Sizes}
+use Rattle.sdd_rights.specs.declared.views.EpochView.{EpochView}
+use Rattle.sdd_rights.specs.declared.views.View.{View}
+use Rattle.sdd_rights.specs.declared.views.Sizes.{Sizes}
 use Rattle.sdd_word_invariant.specs.Words.{global_word, lock_word, state_word, count_word, slot_word, IsEpochWord}
 use Rattle.sdd_word_invariant.specs.Codes.{free_word, owned_word, raw_word, waiting_word, alive, counted as counts_owners, held_word, most_owners, shared_word}
 use Rattle.sdd_word_invariant.proofs.Codes.{one_left}
 use Rattle.sdd_word_invariant.specs.Epoch.{HasPlace, IsClosed, IsOpen, Scans}
-use Rattle.sdd_views.specs.Views.{nobody, owner_of}
+use Rattle.sdd_rights.specs.Views.{nobody, owner_of}
 use Rattle.sdd_word_invariant.specs.EpochSteps.{Keeps, passed_by, knowing, scanning, IsNext, Registers, Reads, Counts, Publishes, Ends, Locks, LooksAtLock, LooksAtState, LooksAtCount, Advances, Unlocks}
 use Rattle.sdd_word_invariant.specs.Slots.{Owns, Holds}
 use Rattle.sdd_word_invariant.specs.SlotSteps.{blank, changed, OnEpoch, PublishesAll, IsDue, LooksAtSlot, TakesHold, LetsGo, TriesHold, SharesAgain, LooksForGuard, AtSlot}
@@ -35,7 +35,7 @@ use Rattle.sdd_domain_invariant.specs.BankInvariant.{IsBank, banked, founder, on
 use Rattle.sdd_domain_invariant.specs.FilledInvariant.{HasRecord}
 use Rattle.sdd_domain_invariant.specs.Records.{IsIn}
 use Rattle.sdd_domain_invariant.specs.KindsInvariant.{written}
-use Rattle.sdd_views.specs.declared.ShownValue.{ShownValue}
+use Rattle.sdd_rights.specs.declared.views.ShownValue.{ShownValue}
 use Rattle.sdd_word_invariant.proofs.SlotSteps.{less_one}
 use Rattle.sdd_domain_invariant.specs.Records.{IsIn}
 use Rattle.sdd_domain_invariant.specs.DomainInvariant.{DomainInvariant}

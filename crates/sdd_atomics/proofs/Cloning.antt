@@ -8,10 +8,10 @@ use base.Stored.{Gv}
 use Rattle.atomic_table.specs.Table.{Allows, carried_after}
 use Rattle.sdd_shared_values.specs.Bank.{Leaves, AllowsDeal}
 use Rattle.sdd_witness.specs.Ledger.{Pledge}
-use Rattle.sdd_views.specs.declared.View.{View}
-use Rattle.sdd_views.specs.declared.Sizes.{Sizes}
-use Rattle.sdd_views.specs.contracts.View.{the_row}
-use Rattle.sdd_views.specs.Views.{owner_of}
+use Rattle.sdd_rights.specs.declared.views.View.{View}
+use Rattle.sdd_rights.specs.declared.views.Sizes.{Sizes}
+use Rattle.sdd_rights.specs.contracts.views.View.{the_row}
+use Rattle.sdd_rights.specs.Views.{owner_of}
 use Rattle.sdd_word_invariant.specs.Words.{slot_word}
 use Rattle.sdd_word_invariant.specs.Codes.{alive, counted, shared_base}
 use Rattle.sdd_word_invariant.specs.Epoch.{HasPlace, IsLone}

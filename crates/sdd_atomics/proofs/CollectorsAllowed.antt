@@ -7,13 +7,13 @@ use Rattle.atomic_table.specs.declared.shared.Seat.{Seat}
 use Rattle.sdd_witness.specs.Ledger.{Pledge}
 use Rattle.sdd_witness.specs.Steps.{AllowsAlone}
 use Rattle.sdd_shared_values.specs.declared.value_fraction.ValueFraction.{ValueFraction}
-use Rattle.sdd_views.specs.declared.CellKind.TheVariants.{Raw, Collector}
-use Rattle.sdd_views.specs.declared.CellRight.{CellRight}
-use Rattle.sdd_views.specs.declared.WaitingItem.{WaitingItem}
-use Rattle.sdd_views.specs.declared.View.{View}
-use Rattle.sdd_views.specs.declared.Sizes.{Sizes}
-use Rattle.sdd_views.specs.contracts.View.{the_row}
-use Rattle.sdd_views.specs.Views.{right_to}
+use Rattle.sdd_rights.specs.declared.views.CellKind.TheVariants.{Raw, Collector}
+use Rattle.sdd_rights.specs.declared.views.CellRight.{CellRight}
+use Rattle.sdd_rights.specs.declared.views.WaitingItem.{WaitingItem}
+use Rattle.sdd_rights.specs.declared.views.View.{View}
+use Rattle.sdd_rights.specs.declared.views.Sizes.{Sizes}
+use Rattle.sdd_rights.specs.contracts.views.View.{the_row}
+use Rattle.sdd_rights.specs.Views.{right_to}
 use Rattle.sdd_word_invariant.specs.Words.{slot_word}
 use Rattle.sdd_word_invariant.specs.Codes.{free_word, private_word, emptying_word, left_word}
 use Rattle.sdd_word_invariant.specs.Collectors.{Closes, FoundEmptied}

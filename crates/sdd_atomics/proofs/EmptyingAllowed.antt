@@ -7,12 +7,12 @@ use Rattle.atomic_table.specs.declared.shared.Seat.{Seat}
 use Rattle.sdd_shared_values.specs.SharedValues.{IsNoValueCode}
 use Rattle.sdd_shared_values.specs.declared.value_fraction.ValueFraction.{ValueFraction}
 use Rattle.sdd_shared_values.specs.Bank.{Leaves, AllowsDeal}
-use Rattle.sdd_views.specs.declared.View.{View}
-use Rattle.sdd_views.specs.declared.Sizes.{Sizes}
+use Rattle.sdd_rights.specs.declared.views.View.{View}
+use Rattle.sdd_rights.specs.declared.views.Sizes.{Sizes}
 use Rattle.sdd_word_invariant.specs.Words.{slot_word}
 use Rattle.sdd_word_invariant.specs.Codes.{free_word, waiting_word, private_word, emptying_word, emptied_word}
 use Rattle.sdd_word_invariant.specs.Epoch.{HasPlace}
-use Rattle.sdd_views.specs.declared.PrivateItem.{PrivateItem}
+use Rattle.sdd_rights.specs.declared.views.PrivateItem.{PrivateItem}
 use Rattle.sdd_word_invariant.specs.Collectors.{Empties, HasPrivate}
 use Rattle.sdd_word_invariant.specs.CollectorSteps.{WaitsFor}
 use Rattle.sdd_domain_invariant.specs.BankInvariant.{IsBank, banked}

@@ -7,8 +7,8 @@ use Rattle.core.specs.Mem.Slots.{slots_items, slots_filled, slots_len, slots_cou
 use Rattle.atomic_table.specs.Table.{State, Final, Seen}
 use Rattle.atomic_table.specs.declared.owned.Closed.{Closed}
 use Rattle.sdd_shared_values.specs.declared.value_fraction.ValueFraction.{ValueFraction}
-use Rattle.sdd_views.specs.declared.View.{View}
-use Rattle.sdd_views.specs.declared.Sizes.{Sizes}
+use Rattle.sdd_rights.specs.declared.views.View.{View}
+use Rattle.sdd_rights.specs.declared.views.Sizes.{Sizes}
 use Rattle.sdd_domain_invariant.specs.FractionsAtHome.{stake_at, homes_for, share, away, full_at, Has, MatchesSlotWord, AreHome}
 use Rattle.sdd_domain_invariant.specs.DomainInvariant.{DomainInvariant}
 use Rattle.sdd_domain_invariant.proofs.Tokens.{all_home}

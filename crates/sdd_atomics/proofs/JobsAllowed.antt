@@ -3,7 +3,7 @@ use Rattle.std.proofs.Common.{◌≡◌, ℕ, ◌<◌, ◌≤◌, eqb, sym, ap, 
 use Rattle.std.specs.Prelude.{None}
 use prog.Atomic.{either}
 use Rattle.atomic_table.specs.Table.{Allows}
-use Rattle.sdd_views.specs.declared.Sizes.{Sizes}
+use Rattle.sdd_rights.specs.declared.views.Sizes.{Sizes}
 use Rattle.sdd_word_invariant.specs.Words.{slot_word, most_waiting}
 use Rattle.sdd_word_invariant.specs.Codes.{free_word, waiting_word}
 use Rattle.sdd_word_invariant.specs.Epoch.{HasPlace}

@@ -1,8 +1,8 @@
 -- A view is known by its code
 use Rattle.std.proofs.Common.{◌≡◌, List, [], ◌∷◌, ap}
 use base.Stored.{Gv, gnil}
-use Rattle.sdd_views.specs.declared.View.{View}
-use Rattle.sdd_views.specs.contracts.View.{the_row}
+use Rattle.sdd_rights.specs.declared.views.View.{View}
+use Rattle.sdd_rights.specs.contracts.views.View.{the_row}
 
 first_code : List Gv → Gv
 first_code gs = elim gs [ [] ↦ gnil | g ∷ rest ↦ g ]

@@ -1,12 +1,12 @@
 -- Steps on a cell beside the token of the right to it
 use Rattle.std.specs.Prelude.{◌≡◌, ℕ, Bool, true, false, List, [], ◌∷◌}
 use Rattle.sdd_witness.specs.Ledger.{Pledge}
-use Rattle.sdd_views.specs.declared.CellKind.{CellKind}
-use Rattle.sdd_views.specs.declared.CellKind.TheVariants.{Owned, Shared, Raw, Collector}
-use Rattle.sdd_views.specs.declared.ShownValue.{ShownValue}
-use Rattle.sdd_views.specs.declared.View.{View}
-use Rattle.sdd_views.specs.contracts.View.{the_row}
-use Rattle.sdd_views.specs.Views.{right_to}
+use Rattle.sdd_rights.specs.declared.views.CellKind.{CellKind}
+use Rattle.sdd_rights.specs.declared.views.CellKind.TheVariants.{Owned, Shared, Raw, Collector}
+use Rattle.sdd_rights.specs.declared.views.ShownValue.{ShownValue}
+use Rattle.sdd_rights.specs.declared.views.View.{View}
+use Rattle.sdd_rights.specs.contracts.views.View.{the_row}
+use Rattle.sdd_rights.specs.Views.{right_to}
 use Rattle.sdd_rights.specs.Owner.{cell_kind}
 use Rattle.sdd_word_invariant.specs.Words.{cell_word}
 use Rattle.sdd_word_invariant.specs.Codes.{held_slots}

@@ -1,8 +1,8 @@
 -- The token of counts, as it leaves a participant
 use Rattle.std.specs.Prelude.{List, [], ◌∷◌}
 use base.Stored.{Gv}
-use Rattle.sdd_views.specs.declared.CountsView.{CountsView}
-use Rattle.sdd_views.specs.contracts.View.{the_row}
+use Rattle.sdd_rights.specs.declared.views.CountsView.{CountsView}
+use Rattle.sdd_rights.specs.contracts.views.View.{the_row}
 use Rattle.sdd_domain_invariant.specs.FractionSteps.{counts_token}
 
 -- the views of a witness that knows these counts

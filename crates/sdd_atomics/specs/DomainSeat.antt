@@ -3,13 +3,13 @@ use Rattle.std.specs.Prelude.{◌≡◌, ℕ, Bool, List, [], ◌∷◌}
 use base.Stored.{Gv, gnil}
 use Rattle.atomic_table.specs.Table.{Me, Step}
 use Rattle.atomic_table.specs.declared.shared.Seat.{Seat}
-use Rattle.sdd_views.specs.declared.EpochView.{EpochView}
-use Rattle.sdd_views.specs.declared.SlotsView.{SlotsView}
-use Rattle.sdd_views.specs.declared.View.{View}
+use Rattle.sdd_rights.specs.declared.views.EpochView.{EpochView}
+use Rattle.sdd_rights.specs.declared.views.SlotsView.{SlotsView}
+use Rattle.sdd_rights.specs.declared.views.View.{View}
 use Rattle.sdd_word_invariant.specs.EpochSteps.{Publishes}
 use Rattle.sdd_word_invariant.specs.SlotSteps.{changed}
 use Rattle.sdd_shared_values.specs.declared.value_fraction.ValueFraction.{ValueFraction}
-use Rattle.sdd_views.specs.Views.{owner_of}
+use Rattle.sdd_rights.specs.Views.{owner_of}
 use Rattle.sdd_domain_invariant.specs.FractionsAtHome.{CarriedFractions, Moves}
 use Rattle.sdd_domain_invariant.specs.BankInvariant.{founded, with_ledger}
 use Rattle.sdd_domain_invariant.specs.FractionSteps.{SeatState, FillsSlot, SeesOwned, LearnsOwned, ClosesHome}

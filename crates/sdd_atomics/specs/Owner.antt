@@ -1,8 +1,8 @@
 -- The token of an owner, as it leaves a participant
 use Rattle.std.specs.Prelude.{◌≡◌, List, [], ◌∷◌}
 use base.Stored.{Gv}
-use Rattle.sdd_views.specs.declared.View.{View}
-use Rattle.sdd_views.specs.contracts.View.{the_row}
+use Rattle.sdd_rights.specs.declared.views.View.{View}
+use Rattle.sdd_rights.specs.contracts.views.View.{the_row}
 use Rattle.sdd_domain_invariant.specs.FractionSteps.{departing}
 
 -- these are the views of the owner that a participant with this view has cut off

@@ -1,6 +1,6 @@
 -- How many of each a domain has
 use Rattle.std.specs.Prelude.{◌^◌, ◌≤◌}
-use Rattle.sdd_views.specs.declared.Sizes.{Sizes}
+use Rattle.sdd_rights.specs.declared.views.Sizes.{Sizes}
 
 -- within the ranges of a domain's limits
 pub record AreSmall (sizes : Sizes) : Type 0 where

@@ -4,8 +4,8 @@ ghost use Rattle.sdd_atomics.specs.Clones.{MayAdd, HasAdded};
 use crate::domain_table::{DomainRule, TableLayout};
 use crate::plays::{OneMore, TakeBack};
 use atomic_table::{Seat, Shared};
+use sdd_rights::views::View;
 use sdd_shared_values::ValueFraction;
-use sdd_views::View;
 use sdd_witness::Deed;
 
 /// A word that counts as many owners as may share a slot.

@@ -12,8 +12,8 @@ ghost use Rattle.sdd_atomics.specs.Sizes.{AreSmall};
 use crate::plays::{Found, FoundLedger};
 use crate::words::{LINE, first_place, first_pointer, first_slot, word_count};
 use atomic_table::{Closed, Refused, Seat, Table, TableRule};
+use sdd_rights::views::{Sizes, View};
 use sdd_shared_values::{Bank, Treasury, ValueFraction, ValuesName};
-use sdd_views::{Sizes, View};
 use sdd_witness::{Books, Ledger};
 use std::alloc::Global;
 

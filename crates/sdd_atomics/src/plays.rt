@@ -4,13 +4,13 @@ ghost use Rattle.sdd_word_invariant.specs.EpochSteps.{Registers, Reads, Counts, 
 ghost use Rattle.sdd_word_invariant.specs.SlotSteps.{OnEpoch, PublishesAll, LooksAtSlot, TakesHold, LetsGo, TriesHold, SharesAgain, LooksForGuard, AtSlot};
 ghost use Rattle.sdd_word_invariant.specs.CellSteps.{LooksAtPointer, SwapsPointer, ExchangesPointer};
 ghost use Rattle.sdd_word_invariant.specs.Barred.{Bars, LooksForValue};
-ghost use Rattle.sdd_views.specs.Views.{owner_token};
+ghost use Rattle.sdd_rights.specs.Views.{owner_token};
 ghost use Rattle.sdd_domain_invariant.specs.BankInvariant.{founded, bank_of, with_ledger, ledger_of};
 ghost use Rattle.sdd_domain_invariant.specs.FractionSteps.{ClaimsAll, TakesOut, TakesHeld, IsDeposit, RetiresOne, GivesAll, DefersJob, GivesPlace, DiscardsAll, ClosesHome, EndsAll, EntersUnit, OfSlot, parting, departing, regained, uncounting, counts_of, counting, ReleasesOne, LeavesOne, TakesOneBack, DrawsUnit, AddsSeen};
 ghost use Rattle.sdd_word_invariant.specs.Codes.{raw_word};
 ghost use Rattle.sdd_domain_invariant.specs.CollectorSteps.{ReclaimsOne, TakesPrivate, EmptiedOne, GivesOneEmptyBack, GivesOneOwnBack, EmptiesOne, EmptiesOwnOne, GivesOnePrivateBack};
 ghost use Rattle.sdd_domain_invariant.specs.RawSteps.{TurnsRawOne, RegainsOne, SeesRawOne};
-ghost use Rattle.sdd_views.specs.declared.CellKind.TheVariants.{Owned as for_owned, Shared as for_shared, Raw as for_raw};
+ghost use Rattle.sdd_rights.specs.declared.views.CellKind.TheVariants.{Owned as for_owned, Shared as for_shared, Raw as for_raw};
 ghost use Rattle.sdd_domain_invariant.specs.CellSteps.{ClaimsCell, FillsBare, LooksInCell, RetagsOne, SwapsBare, SeesInCell, OfCell, FindsPointer, OfPointer, rightless, rights_of, righted};
 ghost use Rattle.sdd_atomics.specs.Cells.{SwapsPledged, ExchangesPledged, FreesOwn, FreesOwnBare, RecallsCell, FindsRight};
 ghost use Rattle.sdd_atomics.specs.Clones.{AddsPledged};
@@ -19,8 +19,8 @@ ghost use Rattle.sdd_atomics.specs.Collectors.{ClosesOwn, EndsOwn, LeavesWaiting
 ghost use Rattle.sdd_atomics.specs.DomainSeat.{Sits, Told, HousesMoved, WatchesOwned, RecallsOwned};
 
 use atomic_table::{Join, Play, Split};
+use sdd_rights::views::View;
 use sdd_shared_values::{Deals, ValueFraction};
-use sdd_views::View;
 use sdd_witness::{GhostUpdate, GhostUpdateBeside};
 
 pub struct NewSeat;

@@ -2,7 +2,7 @@
 ghost use Rattle.std.specs.Prelude.{◌≡◌, ◌+◌, ◌^◌, ◌<◌, [], None};
 ghost use Rattle.sdd_word_invariant.specs.Words as words;
 ghost use Rattle.sdd_word_invariant.specs.Epoch.{IsClosed, IsOpen, Scans};
-ghost use Rattle.sdd_views.specs.Views.{nobody};
+ghost use Rattle.sdd_rights.specs.Views.{nobody};
 ghost use Rattle.sdd_word_invariant.specs.EpochSteps.{IsNext, Registers, Reads, Counts, Locks, LooksAtLock, LooksAtState, LooksAtCount, Advances, Unlocks};
 ghost use Rattle.sdd_word_invariant.specs.WordInvariant.{idle};
 ghost use Rattle.sdd_atomics.specs.DomainTable.{id_of, sizes_of, book_of, places_of};

@@ -2,7 +2,7 @@
 ghost use Rattle.std.specs.Prelude.{◌≡◌, ◌^◌, ◌<◌, ◌≤◌};
 ghost use Rattle.sdd_word_invariant.specs.Words as words;
 
-use sdd_views::Sizes;
+use sdd_rights::views::Sizes;
 
 /// How far apart words stand that different participants write: two lines of the cache, as processors fetch them by pairs.
 pub const LINE: usize = 16;

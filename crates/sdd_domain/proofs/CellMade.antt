@@ -14,7 +14,7 @@ use Rattle.sdd_rights.specs.StandingKind.{is_shared}
 use Rattle.sdd_rights.specs.Right.{number_of}
 use Rattle.sdd_shared_values.specs.SharedValues.{showing}
 use Rattle.sdd_standings.specs.Slots.{first_standing}
-use Rattle.sdd_views.specs.declared.Sizes.{Sizes}
+use Rattle.sdd_rights.specs.declared.views.Sizes.{Sizes}
 use Rattle.sdd_space.specs.OwnerOrCell.{OwnerOrCell, SpaceId, AreOf}
 use Rattle.sdd_space.specs.KnownEpochs.{KnowsOn}
 use Rattle.sdd_space.specs.Refusals.{IsRefusedBy}

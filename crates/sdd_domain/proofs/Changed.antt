@@ -4,7 +4,7 @@ use Rattle.std.specs.Prelude.{Option, Bool}
 use mathlib.Core.Logic.{dite}
 use native.Mathlib.Decide.{ℕ_discrete}
 use base.Stored.{Gv}
-use Rattle.sdd_views.specs.declared.ShownValue.{ShownValue}
+use Rattle.sdd_rights.specs.declared.views.ShownValue.{ShownValue}
 use Rattle.sdd_domain_invariant.specs.FilledInvariant.{newest}
 use Rattle.sdd_domain_invariant.proofs.Fillings.{newest_now, newest_before}
 use Rattle.sdd_space.specs.WorldChanges.{with_value}

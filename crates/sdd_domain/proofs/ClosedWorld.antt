@@ -7,7 +7,7 @@ use Rattle.sdd_participants.specs.EpochState as time
 use Rattle.sdd_participants.specs.declared.participant.Participant.{Participant}
 use Rattle.sdd_participants.specs.declared.place_states.PlaceState.TheVariants.{Live}
 use Rattle.sdd_core.specs.declared.limits.Limits.{Limits}
-use Rattle.sdd_views.specs.declared.SlotsView.{SlotsView}
+use Rattle.sdd_rights.specs.declared.views.SlotsView.{SlotsView}
 use Rattle.sdd_space.specs.ParticipantChanges.{closed_with}
 use Rattle.sdd_space.specs.WorldChanges.{closed}
 use Rattle.sdd_domain_slots.specs.LocalState.{LocalState, IsLone, GuardCloses}

@@ -17,8 +17,8 @@ use Rattle.sdd_rights.specs.declared.right.Right.{Right}
 use Rattle.sdd_rights.specs.StandingKind.{is_shared}
 use Rattle.sdd_rights.specs.Right.{number_of, kind_of}
 use Rattle.sdd_standings.specs.Slots.{IsOwnedBy, has_others}
-use Rattle.sdd_views.specs.declared.PrivateItem.{PrivateItem}
-use Rattle.sdd_views.specs.declared.WaitingItem.{WaitingItem}
+use Rattle.sdd_rights.specs.declared.views.PrivateItem.{PrivateItem}
+use Rattle.sdd_rights.specs.declared.views.WaitingItem.{WaitingItem}
 use Rattle.sdd_word_invariant.specs.Codes.{alive, waiting, waits_for, full, private, private_word}
 use Rattle.sdd_word_invariant.specs.CollectorSteps.{for_collector}
 use Rattle.sdd_word_invariant.specs.SlotSteps.{behind, retired_now}

@@ -9,8 +9,8 @@ use Rattle.sdd_participants.specs.Collecting.{time_without}
 use Rattle.sdd_participants.specs.Slab.{entry_at}
 use Rattle.sdd_participants.specs.Waiting.{Waiting}
 use Rattle.sdd_participants.specs.declared.waiting.LimboEntry.TheVariants.{Item}
-use Rattle.sdd_views.specs.declared.PrivateItem.{PrivateItem}
-use Rattle.sdd_views.specs.declared.WaitingItem.{WaitingItem}
+use Rattle.sdd_rights.specs.declared.views.PrivateItem.{PrivateItem}
+use Rattle.sdd_rights.specs.declared.views.WaitingItem.{WaitingItem}
 use Rattle.sdd_word_invariant.specs.Codes.{waits_for as word_waits_for}
 use Rattle.sdd_word_invariant.specs.Slots.{waits_in}
 use Rattle.sdd_word_invariant.proofs.Sums.{is_same, total_has}

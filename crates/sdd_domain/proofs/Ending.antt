@@ -1,6 +1,6 @@
 -- The number of homes, and what lies in slots once all are free.
 use Rattle.std.proofs.Common.{◌≡◌, ℕ, zero, suc, ◌+◌, ◌*◌, ◌<◌, List, slice_index, refl, ap, arith}
-use Rattle.sdd_views.specs.declared.Sizes.{Sizes}
+use Rattle.sdd_rights.specs.declared.views.Sizes.{Sizes}
 use Rattle.sdd_word_invariant.specs.Codes.{full, valued}
 use Rattle.sdd_word_invariant.specs.Sums.{span}
 use Rattle.sdd_word_invariant.specs.Words.{first_slot}

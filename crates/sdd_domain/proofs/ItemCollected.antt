@@ -13,8 +13,8 @@ use Rattle.sdd_participants.specs.declared.waiting.LimboEntry.TheVariants.{Item}
 use Rattle.sdd_participants.specs.EpochState.{awaiting}
 use Rattle.sdd_participants.specs.Waiting.{Waiting}
 use Rattle.sdd_shared_values.specs.declared.value_fraction.ValueFraction.{ValueFraction}
-use Rattle.sdd_views.specs.declared.WaitingItem.{WaitingItem}
-use Rattle.sdd_views.specs.declared.View.{View}
+use Rattle.sdd_rights.specs.declared.views.WaitingItem.{WaitingItem}
+use Rattle.sdd_rights.specs.declared.views.View.{View}
 use Rattle.sdd_word_invariant.specs.Codes.{private_word, retired_word, shared_base}
 use Rattle.sdd_word_invariant.specs.Collectors.{private_in}
 use Rattle.sdd_word_invariant.specs.CollectorSteps.{HasWaiting, for_collector}

@@ -18,8 +18,8 @@ use Rattle.sdd_rights.specs.declared.right.Right.{Right}
 use Rattle.sdd_rights.specs.StandingKind.{is_shared}
 use Rattle.sdd_rights.specs.Right.{number_of, kind_of}
 use Rattle.sdd_standings.specs.Slots.{IsOwnedBy, has_others}
-use Rattle.sdd_views.specs.declared.ShownValue.{ShownValue}
-use Rattle.sdd_views.specs.declared.SlotsView.{SlotsView}
+use Rattle.sdd_rights.specs.declared.views.ShownValue.{ShownValue}
+use Rattle.sdd_rights.specs.declared.views.SlotsView.{SlotsView}
 use Rattle.sdd_word_invariant.specs.Codes.{alive, waiting, waits_for, full, claimed_word, counted, retired_word}
 use Rattle.sdd_word_invariant.specs.SlotSteps.{behind, retired_now}
 use Rattle.sdd_word_invariant.specs.Sums.{times}

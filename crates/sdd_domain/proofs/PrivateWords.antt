@@ -6,7 +6,7 @@ use mathlib.Core.Logic.{dite}
 use native.Mathlib.Decide.{ℕ_discrete}
 use lib.ListN.{get_elem?}
 use Rattle.sdd_participants.specs.declared.standing.Standing.TheVariants.{Private}
-use Rattle.sdd_views.specs.declared.PrivateItem.{PrivateItem}
+use Rattle.sdd_rights.specs.declared.views.PrivateItem.{PrivateItem}
 use Rattle.sdd_word_invariant.specs.Codes.{private_word, shared_base, waits_for}
 use Rattle.sdd_word_invariant.specs.Sums.{is}
 use Rattle.sdd_word_invariant.proofs.Codes.{private_is, waits_privately}

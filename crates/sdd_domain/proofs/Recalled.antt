@@ -13,8 +13,8 @@ use Rattle.sdd_rights.specs.Right.{AreSlotsOfTable, IsOwnerBy, home_of, kind_of,
 use Rattle.sdd_rights.specs.StandingKind.{is_shared}
 use Rattle.sdd_witness.specs.declared.witness.Witness.{Witness}
 use Rattle.sdd_shared_values.specs.declared.value_fraction.ValueFraction.{ValueFraction}
-use Rattle.sdd_views.specs.declared.Sizes.{Sizes}
-use Rattle.sdd_views.specs.declared.View.{View}
+use Rattle.sdd_rights.specs.declared.views.Sizes.{Sizes}
+use Rattle.sdd_rights.specs.declared.views.View.{View}
 use Rattle.sdd_domain_invariant.specs.FractionSteps.{LearnsOwned}
 use Rattle.sdd_atomics.specs.declared.domain_table.DomainTable.{DomainTable}
 use Rattle.sdd_atomics.specs.DomainTable.{book_of, sizes_of}

@@ -8,7 +8,7 @@ use Rattle.sdd_participants.specs.declared.participant.Participant.{Participant}
 use Rattle.sdd_participants.specs.declared.place_states.PlaceState.TheVariants.{Live}
 use Rattle.sdd_participants.specs.declared.waiting.LimboEntry.{LimboEntry}
 use Rattle.sdd_core.specs.declared.limits.Limits.{Limits}
-use Rattle.sdd_views.specs.declared.SlotsView.{SlotsView}
+use Rattle.sdd_rights.specs.declared.views.SlotsView.{SlotsView}
 use Rattle.sdd_word_invariant.specs.Codes.{waiting, waits_for, full}
 use Rattle.sdd_word_invariant.specs.Words.{words_behind}
 use Rattle.sdd_word_invariant.specs.SlotSteps.{behind}

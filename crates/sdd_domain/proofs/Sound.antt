@@ -23,7 +23,7 @@ use Rattle.sdd_participants.specs.declared.place_states.PlaceState.TheVariants.{
 use Rattle.sdd_participants.specs.declared.standing.Standing.{Standing}
 use Rattle.sdd_participants.specs.declared.tally.Tally.{Tally}
 use Rattle.sdd_participants.specs.declared.participant.Participant.{Participant}
-use Rattle.sdd_views.specs.declared.SlotsView.{SlotsView}
+use Rattle.sdd_rights.specs.declared.views.SlotsView.{SlotsView}
 use Rattle.sdd_core.specs.declared.limits.Limits.{Limits}
 use Rattle.sdd_space.specs.OwnerOrCell.{SpaceId, OwnerOrCell, AreOf}
 use Rattle.sdd_space.specs.World.{World, AnyGuardOpen, standing_at}

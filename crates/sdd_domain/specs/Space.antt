@@ -6,7 +6,7 @@ use Rattle.sdd_space.specs.OwnerOrCell.{OwnerOrCell, AreOf}
 use Rattle.sdd_space.specs.KnownEpochs.{KnownEpochs}
 use Rattle.sdd_space.specs.CallerId.{CallerId}
 use Rattle.sdd_space.specs.World.{value_at}
-use Rattle.sdd_views.specs.declared.ShownValue.{ShownValue}
+use Rattle.sdd_rights.specs.declared.views.ShownValue.{ShownValue}
 use Rattle.sdd_domain_invariant.specs.Records.{IsIn}
 use Rattle.sdd_domain_slots.specs.LocalState.{LocalState}
 use Rattle.sdd_domain_slots.specs.SpaceIds.{SpaceId, home_in}

@@ -15,10 +15,10 @@ use sdd_domain_invariant::{gather_all, lay_all};
 use sdd_domain_slots::holds_own_domain::HoldsOwnDomain;
 use sdd_domain_slots::quiet::settled;
 use sdd_participants::{Job, Tally};
+use sdd_rights::views::Sizes;
 use sdd_shared_values::{FractionList, SharedValues, VacantValues, ValueFraction};
 use sdd_space::Item;
 use sdd_values::Freeable;
-use sdd_views::Sizes;
 use std::alloc::{AllocError, Global};
 use std_alloc::room::may_hold;
 

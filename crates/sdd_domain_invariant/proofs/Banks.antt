@@ -9,10 +9,10 @@ use prog.Atomic.{either}
 use Rattle.atomic_table.proofs.Lists.{set_else, set_here}
 use Rattle.sdd_shared_values.specs.ValueFractions.{FractionContent}
 use Rattle.sdd_shared_values.specs.Deposits.{units_at, AreDeposits}
-use Rattle.sdd_views.specs.declared.Deposit.{Deposit}
-use Rattle.sdd_views.specs.declared.FractionsView.{FractionsView}
-use Rattle.sdd_views.specs.declared.View.{View}
-use Rattle.sdd_views.specs.declared.Sizes.{Sizes}
+use Rattle.sdd_rights.specs.declared.views.Deposit.{Deposit}
+use Rattle.sdd_rights.specs.declared.views.FractionsView.{FractionsView}
+use Rattle.sdd_rights.specs.declared.views.View.{View}
+use Rattle.sdd_rights.specs.declared.views.Sizes.{Sizes}
 use Rattle.sdd_word_invariant.specs.Sums.{total, times}
 use Rattle.sdd_word_invariant.specs.Slots.{owners_at}
 use Rattle.sdd_word_invariant.proofs.Epoch.{at_length}

@@ -16,15 +16,15 @@ use Rattle.sdd_witness.specs.Ledger.{Pledge}
 use Rattle.sdd_rights.specs.Owner.{cell_kind}
 use Rattle.sdd_shared_values.specs.SharedValues.{IsValueCode}
 use Rattle.sdd_shared_values.specs.declared.value_fraction.ValueFraction.{ValueFraction}
-use Rattle.sdd_views.specs.declared.CellKind.{CellKind}
-use Rattle.sdd_views.specs.declared.CellKind.TheVariants.{Owned, Shared, Raw, Collector}
-use Rattle.sdd_views.specs.declared.CellRight.{CellRight}
-use Rattle.sdd_views.specs.declared.CellsView.{CellsView}
-use Rattle.sdd_views.specs.declared.ShownValue.{ShownValue}
-use Rattle.sdd_views.specs.contracts.View.{the_row}
-use Rattle.sdd_views.specs.declared.View.{View}
-use Rattle.sdd_views.specs.declared.Sizes.{Sizes}
-use Rattle.sdd_views.specs.Views.{no_rights, owner_of, right_to}
+use Rattle.sdd_rights.specs.declared.views.CellKind.{CellKind}
+use Rattle.sdd_rights.specs.declared.views.CellKind.TheVariants.{Owned, Shared, Raw, Collector}
+use Rattle.sdd_rights.specs.declared.views.CellRight.{CellRight}
+use Rattle.sdd_rights.specs.declared.views.CellsView.{CellsView}
+use Rattle.sdd_rights.specs.declared.views.ShownValue.{ShownValue}
+use Rattle.sdd_rights.specs.contracts.views.View.{the_row}
+use Rattle.sdd_rights.specs.declared.views.View.{View}
+use Rattle.sdd_rights.specs.declared.views.Sizes.{Sizes}
+use Rattle.sdd_rights.specs.Views.{no_rights, owner_of, right_to}
 use Rattle.sdd_word_invariant.specs.Words.{cell_word, slot_word, words_behind}
 use Rattle.sdd_word_invariant.specs.Codes.{codes, alive, valued, counted, names, held_slots}
 use Rattle.sdd_word_invariant.specs.Epoch.{HasPlace, IsOpen}

@@ -6,12 +6,12 @@ use mathlib.Core.Option.{some, some-injective, some-ne-none}
 use native.Mathlib.Decide.{ℕ_discrete, dec_lt}
 use lib.ListN.{get_elem?}
 use lib.Seq.{set-get_or}
-use Rattle.sdd_views.specs.declared.CellKind.{CellKind}
-use Rattle.sdd_views.specs.declared.CellKind.TheVariants.{Owned, Shared, Raw, Collector}
-use Rattle.sdd_views.specs.declared.CellRight.{CellRight}
-use Rattle.sdd_views.specs.declared.CellsView.{CellsView}
-use Rattle.sdd_views.specs.declared.View.{View}
-use Rattle.sdd_views.specs.declared.Sizes.{Sizes}
+use Rattle.sdd_rights.specs.declared.views.CellKind.{CellKind}
+use Rattle.sdd_rights.specs.declared.views.CellKind.TheVariants.{Owned, Shared, Raw, Collector}
+use Rattle.sdd_rights.specs.declared.views.CellRight.{CellRight}
+use Rattle.sdd_rights.specs.declared.views.CellsView.{CellsView}
+use Rattle.sdd_rights.specs.declared.views.View.{View}
+use Rattle.sdd_rights.specs.declared.views.Sizes.{Sizes}
 use Rattle.sdd_word_invariant.specs.Words.{IsEpochWord, after_cells, first_cell, cell_word, pointer_word, slot_word}
 use Rattle.sdd_word_invariant.specs.Codes.{codes, alive, counted, names, pointers_end}
 use Rattle.sdd_word_invariant.specs.Slots.{slot_at, owners_at, SlotsInvariant}

@@ -11,13 +11,13 @@ use base.Stored.{Gv}
 use Rattle.atomic_table.specs.Table.{State, keeps, Allows, Splits}
 use Rattle.atomic_table.proofs.Lists.{at_map, at_set, at_longer, at_last, set_again, set_here, set_else}
 use Rattle.sdd_witness.specs.Ledger.{Pledge, Without, Enters, Leaves as LeavesLedger}
-use Rattle.sdd_views.specs.contracts.View.{the_row}
-use Rattle.sdd_views.specs.declared.CellKind.{CellKind}
-use Rattle.sdd_views.specs.declared.ShownValue.{ShownValue}
-use Rattle.sdd_views.specs.declared.PledgesView.{PledgesView}
-use Rattle.sdd_views.specs.declared.View.{View}
-use Rattle.sdd_views.specs.declared.Sizes.{Sizes}
-use Rattle.sdd_views.specs.Views.{owner_token, owner_of, right_to}
+use Rattle.sdd_rights.specs.contracts.views.View.{the_row}
+use Rattle.sdd_rights.specs.declared.views.CellKind.{CellKind}
+use Rattle.sdd_rights.specs.declared.views.ShownValue.{ShownValue}
+use Rattle.sdd_rights.specs.declared.views.PledgesView.{PledgesView}
+use Rattle.sdd_rights.specs.declared.views.View.{View}
+use Rattle.sdd_rights.specs.declared.views.Sizes.{Sizes}
+use Rattle.sdd_rights.specs.Views.{owner_token, owner_of, right_to}
 use Rattle.sdd_shared_values.specs.ValueFractions.{FractionContent}
 use Rattle.sdd_shared_values.specs.Deposits.{units_at}
 use Rattle.sdd_shared_values.specs.Bank.{Leaves, AllowsDeal}

@@ -13,9 +13,9 @@ use Rattle.sdd_shared_values.specs.ValueFractions.{FractionContent}
 use Rattle.sdd_shared_values.specs.Bank.{IsPart, IsJoined, Leaves, Comes}
 use Rattle.sdd_shared_values.specs.Deposits.{units_at, AreDeposits}
 use Rattle.sdd_shared_values.specs.declared.value_fraction.ValueFraction.{ValueFraction}
-use Rattle.sdd_views.specs.declared.FractionsView.{FractionsView}
-use Rattle.sdd_views.specs.declared.View.{View}
-use Rattle.sdd_views.specs.declared.Sizes.{Sizes}
+use Rattle.sdd_rights.specs.declared.views.FractionsView.{FractionsView}
+use Rattle.sdd_rights.specs.declared.views.View.{View}
+use Rattle.sdd_rights.specs.declared.views.Sizes.{Sizes}
 use Rattle.sdd_word_invariant.specs.Words.{IsEpochWord, slot_word, cell_word}
 use Rattle.sdd_word_invariant.specs.Codes.{codes, alive, waiting, full, valued, counted, names, raw_word}
 use Rattle.sdd_word_invariant.specs.Epoch.{HasPlace}

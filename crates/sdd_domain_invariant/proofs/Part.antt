@@ -9,8 +9,8 @@ use base.Stored.{Gv}
 use Rattle.atomic_table.proofs.Lists.{at_set, at_longer, set_else, set_here}
 use Rattle.atomic_table.specs.Table.{homes_after}
 use Rattle.sdd_shared_values.specs.declared.value_fraction.ValueFraction.{ValueFraction}
-use Rattle.sdd_views.specs.declared.View.{View}
-use Rattle.sdd_views.specs.declared.Sizes.{Sizes}
+use Rattle.sdd_rights.specs.declared.views.View.{View}
+use Rattle.sdd_rights.specs.declared.views.Sizes.{Sizes}
 use Rattle.sdd_word_invariant.specs.Words.{slot_word, first_slot}
 use Rattle.sdd_word_invariant.specs.Codes.{valued}
 use Rattle.sdd_word_invariant.specs.Collectors.{Empties}

@@ -9,8 +9,8 @@ use prog.Atomic.{either}
 use Rattle.atomic_table.specs.Table.{State, Allows}
 use Rattle.atomic_table.proofs.Lists.{exchanged}
 use Rattle.sdd_shared_values.specs.declared.value_fraction.ValueFraction.{ValueFraction}
-use Rattle.sdd_views.specs.declared.View.{View}
-use Rattle.sdd_views.specs.declared.Sizes.{Sizes}
+use Rattle.sdd_rights.specs.declared.views.View.{View}
+use Rattle.sdd_rights.specs.declared.views.Sizes.{Sizes}
 use Rattle.sdd_word_invariant.specs.Words.{pointer_word}
 use Rattle.sdd_word_invariant.specs.Codes.{valued, pointers_end}
 use Rattle.sdd_word_invariant.specs.Epoch.{HasPlace}

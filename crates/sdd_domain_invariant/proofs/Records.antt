@@ -8,10 +8,10 @@ use base.Stored.{Gv}
 use Rattle.std.specs.Prelude.{Some, None, not}
 use Rattle.atomic_table.proofs.Lists.{at_set, at_snoc}
 use Rattle.sdd_shared_values.specs.declared.value_fraction.ValueFraction.{ValueFraction}
-use Rattle.sdd_views.specs.declared.ShownValue.{ShownValue}
-use Rattle.sdd_views.specs.declared.FractionsView.{FractionsView}
-use Rattle.sdd_views.specs.declared.View.{View}
-use Rattle.sdd_views.specs.declared.Sizes.{Sizes}
+use Rattle.sdd_rights.specs.declared.views.ShownValue.{ShownValue}
+use Rattle.sdd_rights.specs.declared.views.FractionsView.{FractionsView}
+use Rattle.sdd_rights.specs.declared.views.View.{View}
+use Rattle.sdd_rights.specs.declared.views.Sizes.{Sizes}
 use Rattle.sdd_word_invariant.specs.Slots.{waits_in, items_at, Owns, Sees}
 use Rattle.sdd_word_invariant.specs.Sums.{total, is, times}
 use Rattle.sdd_word_invariant.proofs.Frame.{each_set, each_snoc}
@@ -23,7 +23,7 @@ use Rattle.sdd_domain_invariant.specs.LastFractions.{ShowOnly}
 use Rattle.sdd_shared_values.specs.ValueFractions.{FractionContent}
 use Rattle.sdd_shared_values.specs.Deposits.{units_at, AreDeposits}
 use Rattle.sdd_shared_values.specs.Bank.{Leaves, Comes}
-use Rattle.sdd_views.specs.declared.Deposit.{Deposit}
+use Rattle.sdd_rights.specs.declared.views.Deposit.{Deposit}
 use prog.Atomic.{either}
 use Rattle.sdd_domain_invariant.specs.FractionSteps.{without_record}
 

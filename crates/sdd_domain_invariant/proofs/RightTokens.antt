@@ -8,12 +8,12 @@ use Rattle.atomic_table.specs.Table.{State, Splits}
 use Rattle.atomic_table.proofs.Lists.{at_map, at_set, at_longer, at_last, set_else}
 use Rattle.sdd_witness.specs.Ledger.{Pledge, JoinsFree}
 use Rattle.sdd_shared_values.specs.declared.value_fraction.ValueFraction.{ValueFraction}
-use Rattle.sdd_views.specs.declared.CellKind.{CellKind}
-use Rattle.sdd_views.specs.declared.CellRight.{CellRight}
-use Rattle.sdd_views.specs.declared.CellsView.{CellsView}
-use Rattle.sdd_views.specs.declared.View.{View}
-use Rattle.sdd_views.specs.declared.Sizes.{Sizes}
-use Rattle.sdd_views.specs.Views.{owner_token, no_rights, right_to}
+use Rattle.sdd_rights.specs.declared.views.CellKind.{CellKind}
+use Rattle.sdd_rights.specs.declared.views.CellRight.{CellRight}
+use Rattle.sdd_rights.specs.declared.views.CellsView.{CellsView}
+use Rattle.sdd_rights.specs.declared.views.View.{View}
+use Rattle.sdd_rights.specs.declared.views.Sizes.{Sizes}
+use Rattle.sdd_rights.specs.Views.{owner_token, no_rights, right_to}
 use Rattle.sdd_word_invariant.specs.Epoch.{HasPlace}
 use Rattle.sdd_word_invariant.specs.Sums.{total}
 use Rattle.sdd_word_invariant.specs.WordInvariant.{epoch_of, WordInvariant}

@@ -12,13 +12,13 @@ use Rattle.atomic_table.specs.Table.{State, keeps, takes, Allows, carried_after,
 use Rattle.atomic_table.proofs.Lists.{at_map, exchanged, set_again, set_else, set_here}
 use Rattle.sdd_shared_values.specs.SharedValues.{IsNoValueCode, lot}
 use Rattle.sdd_shared_values.specs.declared.value_fraction.ValueFraction.{ValueFraction}
-use Rattle.sdd_views.specs.declared.ShownValue.{ShownValue}
-use Rattle.sdd_views.specs.declared.EndedView.{EndedView}
-use Rattle.sdd_views.specs.declared.FractionsView.{FractionsView}
-use Rattle.sdd_views.specs.declared.WaitingItem.{WaitingItem}
-use Rattle.sdd_views.specs.declared.Deposit.{Deposit}
-use Rattle.sdd_views.specs.declared.View.{View}
-use Rattle.sdd_views.specs.declared.Sizes.{Sizes}
+use Rattle.sdd_rights.specs.declared.views.ShownValue.{ShownValue}
+use Rattle.sdd_rights.specs.declared.views.EndedView.{EndedView}
+use Rattle.sdd_rights.specs.declared.views.FractionsView.{FractionsView}
+use Rattle.sdd_rights.specs.declared.views.WaitingItem.{WaitingItem}
+use Rattle.sdd_rights.specs.declared.views.Deposit.{Deposit}
+use Rattle.sdd_rights.specs.declared.views.View.{View}
+use Rattle.sdd_rights.specs.declared.views.Sizes.{Sizes}
 use Rattle.sdd_word_invariant.specs.Words.{slot_word, state_word, words_behind}
 use Rattle.sdd_word_invariant.specs.Codes.{codes, alive, waiting, full, valued, emptying, counted as kind_of, shared_base, held_word, shared_word, free_word, waiting_word}
 use Rattle.sdd_word_invariant.specs.Epoch.{HasPlace, IsOpen, Scans, IsLone}

@@ -11,17 +11,17 @@ use Rattle.atomic_table.specs.Table.{State, Enters, Splits, Joins, opening}
 use Rattle.atomic_table.proofs.Lists.{at_map, at_longer, set_else}
 use Rattle.sdd_shared_values.specs.SharedValues.{IsNoValueCode, most}
 use Rattle.sdd_shared_values.specs.declared.value_fraction.ValueFraction.{ValueFraction}
-use Rattle.sdd_views.specs.declared.ShownValue.{ShownValue}
-use Rattle.sdd_views.specs.declared.CountsView.{CountsView}
-use Rattle.sdd_views.specs.declared.View.{View}
-use Rattle.sdd_views.specs.declared.Sizes.{Sizes}
+use Rattle.sdd_rights.specs.declared.views.ShownValue.{ShownValue}
+use Rattle.sdd_rights.specs.declared.views.CountsView.{CountsView}
+use Rattle.sdd_rights.specs.declared.views.View.{View}
+use Rattle.sdd_rights.specs.declared.views.Sizes.{Sizes}
 use Rattle.sdd_word_invariant.specs.Words.{first_slot, words_behind, all_words}
 use Rattle.sdd_word_invariant.specs.Codes.{codes, alive, waiting, full, valued, names, counted as counts_owners}
 use Rattle.sdd_word_invariant.specs.Sums.{is, times}
 use Rattle.sdd_word_invariant.specs.Slots.{slot_at, Owns}
 use Rattle.sdd_word_invariant.specs.SlotSteps.{first, others}
 use Rattle.sdd_word_invariant.specs.Epoch.{HasPlace}
-use Rattle.sdd_views.specs.Views.{owner_token, owner_of}
+use Rattle.sdd_rights.specs.Views.{owner_token, owner_of}
 use Rattle.sdd_word_invariant.specs.WordInvariant.{epoch_of, idle}
 use Rattle.sdd_word_invariant.proofs.Codes.{sound, none_counted}
 use Rattle.sdd_word_invariant.proofs.Collectors.{plain_free}
@@ -35,7 +35,7 @@ use Rattle.sdd_domain_invariant.proofs.Banks as banks
 use Rattle.sdd_domain_invariant.specs.KindsInvariant.{KnowsKinds, KindsInvariant}
 use Rattle.sdd_domain_invariant.proofs.KindSteps.{has_first, knows_no_kind, same_post, no_pledge, pledges_spent, forth}
 use Rattle.sdd_witness.specs.Ledger.{Pledge, Free, JoinsFree}
-use Rattle.sdd_views.specs.declared.PledgesView.{PledgesView}
+use Rattle.sdd_rights.specs.declared.views.PledgesView.{PledgesView}
 use Rattle.sdd_domain_invariant.specs.BoundInvariant.{over_at}
 use Rattle.sdd_domain_invariant.specs.PledgesInvariant.{HasPledge, IsLedger, booked_by}
 use Rattle.sdd_domain_invariant.proofs.Cells.{no_change, no_right}

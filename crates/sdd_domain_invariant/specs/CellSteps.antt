@@ -2,11 +2,11 @@
 use Rattle.std.specs.Prelude.{◌≡◌, ◌≢◌, ℕ, ◌<◌, ◌++◌, Bool, [], ◌∷◌, slice_index}
 use base.Stored.{Gv}
 use Rattle.sdd_shared_values.specs.SharedValues.{IsValueCode}
-use Rattle.sdd_views.specs.declared.CellKind.{CellKind}
-use Rattle.sdd_views.specs.declared.CellKind.TheVariants.{Owned, Shared, Raw, Collector}
-use Rattle.sdd_views.specs.declared.View.{View}
+use Rattle.sdd_rights.specs.declared.views.CellKind.{CellKind}
+use Rattle.sdd_rights.specs.declared.views.CellKind.TheVariants.{Owned, Shared, Raw, Collector}
+use Rattle.sdd_rights.specs.declared.views.View.{View}
 use Rattle.sdd_rights.specs.Owner.{cell_kind}
-use Rattle.sdd_views.specs.Views.{owner_token, no_rights}
+use Rattle.sdd_rights.specs.Views.{owner_token, no_rights}
 use Rattle.sdd_word_invariant.specs.Words.{cell_word, pointer_word}
 use Rattle.sdd_word_invariant.specs.Codes.{alive, counted, held_slots, pointers_end}
 use Rattle.sdd_word_invariant.specs.Epoch.{IsLone}

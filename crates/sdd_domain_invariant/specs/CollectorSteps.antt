@@ -2,10 +2,10 @@
 use Rattle.std.specs.Prelude.{◌≡◌, ◌≢◌, ◌⊎◌, ℕ, suc, Bool, [], ◌∷◌, drop, Some}
 use base.Stored.{Gv}
 use Rattle.sdd_shared_values.specs.SharedValues.{IsValueCode}
-use Rattle.sdd_views.specs.declared.CellKind.{CellKind}
-use Rattle.sdd_views.specs.declared.CellKind.TheVariants.{Raw, Collector}
-use Rattle.sdd_views.specs.declared.ShownValue.{ShownValue}
-use Rattle.sdd_views.specs.declared.View.{View}
+use Rattle.sdd_rights.specs.declared.views.CellKind.{CellKind}
+use Rattle.sdd_rights.specs.declared.views.CellKind.TheVariants.{Raw, Collector}
+use Rattle.sdd_rights.specs.declared.views.ShownValue.{ShownValue}
+use Rattle.sdd_rights.specs.declared.views.View.{View}
 use Rattle.sdd_word_invariant.specs.Codes.{private_word, emptying_word, emptied_word, left_word}
 use Rattle.sdd_word_invariant.specs.Epoch.{IsLone}
 use Rattle.sdd_word_invariant.specs.SlotSteps.{Knew}

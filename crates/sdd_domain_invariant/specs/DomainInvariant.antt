@@ -2,8 +2,8 @@
 use Rattle.std.specs.Prelude.{ℕ}
 use Rattle.atomic_table.specs.Table.{State}
 use Rattle.sdd_shared_values.specs.declared.value_fraction.ValueFraction.{ValueFraction}
-use Rattle.sdd_views.specs.declared.View.{View}
-use Rattle.sdd_views.specs.declared.Sizes.{Sizes}
+use Rattle.sdd_rights.specs.declared.views.View.{View}
+use Rattle.sdd_rights.specs.declared.views.Sizes.{Sizes}
 use Rattle.sdd_word_invariant.specs.WordInvariant.{WordInvariant}
 use Rattle.sdd_domain_invariant.specs.FractionsAtHome.{FractionsInvariant}
 use Rattle.sdd_domain_invariant.specs.Records.{RecordsInvariant}

@@ -6,11 +6,11 @@ use Rattle.atomic_table.specs.Table.{Me}
 use Rattle.sdd_shared_values.specs.ValueFractions.{FractionContent}
 use Rattle.sdd_shared_values.specs.SharedValues.{IsValueCode, IsNoValueCode, lot}
 use Rattle.sdd_shared_values.specs.declared.value_fraction.ValueFraction.{ValueFraction}
-use Rattle.sdd_views.specs.declared.ShownValue.{ShownValue}
-use Rattle.sdd_views.specs.declared.CountsView.{CountsView}
-use Rattle.sdd_views.specs.declared.View.{View}
+use Rattle.sdd_rights.specs.declared.views.ShownValue.{ShownValue}
+use Rattle.sdd_rights.specs.declared.views.CountsView.{CountsView}
+use Rattle.sdd_rights.specs.declared.views.View.{View}
 use Rattle.sdd_word_invariant.specs.SlotSteps.{Knew, claimed, discarded, seeing, first, others, parted, joined, Retires, Defers, ClosesAll, GivesBack, one_less, one_more, taken_back}
-use Rattle.sdd_views.specs.Views.{owner_token, at_rest, no_counts}
+use Rattle.sdd_rights.specs.Views.{owner_token, at_rest, no_counts}
 use Rattle.sdd_word_invariant.specs.EpochSteps.{ended}
 use Rattle.sdd_word_invariant.specs.Words.{slot_word}
 use Rattle.sdd_word_invariant.specs.Codes.{alive, counted, most_owners}

@@ -4,10 +4,10 @@ use mathlib.Core.Option.{some}
 use lib.ListN.{get_elem?}
 use base.Stored.{Gv}
 use Rattle.sdd_witness.specs.Ledger.{Pledge}
-use Rattle.sdd_views.specs.declared.CellRight.{CellRight}
-use Rattle.sdd_views.specs.declared.View.{View}
-use Rattle.sdd_views.specs.contracts.View.{the_row}
-use Rattle.sdd_views.specs.Views.{owner_of, right_to}
+use Rattle.sdd_rights.specs.declared.views.CellRight.{CellRight}
+use Rattle.sdd_rights.specs.declared.views.View.{View}
+use Rattle.sdd_rights.specs.contracts.views.View.{the_row}
+use Rattle.sdd_rights.specs.Views.{owner_of, right_to}
 use Rattle.sdd_word_invariant.specs.Sums.{total}
 use Rattle.sdd_domain_invariant.specs.BankInvariant.{one_where}
 use Rattle.sdd_domain_invariant.specs.FilledInvariant.{HasRecord}

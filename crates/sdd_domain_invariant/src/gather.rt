@@ -9,8 +9,8 @@ ghost use Rattle.sdd_word_invariant.specs.Slots.{slot_at};
 ghost use Rattle.sdd_domain_invariant.specs.FractionsAtHome.{stake_at, none_away, all_vacant, AreLaidTo, AreLaid, AreHome};
 
 use atomic_table::Closed;
+use sdd_rights::views::Sizes;
 use sdd_shared_values::{FractionList, ValueFraction, ValuesName};
-use sdd_views::Sizes;
 use std::alloc::Allocator;
 
 /// The stakes in the last slot, as one.

@@ -9,11 +9,11 @@ use Rattle.sdd_participants.specs.declared.waiting.LimboEntry.{LimboEntry}
 use Rattle.sdd_participants.specs.Waiting.{Waiting, aged, due, left}
 use Rattle.sdd_participants.specs.EpochState.{nested, rotated, settled, due_next}
 use Rattle.sdd_shared_values.specs.declared.value_fraction.ValueFraction.{ValueFraction}
-use Rattle.sdd_views.specs.declared.EpochView.{EpochView}
-use Rattle.sdd_views.specs.declared.PrivateItem.{PrivateItem}
-use Rattle.sdd_views.specs.declared.SlotsView.{SlotsView}
-use Rattle.sdd_views.specs.declared.WaitingItem.{WaitingItem}
-use Rattle.sdd_views.specs.declared.View.{View}
+use Rattle.sdd_rights.specs.declared.views.EpochView.{EpochView}
+use Rattle.sdd_rights.specs.declared.views.PrivateItem.{PrivateItem}
+use Rattle.sdd_rights.specs.declared.views.SlotsView.{SlotsView}
+use Rattle.sdd_rights.specs.declared.views.WaitingItem.{WaitingItem}
+use Rattle.sdd_rights.specs.declared.views.View.{View}
 use Rattle.sdd_word_invariant.specs.Epoch.{IsLone}
 use Rattle.sdd_word_invariant.specs.EpochSteps.{knowing, counted, published, Reads, Counts}
 use Rattle.sdd_word_invariant.specs.Sums.{total}

@@ -10,10 +10,10 @@ use Rattle.sdd_shared_values.specs.ReadFractions.{lot_of}
 use Rattle.sdd_shared_values.specs.declared.value_fraction.ValueFraction.{ValueFraction}
 use Rattle.sdd_rights.specs.declared.read_fraction.ReadFraction.{ReadFraction}
 use Rattle.sdd_rights.specs.Owner.{witness_of_owner}
-use Rattle.sdd_views.specs.declared.ShownValue.{ShownValue}
-use Rattle.sdd_views.specs.declared.View.{View}
-use Rattle.sdd_views.specs.contracts.View.{the_row}
-use Rattle.sdd_views.specs.Views.{owner_of, owner_token, at_rest}
+use Rattle.sdd_rights.specs.declared.views.ShownValue.{ShownValue}
+use Rattle.sdd_rights.specs.declared.views.View.{View}
+use Rattle.sdd_rights.specs.contracts.views.View.{the_row}
+use Rattle.sdd_rights.specs.Views.{owner_of, owner_token, at_rest}
 use Rattle.sdd_word_invariant.specs.Epoch.{HasPlace, IsLone}
 use Rattle.sdd_word_invariant.specs.Slots.{Holds}
 use Rattle.sdd_word_invariant.specs.SlotSteps.{Knew, noted, one_less}

@@ -4,11 +4,11 @@ use base.Stored.{Gv}
 use Rattle.atomic_table.specs.declared.shared.Seat.{Seat}
 use Rattle.sdd_shared_values.specs.SharedValues.{IsValueCode}
 use Rattle.sdd_shared_values.specs.declared.value_fraction.ValueFraction.{ValueFraction}
-use Rattle.sdd_views.specs.declared.ShownValue.{ShownValue}
-use Rattle.sdd_views.specs.declared.View.{View}
-use Rattle.sdd_views.specs.declared.Sizes.{Sizes}
-use Rattle.sdd_views.specs.declared.CellsView.{CellsView}
-use Rattle.sdd_views.specs.Views.{right_to, no_rights}
+use Rattle.sdd_rights.specs.declared.views.ShownValue.{ShownValue}
+use Rattle.sdd_rights.specs.declared.views.View.{View}
+use Rattle.sdd_rights.specs.declared.views.Sizes.{Sizes}
+use Rattle.sdd_rights.specs.declared.views.CellsView.{CellsView}
+use Rattle.sdd_rights.specs.Views.{right_to, no_rights}
 use Rattle.sdd_rights.specs.Owner.{cell_kind}
 use Rattle.sdd_word_invariant.specs.Codes.{held_slots}
 use Rattle.sdd_word_invariant.specs.CellSteps.{noting}

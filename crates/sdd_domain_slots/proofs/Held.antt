@@ -6,11 +6,11 @@ use mathlib.Core.Bool.{cond}
 use base.Stored.{Gv}
 use Rattle.atomic_table.specs.declared.shared.Seat.{Seat}
 use Rattle.sdd_shared_values.specs.declared.value_fraction.ValueFraction.{ValueFraction}
-use Rattle.sdd_views.specs.declared.ShownValue.{ShownValue}
-use Rattle.sdd_views.specs.declared.View.{View}
-use Rattle.sdd_views.specs.declared.Sizes.{Sizes}
-use Rattle.sdd_views.specs.contracts.View.{the_row}
-use Rattle.sdd_views.specs.Views.{owner_of, owner_token, at_rest}
+use Rattle.sdd_rights.specs.declared.views.ShownValue.{ShownValue}
+use Rattle.sdd_rights.specs.declared.views.View.{View}
+use Rattle.sdd_rights.specs.declared.views.Sizes.{Sizes}
+use Rattle.sdd_rights.specs.contracts.views.View.{the_row}
+use Rattle.sdd_rights.specs.Views.{owner_of, owner_token, at_rest}
 use Rattle.sdd_rights.specs.declared.read_fraction.ReadFraction.{ReadFraction}
 use Rattle.sdd_rights.specs.Owner.{one-shown, witness_of_owner}
 use Rattle.sdd_atomics.specs.Grips.{IsGripOf}

@@ -16,10 +16,10 @@ use Rattle.sdd_rights.specs.StandingKind.{is_shared}
 use Rattle.sdd_rights.specs.Units.{GhostName}
 use Rattle.sdd_witness.specs.declared.witness.Witness.{Witness}
 use Rattle.sdd_shared_values.specs.declared.value_fraction.ValueFraction.{ValueFraction}
-use Rattle.sdd_views.specs.declared.ShownValue.{ShownValue}
-use Rattle.sdd_views.specs.declared.View.{View}
+use Rattle.sdd_rights.specs.declared.views.ShownValue.{ShownValue}
+use Rattle.sdd_rights.specs.declared.views.View.{View}
 use Rattle.sdd_core.specs.declared.refused.Refused.{Refused}
-use Rattle.sdd_views.specs.declared.Sizes.{Sizes}
+use Rattle.sdd_rights.specs.declared.views.Sizes.{Sizes}
 use Rattle.sdd_word_invariant.specs.Codes.{alive, claimed_word, counted}
 use Rattle.sdd_word_invariant.specs.Epoch.{HasPlace, IsOpen, IsLone as IsLoneAt}
 use Rattle.sdd_word_invariant.specs.Slots.{Holds}

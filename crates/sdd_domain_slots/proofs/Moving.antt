@@ -12,8 +12,8 @@ use Rattle.sdd_shared_values.specs.ValueFractions.{FractionContent, AllFreeFor, 
 use Rattle.sdd_shared_values.specs.CarriedFractions.{lots, plain, OnlyLends}
 use Rattle.sdd_shared_values.specs.declared.value_fraction.ValueFraction.{ValueFraction}
 use Rattle.sdd_shared_values.specs.SharedValues.{most, IsValueCode, IsNoValueCode, CanShow, HasFractionShowing, HasWhole, AreWhole, all_turned}
-use Rattle.sdd_views.specs.declared.ShownValue.{ShownValue}
-use Rattle.sdd_views.specs.declared.View.{View}
+use Rattle.sdd_rights.specs.declared.views.ShownValue.{ShownValue}
+use Rattle.sdd_rights.specs.declared.views.View.{View}
 use Rattle.sdd_word_invariant.specs.SlotSteps.{given_back, Knew, LooksAtSlot}
 use Rattle.sdd_word_invariant.specs.Codes.{free_word}
 use Rattle.sdd_word_invariant.specs.Sums.{times}

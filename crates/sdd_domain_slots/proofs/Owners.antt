@@ -5,10 +5,10 @@ use base.Stored.{Gv}
 use Rattle.atomic_table.specs.declared.shared.Seat.{Seat}
 use Rattle.sdd_shared_values.specs.declared.value_fraction.ValueFraction.{ValueFraction}
 use Rattle.sdd_shared_values.specs.SharedValues.{IsValueCode, IsNoValueCode, all_turned}
-use Rattle.sdd_views.specs.declared.Sizes.{Sizes}
-use Rattle.sdd_views.specs.declared.View.{View}
+use Rattle.sdd_rights.specs.declared.views.Sizes.{Sizes}
+use Rattle.sdd_rights.specs.declared.views.View.{View}
 use Rattle.sdd_word_invariant.specs.SlotSteps.{first, others}
-use Rattle.sdd_views.specs.Views.{owner_of, owner_token, at_rest}
+use Rattle.sdd_rights.specs.Views.{owner_of, owner_token, at_rest}
 use Rattle.sdd_domain_invariant.specs.FractionsAtHome.{CarriedFractions, Moves, spare}
 use Rattle.sdd_domain_invariant.specs.FractionSteps.{CarriesAll, IsValue, FillsSlot, parting, departing, resting, telling, drawing}
 use Rattle.sdd_atomics.specs.declared.domain_table.DomainTable.{DomainTable}

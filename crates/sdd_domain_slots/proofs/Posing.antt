@@ -9,26 +9,26 @@ use Rattle.sdd_participants.specs.declared.waiting.LimboEntry.TheVariants.{Item}
 use Rattle.sdd_participants.specs.declared.participant.Participant.{Participant}
 use Rattle.sdd_participants.specs.EpochState.{stirred, awaiting, nested}
 use Rattle.sdd_shared_values.specs.declared.value_fraction.ValueFraction.{ValueFraction}
-use Rattle.sdd_views.specs.declared.EpochView.{EpochView}
-use Rattle.sdd_views.specs.declared.CountsView.{CountsView}
-use Rattle.sdd_views.specs.declared.ShownValue.{ShownValue}
-use Rattle.sdd_views.specs.declared.FractionsView.{FractionsView}
-use Rattle.sdd_views.specs.declared.PledgesView.{PledgesView}
-use Rattle.sdd_views.specs.declared.PrivateItem.{PrivateItem}
-use Rattle.sdd_views.specs.declared.WaitingItem.{WaitingItem}
-use Rattle.sdd_views.specs.declared.View.{View}
+use Rattle.sdd_rights.specs.declared.views.EpochView.{EpochView}
+use Rattle.sdd_rights.specs.declared.views.CountsView.{CountsView}
+use Rattle.sdd_rights.specs.declared.views.ShownValue.{ShownValue}
+use Rattle.sdd_rights.specs.declared.views.FractionsView.{FractionsView}
+use Rattle.sdd_rights.specs.declared.views.PledgesView.{PledgesView}
+use Rattle.sdd_rights.specs.declared.views.PrivateItem.{PrivateItem}
+use Rattle.sdd_rights.specs.declared.views.WaitingItem.{WaitingItem}
+use Rattle.sdd_rights.specs.declared.views.View.{View}
 use Rattle.sdd_word_invariant.specs.Epoch.{HasPlace, IsLone, IsOpen}
 use Rattle.sdd_word_invariant.specs.EpochSteps.{knowing, counted, published}
 use Rattle.sdd_word_invariant.specs.Sums.{total, times}
 use Rattle.sdd_word_invariant.specs.Collectors.{privates_at}
 use Rattle.sdd_word_invariant.specs.Slots.{items_at, waits_in}
 use Rattle.sdd_word_invariant.specs.SlotSteps.{retired_now, retired, one_less, noted, without}
-use Rattle.sdd_views.specs.Views.{owner_of}
+use Rattle.sdd_rights.specs.Views.{owner_of}
 use Rattle.sdd_word_invariant.proofs.Sums.{is_other, total_snoc}
 use Rattle.sdd_atomics.specs.declared.domain_table.DomainTable.{DomainTable}
 use Rattle.sdd_shared_values.specs.CarriedFractions.{OnlyLends}
 use Rattle.sdd_shared_values.specs.SharedValues.{IsNoValueCode}
-use Rattle.sdd_views.specs.declared.Sizes.{Sizes}
+use Rattle.sdd_rights.specs.declared.views.Sizes.{Sizes}
 use Rattle.sdd_domain_invariant.specs.FractionsAtHome.{CarriedFractions, Has, stake_at}
 use Rattle.sdd_domain_invariant.specs.Records.{slot_shown, IsIn}
 use Rattle.sdd_domain_invariant.proofs.Records.{in_head, in_either, in_times}

@@ -8,9 +8,9 @@ use Rattle.atomic_table.proofs.Lists.{at_map}
 use Rattle.atomic_table.specs.declared.shared.Seat.{Seat}
 use Rattle.sdd_shared_values.specs.declared.value_fraction.ValueFraction.{ValueFraction}
 use Rattle.sdd_shared_values.specs.SharedValues.{IsNoValueCode}
-use Rattle.sdd_views.specs.declared.PrivateItem.{PrivateItem}
-use Rattle.sdd_views.specs.declared.View.{View}
-use Rattle.sdd_views.specs.declared.Sizes.{Sizes}
+use Rattle.sdd_rights.specs.declared.views.PrivateItem.{PrivateItem}
+use Rattle.sdd_rights.specs.declared.views.View.{View}
+use Rattle.sdd_rights.specs.declared.views.Sizes.{Sizes}
 use Rattle.sdd_word_invariant.specs.Codes.{private_word, emptying_word, emptied_word, free_word, left_word}
 use Rattle.sdd_word_invariant.specs.CollectorSteps.{WaitsFor, no_collector, orphan, orphaned, found_emptied, without_private, empties_now, emptied_now, finds_left, empty_given_back, own_given_back}
 use Rattle.sdd_word_invariant.specs.SlotSteps.{Knew, behind, noted}

@@ -12,8 +12,8 @@ use Rattle.sdd_participants.specs.Collecting.{is_kept_for, is_private_to}
 use Rattle.sdd_participants.specs.Slab.{Entries, entry_at, with_entry, without_entry}
 use Rattle.sdd_participants.specs.declared.standing.Standing.TheVariants.{Private}
 use Rattle.sdd_participants.specs.declared.waiting.LimboEntry.TheVariants.{Item}
-use Rattle.sdd_views.specs.declared.PrivateItem.{PrivateItem}
-use Rattle.sdd_views.specs.declared.WaitingItem.{WaitingItem}
+use Rattle.sdd_rights.specs.declared.views.PrivateItem.{PrivateItem}
+use Rattle.sdd_rights.specs.declared.views.WaitingItem.{WaitingItem}
 use Rattle.sdd_word_invariant.specs.Collectors.{private_in}
 use Rattle.sdd_word_invariant.specs.CollectorSteps.{for_collector, without_private}
 use Rattle.sdd_word_invariant.specs.SlotSteps.{older_private}

@@ -6,13 +6,13 @@ use Rattle.sdd_participants.specs.EpochState.{is_open, no_garbage}
 use Rattle.sdd_rights.specs.declared.fraction.Fraction.{Fraction}
 use Rattle.sdd_values.specs.declared.read_sections.SectionState.{SectionState}
 use Rattle.sdd_values.specs.declared.read_sections.SectionState.TheVariants.{Closed, Open}
-use Rattle.sdd_views.specs.declared.EpochView.{EpochView}
-use Rattle.sdd_views.specs.declared.View.{View}
-use Rattle.sdd_views.specs.Views.{no_rights}
+use Rattle.sdd_rights.specs.declared.views.EpochView.{EpochView}
+use Rattle.sdd_rights.specs.declared.views.View.{View}
+use Rattle.sdd_rights.specs.Views.{no_rights}
 use Rattle.sdd_word_invariant.specs.Epoch.{IsClosed, IsOpen, Scans, IsLone}
-use Rattle.sdd_views.specs.declared.ShownValue.{ShownValue}
-use Rattle.sdd_views.specs.declared.SlotsView.{SlotsView}
-use Rattle.sdd_views.specs.declared.FractionsView.{FractionsView}
+use Rattle.sdd_rights.specs.declared.views.ShownValue.{ShownValue}
+use Rattle.sdd_rights.specs.declared.views.SlotsView.{SlotsView}
+use Rattle.sdd_rights.specs.declared.views.FractionsView.{FractionsView}
 use Rattle.sdd_word_invariant.specs.Sums.{total}
 use Rattle.sdd_word_invariant.specs.Slots.{waits_in, items_at}
 use Rattle.sdd_shared_values.specs.declared.value_fraction.ValueFraction.{ValueFraction}

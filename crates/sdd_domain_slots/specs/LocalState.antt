@@ -12,13 +12,13 @@ use Rattle.sdd_space.specs.Guard.{ReaderId}
 use Rattle.sdd_space.specs.ParticipantChanges.{closed_with}
 use Rattle.sdd_participants.specs.declared.tally.Tally.{Tally}
 use Rattle.sdd_participants.specs.Tally.{no_items, one_made, one_reclaimed, one_in_place}
-use Rattle.sdd_views.specs.declared.Sizes.{Sizes}
-use Rattle.sdd_views.specs.declared.ShownValue.{ShownValue}
-use Rattle.sdd_views.specs.declared.SlotsView.{SlotsView}
+use Rattle.sdd_rights.specs.declared.views.Sizes.{Sizes}
+use Rattle.sdd_rights.specs.declared.views.ShownValue.{ShownValue}
+use Rattle.sdd_rights.specs.declared.views.SlotsView.{SlotsView}
 use Rattle.sdd_word_invariant.specs.Codes.{free_word, waiting_word, claimed_word, retired_word, most_owners, alive, counted}
 use Rattle.sdd_word_invariant.specs.Sums.{times, total}
 use Rattle.sdd_word_invariant.specs.Slots.{waits_in}
-use Rattle.sdd_views.specs.Views.{bare}
+use Rattle.sdd_rights.specs.Views.{bare}
 use Rattle.sdd_word_invariant.specs.SlotSteps.{blank, behind, retired_now, without_item}
 use Rattle.sdd_word_invariant.specs.Collectors.{private_in}
 use Rattle.sdd_word_invariant.specs.CollectorSteps.{without_private}

@@ -2,7 +2,7 @@
 use Rattle.std.specs.Prelude.{◌≡◌, ℕ, zero, suc, ◌+◌, ◌-◌, ◌^◌, ◌<◌, ◌≤◌, min, Bool, false, List, [], ◌∷◌, length, map, sum}
 use Rattle.sdd_rights.specs.Units as token
 use base.Stored.{Gv}
-use Rattle.sdd_views.specs.declared.CountsView.{CountsView}
+use Rattle.sdd_rights.specs.declared.views.CountsView.{CountsView}
 use Rattle.sdd_atomics.specs.Counts.{witness_of_counts}
 use Rattle.sdd_participants.specs.declared.tally.Tally.{Tally}
 

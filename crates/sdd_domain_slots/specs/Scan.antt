@@ -1,6 +1,6 @@
 -- What a scan leaves, and what its end tells
 use Rattle.std.specs.Prelude.{◌≡◌, ◌≢◌, ℕ, ◌+◌, ◌^◌, ◌<◌, ◌≤◌}
-use Rattle.sdd_views.specs.declared.EpochView.{EpochView}
+use Rattle.sdd_rights.specs.declared.views.EpochView.{EpochView}
 use Rattle.sdd_word_invariant.specs.Epoch.{IsOpen, Scans, IsLone}
 use Rattle.sdd_word_invariant.specs.EpochSteps.{knowing}
 use Rattle.sdd_domain_slots.specs.declared.scan.ScanEnd.{ScanEnd}

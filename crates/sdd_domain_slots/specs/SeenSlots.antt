@@ -1,7 +1,7 @@
 -- What a participant's guards see, and what that shows
 use Rattle.std.specs.Prelude.{◌≡◌, ℕ, List}
 use base.Stored.{Gv}
-use Rattle.sdd_views.specs.declared.ShownValue.{ShownValue}
+use Rattle.sdd_rights.specs.declared.views.ShownValue.{ShownValue}
 use Rattle.sdd_domain_invariant.specs.Records.{IsIn}
 
 -- of each slot one value is known

@@ -2,7 +2,7 @@
 use Rattle.std.specs.Prelude.{◌≡◌, ℕ, ◌+◌, ◌<◌, ◌/◌, ◌==◌, ◌||◌, ◌&&◌, leb, Bool, IsTrue, List, Option, Some, None, length, slice_index_or}
 use base.Stored.{Gv}
 use Rattle.sdd_participants.specs.Slab.{entry_at}
-use Rattle.sdd_views.specs.declared.ShownValue.{ShownValue}
+use Rattle.sdd_rights.specs.declared.views.ShownValue.{ShownValue}
 use Rattle.sdd_word_invariant.specs.Words.{words_behind}
 use Rattle.sdd_word_invariant.specs.Codes.{free_word, owned_word, raw_word, waiting_word, waiting, waits_for, full, shared_base, most_owners}
 use Rattle.sdd_word_invariant.specs.Sums.{total}

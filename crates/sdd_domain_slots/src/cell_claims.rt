@@ -1,6 +1,6 @@
 //! The search for a free cell.
 ghost use Rattle.std.specs.Prelude.{◌≡◌, ◌⊎◌, ◌<◌, ◌≤◌, ℕ, [], None, IfErr, IfOk, IfSome, MatchOption, MatchResult, length};
-ghost use Rattle.sdd_views.specs.Views.{no_rights};
+ghost use Rattle.sdd_rights.specs.Views.{no_rights};
 ghost use Rattle.sdd_word_invariant.specs.Codes.{held_slots, null_word};
 ghost use Rattle.sdd_word_invariant.specs.Epoch.{HasPlace};
 ghost use Rattle.sdd_rights.specs.Owner.{cell_kind, witness_of_cell};
@@ -22,7 +22,7 @@ use sdd_atomics::steps::cells::{
 };
 use sdd_atomics::{DomainSeat, DomainTable};
 use sdd_core::Refused;
-use sdd_views::CellKind;
+use sdd_rights::views::CellKind;
 use sdd_witness::Witness;
 
 /// Claims a cell of this kind by this word, if it is free: the right to it is a token of its own, and the owner that the participant had is in the cell,

@@ -2,8 +2,8 @@
 ghost use Rattle.std.specs.Prelude.{◌≡◌, ◌≢◌, ◌<◌, ◌∷◌, ◌-◌, ◌^◌, [], None, Bool, IfSome, MatchBool, MatchResult, ℕ, option_map, slice_get, slice_index};
 ghost use base.Stored.{Gv};
 ghost use Rattle.sdd_shared_values.specs.SharedValues.{IsValueCode};
-ghost use Rattle.sdd_views.specs.declared.CellKind.{CellKind};
-ghost use Rattle.sdd_views.specs.Views.{no_rights};
+ghost use Rattle.sdd_rights.specs.declared.views.CellKind.{CellKind};
+ghost use Rattle.sdd_rights.specs.Views.{no_rights};
 ghost use Rattle.sdd_domain_invariant.specs.CellSteps.{IsBare};
 ghost use Rattle.sdd_word_invariant.specs.Codes.{held_slots};
 ghost use Rattle.sdd_word_invariant.specs.Epoch.{HasPlace, IsLone};

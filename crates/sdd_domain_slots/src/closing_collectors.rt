@@ -1,8 +1,8 @@
 //! The close of a collector begins where no guard is open at any place: none sees what waits for it then, nor will.
 ghost use Rattle.std.specs.Prelude.{◌≡◌, ◌<◌, None, MatchResult};
-ghost use Rattle.sdd_views.specs.Views.{no_rights};
-ghost use Rattle.sdd_views.specs.declared.CellKind.{CellKind};
-ghost use Rattle.sdd_views.specs.declared.CellKind.TheVariants.{Raw, Collector};
+ghost use Rattle.sdd_rights.specs.Views.{no_rights};
+ghost use Rattle.sdd_rights.specs.declared.views.CellKind.{CellKind};
+ghost use Rattle.sdd_rights.specs.declared.views.CellKind.TheVariants.{Raw, Collector};
 ghost use Rattle.sdd_word_invariant.specs.Epoch.{HasPlace, IsLone, IsOpen};
 ghost use Rattle.sdd_rights.specs.Owner.{witness_of_cell};
 ghost use Rattle.sdd_atomics.specs.DomainTable.{id_of, places_of};

@@ -3,7 +3,7 @@ ghost use Rattle.std.specs.Prelude.{◌≡◌, ◌⊎◌, ◌<◌, ◌≤◌, Bo
 ghost use Rattle.std.specs.Fn.{FnOnceReturnsAtMut};
 ghost use base.Stored.{Gv};
 ghost use Rattle.sdd_shared_values.specs.SharedValues.{IsNoValueCode, showing};
-ghost use Rattle.sdd_views.specs.declared.ShownValue.{ShownValue};
+ghost use Rattle.sdd_rights.specs.declared.views.ShownValue.{ShownValue};
 ghost use Rattle.sdd_word_invariant.specs.Epoch.{HasPlace, IsLone};
 ghost use Rattle.sdd_word_invariant.specs.Codes.{free_word};
 ghost use Rattle.sdd_word_invariant.specs.Slots.{Holds};

@@ -1,6 +1,6 @@
 //! The search for a free place, by who registers.
 ghost use Rattle.std.specs.Prelude.{◌≡◌, ◌⊎◌, ◌<◌, IfErr, IfOk};
-ghost use Rattle.sdd_views.specs.Views.{nobody};
+ghost use Rattle.sdd_rights.specs.Views.{nobody};
 ghost use Rattle.sdd_word_invariant.specs.EpochSteps.{Takes};
 ghost use Rattle.sdd_word_invariant.specs.SlotSteps.{blank};
 ghost use Rattle.sdd_word_invariant.specs.Words.{state_word};

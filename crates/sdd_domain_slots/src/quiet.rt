@@ -2,7 +2,7 @@
 ghost use Rattle.std.specs.Prelude.{◌≡◌, ◌+◌, ◌<◌, ◌≤◌, true, false, None, IfOk, IfErr, MatchOption, length};
 ghost use Rattle.sdd_word_invariant.specs.Barred.{past};
 ghost use Rattle.sdd_word_invariant.specs.Codes as codes;
-ghost use Rattle.sdd_views.specs.Views.{no_counts};
+ghost use Rattle.sdd_rights.specs.Views.{no_counts};
 ghost use Rattle.sdd_atomics.specs.DomainTable.{id_of, places_of, most_waiting_of, sizes_of};
 ghost use Rattle.sdd_atomics.specs.DomainSeat.{view};
 ghost use Rattle.sdd_domain_slots.specs.Sightings.{IsAnyTaken, KeepsMarks};

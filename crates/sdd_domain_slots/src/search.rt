@@ -1,6 +1,6 @@
 //! A search for a free slot, place of a job, or cell: how often it may lose an exchange, and what it saw.
 ghost use Rattle.std.specs.Prelude.{◌≡◌, ◌-◌, ◌<◌, ◌≤◌, [], true, false, None, MatchOption, MatchResult, length, replicate};
-ghost use Rattle.sdd_views.specs.Views.{no_rights};
+ghost use Rattle.sdd_rights.specs.Views.{no_rights};
 ghost use Rattle.sdd_word_invariant.specs.Codes.{alive, held_slots};
 ghost use Rattle.sdd_word_invariant.specs.Epoch.{HasPlace};
 ghost use Rattle.sdd_rights.specs.Owner.{witness_of_cell};
@@ -18,7 +18,7 @@ use sdd_atomics::steps::jobs::{defer, look_at_place};
 use sdd_atomics::steps::slots::{FREE, claim, look};
 use sdd_atomics::{DomainSeat, DomainTable};
 use sdd_core::Refused;
-use sdd_views::CellKind;
+use sdd_rights::views::CellKind;
 use sdd_witness::Witness;
 use std::marker::Model;
 

@@ -1,7 +1,7 @@
 //! The last close of a participant's guards.
 ghost use Rattle.std.specs.Prelude.{◌≡◌, ◌+◌, ◌<◌, None};
 ghost use Rattle.sdd_values.specs.declared.read_sections.SectionState.TheVariants.{Closed as is_closed};
-ghost use Rattle.sdd_views.specs.declared.View.{View};
+ghost use Rattle.sdd_rights.specs.declared.views.View.{View};
 ghost use Rattle.sdd_word_invariant.specs.SlotSteps.{ClosesAll};
 ghost use Rattle.sdd_word_invariant.specs.Epoch.{IsOpen, Scans};
 ghost use Rattle.sdd_atomics.specs.DomainTable.{id_of, book_of, places_of, sizes_of};

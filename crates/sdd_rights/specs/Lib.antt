@@ -6,3 +6,4 @@ pub mod RightModel
 pub mod Right
 pub mod RightsAuthority
 pub mod SharedRights
+pub mod Views

@@ -4,12 +4,12 @@ use Rattle.std.proofs.Common.{ap}
 use mathlib.Core.HLevel.{→_prop}
 use base.Stored.{Gv, gnil, Coded-set, coded_list}
 use Rattle.atomic_table.specs.Seated.{itself}
-use Rattle.sdd_views.specs.declared.View.{View}
-use Rattle.sdd_views.specs.declared.ShownValue.{ShownValue}
-use Rattle.sdd_views.specs.declared.CellKind.{CellKind}
-use Rattle.sdd_views.specs.declared.CellKind.TheVariants.{Owned, Shared}
-use Rattle.sdd_views.specs.contracts.View.{the_row}
-use Rattle.sdd_views.specs.Views.{owner_of, right_to}
+use Rattle.sdd_rights.specs.declared.views.View.{View}
+use Rattle.sdd_rights.specs.declared.views.ShownValue.{ShownValue}
+use Rattle.sdd_rights.specs.declared.views.CellKind.{CellKind}
+use Rattle.sdd_rights.specs.declared.views.CellKind.TheVariants.{Owned, Shared}
+use Rattle.sdd_rights.specs.contracts.views.View.{the_row}
+use Rattle.sdd_rights.specs.Views.{owner_of, right_to}
 
 -- the views of a witness that is the token of the owner of a slot, which shows this; it may be one of several
 abbrev pub witness_of_owner : ℕ → Bool → Gv → List Gv

@@ -2,7 +2,7 @@
 use Rattle.std.specs.Prelude.{ℕ, ◌≡◌, ◌≢◌, Bool, true, false, List, [], ◌∷◌}
 use base.Stored.{Gv}
 use Rattle.sdd_witness.specs.declared.witness.Witness.{Witness}
-use Rattle.sdd_views.specs.declared.CellKind.{CellKind}
+use Rattle.sdd_rights.specs.declared.views.CellKind.{CellKind}
 use Rattle.sdd_rights.specs.Owner.{witness_of_owner, witness_of_cell}
 use Rattle.sdd_rights.specs.Units.{GhostName}
 pub use Rattle.sdd_rights.specs.RightModel.{home_of_table, cells_of_table, home_in_table, home_by}

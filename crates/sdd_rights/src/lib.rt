@@ -28,6 +28,7 @@ mod fraction;
 mod read_fraction;
 mod right;
 mod rights;
+pub mod views;
 
 pub use fraction::{Fraction, GhostKeys, WHOLE};
 pub use read_fraction::ReadFraction;

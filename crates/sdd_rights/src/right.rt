@@ -1,7 +1,7 @@
 ghost use Rattle.std.specs.Prelude.{◌≡◌, ◌≢◌, ◌<◌, ◌≤◌, [], true, false};
 ghost use Rattle.sdd_rights.specs.declared.right.StandingKind.{StandingKind};
 ghost use Rattle.sdd_rights.specs.StandingKind.{right_units, is_shared, IsOwner};
-ghost use Rattle.sdd_views.specs.declared.CellKind.{CellKind};
+ghost use Rattle.sdd_rights.specs.declared.views.CellKind.{CellKind};
 ghost use Rattle.sdd_rights.specs.Owner.{witness_of_owner, witness_of_cell, is_cell, cell_kind, codes-prop};
 
 use crate::fraction::{Fraction, GhostKeys, WHOLE};

@@ -4,3 +4,6 @@ pub mod ScheduleLine
 pub mod SchedulePlay
 pub mod ScheduleReading
 pub mod Schedule
+pub mod ItemLines
+pub mod GuardLines
+pub mod Leaving

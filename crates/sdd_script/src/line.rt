@@ -5,9 +5,9 @@ ghost use Rattle.sdd_script_model.specs.Val.{holdings_of};
 ghost use Rattle.sdd_script_model.specs.ScriptState.{BeginsLine, later};
 ghost use Rattle.sdd_script_model.specs.Script.{Acts, Answers, LineStep};
 
+use crate::commands::{self, collectors, guards, participants};
 use sdd_core::Refused;
 use sdd_interpreter::Interpreter;
-use sdd_script_commands::{collectors, guards, participants};
 use sdd_script_text::{Action, Answer, Call, CollectorName, PlaceName, Reply};
 
 /// One line. `NoMemory` alone refuses it.
@@ -63,37 +63,37 @@ fn act(stage: &mut Interpreter, name: PlaceName, action: Action) -> Result<Reply
     ensures acts { MatchResult result (λ reply. Acts stage.old (Call.At name action) reply stage.new)
         (λ refused. (refused ≡ Refused.NoMemory) × (stage.new ≡ stage.old)) }
 {
-    if let Some(reply) = sdd_script_commands::act_on_guard(stage, name, action) {
+    if let Some(reply) = commands::act_on_guard(stage, name, action) {
         return Ok(reply);
     }
-    if let Some(reply) = sdd_script_commands::act_on_item(stage, name, action)? {
+    if let Some(reply) = commands::act_on_item(stage, name, action)? {
         return Ok(reply);
     }
-    if let Some(reply) = sdd_script_commands::act_on_raw(stage, name, action)? {
+    if let Some(reply) = commands::act_on_raw(stage, name, action)? {
         return Ok(reply);
     }
-    if let Some(reply) = sdd_script_commands::act_on_cell(stage, name, action)? {
+    if let Some(reply) = commands::act_on_cell(stage, name, action)? {
         return Ok(reply);
     }
-    if let Some(reply) = sdd_script_commands::act_on_link(stage, name, action)? {
+    if let Some(reply) = commands::act_on_link(stage, name, action)? {
         return Ok(reply);
     }
-    if let Some(reply) = sdd_script_commands::act_on_queue(stage, name, action)? {
+    if let Some(reply) = commands::act_on_queue(stage, name, action)? {
         return Ok(reply);
     }
-    if let Some(reply) = sdd_script_commands::act_on_stack(stage, name, action)? {
+    if let Some(reply) = commands::act_on_stack(stage, name, action)? {
         return Ok(reply);
     }
-    if let Some(reply) = sdd_script_commands::act_on_list(stage, name, action)? {
+    if let Some(reply) = commands::act_on_list(stage, name, action)? {
         return Ok(reply);
     }
-    if let Some(reply) = sdd_script_commands::act_on_copy(stage, name, action)? {
+    if let Some(reply) = commands::act_on_copy(stage, name, action)? {
         return Ok(reply);
     }
-    if let Some(reply) = sdd_script_commands::act_on_bag(stage, name, action)? {
+    if let Some(reply) = commands::act_on_bag(stage, name, action)? {
         return Ok(reply);
     }
-    let Some(reply) = sdd_script_commands::act_on_held(stage, name, action)? else {
+    let Some(reply) = commands::act_on_held(stage, name, action)? else {
         unreachable!()
     };
     Ok(reply)

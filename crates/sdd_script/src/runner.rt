@@ -3,11 +3,11 @@ ghost use Rattle.std.specs.Prelude.{◌≡◌, ◌⊎◌, IfOk, MatchResult};
 ghost use Rattle.sdd_core.specs.Limits.{AreInRange};
 ghost use Rattle.sdd_script_model.specs.Script.{IsRun};
 
+use crate::commands::leaving::close;
 use crate::line::step;
 use crate::scene::Scene;
 use sdd_core::{Limits, Refused};
 use sdd_interpreter::Interpreter;
-use sdd_script_commands::leaving::close;
 use sdd_script_text::{Answer, Call};
 use std::alloc::Global;
 

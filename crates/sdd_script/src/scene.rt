@@ -1,9 +1,9 @@
 //! What a script leaves behind.
 ghost use Rattle.std.specs.Prelude.{◌≡◌, ◌+◌};
 
+use crate::commands::leaving::close;
 use sdd_interpreter::Interpreter;
 use sdd_participants::Tally;
-use sdd_script_commands::leaving::close;
 use sdd_script_model::Val;
 use sdd_world::World;
 use std::marker::Model;

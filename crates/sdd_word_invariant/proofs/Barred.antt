@@ -8,9 +8,9 @@ use lib.ListN.{get_elem?}
 use lib.Seq.{set-get_or}
 use prog.Atomic.{either}
 use Rattle.atomic_table.proofs.Lists.{at_map, exchanged, set_again}
-use Rattle.sdd_views.specs.declared.EndedView.{EndedView}
-use Rattle.sdd_views.specs.declared.View.{View}
-use Rattle.sdd_views.specs.declared.Sizes.{Sizes}
+use Rattle.sdd_rights.specs.declared.views.EndedView.{EndedView}
+use Rattle.sdd_rights.specs.declared.views.View.{View}
+use Rattle.sdd_rights.specs.declared.views.Sizes.{Sizes}
 use Rattle.sdd_word_invariant.specs.Words.{state_word, slot_word}
 use Rattle.sdd_word_invariant.specs.Codes.{codes, full}
 use Rattle.sdd_word_invariant.specs.Epoch.{HasPlace, EpochInvariant}

@@ -6,9 +6,9 @@ use lib.ListN.{get_elem?}
 use native.Mathlib.Decide.{dec_lt}
 use prog.Atomic.{either}
 use Rattle.atomic_table.proofs.Lists.{set_here, exchanged}
-use Rattle.sdd_views.specs.declared.CellsView.{CellsView}
-use Rattle.sdd_views.specs.declared.View.{View}
-use Rattle.sdd_views.specs.declared.Sizes.{Sizes}
+use Rattle.sdd_rights.specs.declared.views.CellsView.{CellsView}
+use Rattle.sdd_rights.specs.declared.views.View.{View}
+use Rattle.sdd_rights.specs.declared.views.Sizes.{Sizes}
 use Rattle.sdd_word_invariant.specs.Words.{cell_word, slot_word}
 use Rattle.sdd_word_invariant.specs.Codes.{codes, held_slots}
 use Rattle.sdd_word_invariant.specs.Epoch.{HasPlace, IsOpen}

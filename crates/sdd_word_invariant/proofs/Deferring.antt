@@ -5,9 +5,9 @@ use mathlib.Core.Logic.{dite}
 use native.Mathlib.Decide.{ℕ_discrete}
 use lib.ListN.{get_elem?}
 use Rattle.atomic_table.proofs.Lists.{at_map, at_snoc}
-use Rattle.sdd_views.specs.declared.WaitingItem.{WaitingItem}
-use Rattle.sdd_views.specs.declared.View.{View}
-use Rattle.sdd_views.specs.declared.Sizes.{Sizes}
+use Rattle.sdd_rights.specs.declared.views.WaitingItem.{WaitingItem}
+use Rattle.sdd_rights.specs.declared.views.View.{View}
+use Rattle.sdd_rights.specs.declared.views.Sizes.{Sizes}
 use Rattle.sdd_word_invariant.specs.Words.{global_word, slot_word, most_waiting}
 use Rattle.sdd_word_invariant.specs.Epoch.{EpochInvariant}
 use Rattle.sdd_word_invariant.specs.EpochSteps.{knowing}

@@ -7,11 +7,11 @@ use lib.ListN.{get_elem?}
 use lib.Seq.{set-get_or}
 use prog.Atomic.{either}
 use Rattle.atomic_table.proofs.Lists.{set_here, set_else, exchanged, at_longer}
-use Rattle.sdd_views.specs.declared.EpochView.{EpochView}
-use Rattle.sdd_views.specs.declared.Sizes.{Sizes}
+use Rattle.sdd_rights.specs.declared.views.EpochView.{EpochView}
+use Rattle.sdd_rights.specs.declared.views.Sizes.{Sizes}
 use Rattle.sdd_word_invariant.specs.Words.{IsBeside, global_word, lock_word, state_word, count_word, after_cells, first_slot}
 use Rattle.sdd_word_invariant.specs.Epoch.{HasPlace, IsClosed, IsOpen, Scans, IsLone, MatchesWords, Apart, EpochInvariant}
-use Rattle.sdd_views.specs.Views.{nobody}
+use Rattle.sdd_rights.specs.Views.{nobody}
 use Rattle.sdd_word_invariant.specs.EpochSteps.{Steps, Rises, Keeps, registered, knowing, counted, published, closed, ended, scanning, passed_by, unlocked, IsNext, Registers, Reads, Counts, Publishes, Closes, Ends, Locks, LooksAtLock, LooksAtState, LooksAtCount, Advances, Unlocks}
 use Rattle.sdd_word_invariant.proofs.Frame.{each_set, two_set, each_snoc, two_snoc}
 

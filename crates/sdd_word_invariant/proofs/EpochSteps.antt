@@ -8,16 +8,16 @@ use native.Mathlib.Decide.{ℕ_discrete}
 use lib.Seq.{map-set}
 use prog.Atomic.{either}
 use Rattle.atomic_table.proofs.Lists.{at_map}
-use Rattle.sdd_views.specs.declared.EpochView.{EpochView}
-use Rattle.sdd_views.specs.declared.SlotsView.{SlotsView}
-use Rattle.sdd_views.specs.declared.View.{View}
-use Rattle.sdd_views.specs.declared.Sizes.{Sizes}
+use Rattle.sdd_rights.specs.declared.views.EpochView.{EpochView}
+use Rattle.sdd_rights.specs.declared.views.SlotsView.{SlotsView}
+use Rattle.sdd_rights.specs.declared.views.View.{View}
+use Rattle.sdd_rights.specs.declared.views.Sizes.{Sizes}
 use Rattle.sdd_word_invariant.specs.Words.{IsEpochWord, state_word, slot_word, first_slot}
 use Rattle.sdd_word_invariant.specs.Codes.{codes}
 use Rattle.sdd_word_invariant.specs.Epoch.{HasPlace, IsClosed, IsOpen, Scans, EpochInvariant}
 use Rattle.sdd_word_invariant.specs.Slots.{KnowsWords, Sees}
 use Rattle.sdd_word_invariant.specs.Collectors.{CollectorsInvariant}
-use Rattle.sdd_views.specs.Views.{nobody}
+use Rattle.sdd_rights.specs.Views.{nobody}
 use Rattle.sdd_word_invariant.specs.EpochSteps.{Steps, Keeps, Rises, published, closed, Registers}
 use Rattle.sdd_word_invariant.specs.SlotSteps.{blank, aged, changed, unseeing, OnEpoch, PublishesAll, ClosesAll}
 use Rattle.sdd_word_invariant.specs.WordInvariant.{epoch_of, with_epoch, with_both, Parts}

@@ -6,13 +6,13 @@ use lib.ListN.{get_elem?}
 use lib.Seq.{map-set}
 use Rattle.atomic_table.specs.Table.{Enters, Splits, Joins, opening}
 use Rattle.atomic_table.proofs.Lists.{at_map, at_snoc, set_again, set_else, set_here}
-use Rattle.sdd_views.specs.declared.EpochView.{EpochView}
-use Rattle.sdd_views.specs.declared.EndedView.{EndedView}
-use Rattle.sdd_views.specs.declared.FractionsView.{FractionsView}
-use Rattle.sdd_views.specs.declared.CellsView.{CellsView}
-use Rattle.sdd_views.specs.declared.PledgesView.{PledgesView}
-use Rattle.sdd_views.specs.declared.View.{View}
-use Rattle.sdd_views.specs.declared.Sizes.{Sizes}
+use Rattle.sdd_rights.specs.declared.views.EpochView.{EpochView}
+use Rattle.sdd_rights.specs.declared.views.EndedView.{EndedView}
+use Rattle.sdd_rights.specs.declared.views.FractionsView.{FractionsView}
+use Rattle.sdd_rights.specs.declared.views.CellsView.{CellsView}
+use Rattle.sdd_rights.specs.declared.views.PledgesView.{PledgesView}
+use Rattle.sdd_rights.specs.declared.views.View.{View}
+use Rattle.sdd_rights.specs.declared.views.Sizes.{Sizes}
 use Rattle.sdd_word_invariant.specs.Codes.{codes}
 use Rattle.sdd_word_invariant.specs.Words.{slot_word, all_words}
 use Rattle.sdd_word_invariant.specs.Sums.{is, times}
@@ -21,7 +21,7 @@ use Rattle.sdd_word_invariant.proofs.Sums.{total_append}
 use Rattle.std.specs.Prelude.{Some, None}
 use Rattle.sdd_word_invariant.specs.Epoch.{HasPlace, EpochInvariant}
 use Rattle.sdd_word_invariant.specs.Slots.{Holds, LoneInvariant}
-use Rattle.sdd_views.specs.Views.{nobody, owner_token}
+use Rattle.sdd_rights.specs.Views.{nobody, owner_token}
 use Rattle.sdd_word_invariant.specs.WordInvariant.{epoch_of, idle, Parts, WordInvariant}
 use Rattle.sdd_word_invariant.specs.Barred.{AreBarred, AreQuiet}
 use Rattle.sdd_word_invariant.proofs.Frame.{Each, each_set, each_snoc}

@@ -6,8 +6,8 @@ use mathlib.Core.Logic.{dite}
 use native.Mathlib.Decide.{ℕ_discrete, dec_lt}
 use lib.ListN.{get_elem?}
 use Rattle.atomic_table.proofs.Lists.{at_map, at_set}
-use Rattle.sdd_views.specs.declared.View.{View}
-use Rattle.sdd_views.specs.declared.Sizes.{Sizes}
+use Rattle.sdd_rights.specs.declared.views.View.{View}
+use Rattle.sdd_rights.specs.declared.views.Sizes.{Sizes}
 use Rattle.sdd_word_invariant.specs.Words.{IsEpochWord, after_cells, behind, cell_word, first_cell, most_waiting, slot_word, words_behind, all_words}
 use Rattle.sdd_word_invariant.specs.Epoch.{HasPlace, EpochInvariant}
 use Rattle.sdd_word_invariant.specs.Slots.{slot_at, KnowsWords, LoneInvariant}

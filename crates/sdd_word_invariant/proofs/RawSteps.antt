@@ -6,7 +6,7 @@ use mathlib.Core.Option.{some}
 use native.Mathlib.Decide.{ℕ_discrete, dec_lt}
 use prog.Atomic.{either}
 use Rattle.atomic_table.proofs.Lists.{exchanged}
-use Rattle.sdd_views.specs.declared.View.{View}
+use Rattle.sdd_rights.specs.declared.views.View.{View}
 use Rattle.sdd_word_invariant.specs.Words.{slot_word}
 use Rattle.sdd_word_invariant.specs.Codes.{codes, counted, shared_base, owned_word, raw_word}
 use Rattle.sdd_word_invariant.specs.Epoch.{HasPlace, IsOpen}

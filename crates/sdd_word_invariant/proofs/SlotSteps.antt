@@ -9,10 +9,10 @@ use lib.ListN.{get_elem?}
 use lib.Seq.{set-get_or}
 use prog.Atomic.{either}
 use Rattle.atomic_table.proofs.Lists.{at_map, set_again, set_here, exchanged}
-use Rattle.sdd_views.specs.declared.EpochView.{EpochView}
-use Rattle.sdd_views.specs.declared.WaitingItem.{WaitingItem}
-use Rattle.sdd_views.specs.declared.View.{View}
-use Rattle.sdd_views.specs.declared.Sizes.{Sizes}
+use Rattle.sdd_rights.specs.declared.views.EpochView.{EpochView}
+use Rattle.sdd_rights.specs.declared.views.WaitingItem.{WaitingItem}
+use Rattle.sdd_rights.specs.declared.views.View.{View}
+use Rattle.sdd_rights.specs.declared.views.Sizes.{Sizes}
 use Rattle.sdd_word_invariant.specs.Words.{global_word, state_word, slot_word, most_waiting}
 use Rattle.sdd_word_invariant.specs.Codes.{codes, shared_base, free_word, waiting_word, alive, waiting, counted, most_owners, shared_word, held_word}
 use Rattle.sdd_word_invariant.specs.Sums.{times}

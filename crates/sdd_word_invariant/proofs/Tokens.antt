@@ -4,15 +4,15 @@ use Rattle.std.specs.Prelude.{Some, None}
 use mathlib.Core.Option.{some, some-injective, some-ne-none}
 use lib.ListN.{get_elem?}
 use Rattle.atomic_table.proofs.Lists.{at_snoc, set_else}
-use Rattle.sdd_views.specs.declared.SlotsView.{SlotsView}
-use Rattle.sdd_views.specs.declared.FractionsView.{FractionsView}
-use Rattle.sdd_views.specs.declared.View.{View}
-use Rattle.sdd_views.specs.declared.Sizes.{Sizes}
+use Rattle.sdd_rights.specs.declared.views.SlotsView.{SlotsView}
+use Rattle.sdd_rights.specs.declared.views.FractionsView.{FractionsView}
+use Rattle.sdd_rights.specs.declared.views.View.{View}
+use Rattle.sdd_rights.specs.declared.views.Sizes.{Sizes}
 use Rattle.sdd_word_invariant.specs.Words.{first_cell, cell_word, slot_word, all_words}
 use Rattle.sdd_word_invariant.specs.Sums.{total, times}
 use Rattle.sdd_word_invariant.specs.Codes.{WordReading, IsWordReading}
 use Rattle.sdd_word_invariant.specs.Slots.{owners_at, waits_in, items_at, Sees, Holds, Tallies, SeenBeforeRetired, SlotsInvariant}
-use Rattle.sdd_views.specs.Views.{bare, owning_only}
+use Rattle.sdd_rights.specs.Views.{bare, owning_only}
 use Rattle.sdd_word_invariant.proofs.Frame.{each_set, each_snoc}
 use Rattle.sdd_word_invariant.proofs.Sums.{total_set, total_snoc, span_zero, both_set}
 

@@ -1,7 +1,7 @@
 -- What is known of places that are barred, and of slots once all are
 use Rattle.std.specs.Prelude.{◌≡◌, ◌≢◌, ◌⊎◌, ℕ, ◌+◌, ◌<◌, ◌≤◌, List, slice_index}
-use Rattle.sdd_views.specs.declared.View.{View}
-use Rattle.sdd_views.specs.declared.Sizes.{Sizes}
+use Rattle.sdd_rights.specs.declared.views.View.{View}
+use Rattle.sdd_rights.specs.declared.views.Sizes.{Sizes}
 use Rattle.sdd_word_invariant.specs.Words.{state_word}
 use Rattle.sdd_word_invariant.specs.Codes.{full}
 use Rattle.sdd_word_invariant.specs.Slots.{slot_at}

@@ -1,8 +1,8 @@
 -- What each step on a cell makes of what the participant knows, and what it tells
 use Rattle.std.specs.Prelude.{◌≡◌, ◌≢◌, ℕ, ◌+◌, List, [], ◌∷◌, slice_index, slice_set}
-use Rattle.sdd_views.specs.declared.CellsView.{CellsView}
-use Rattle.sdd_views.specs.declared.View.{View}
-use Rattle.sdd_views.specs.declared.Sizes.{Sizes}
+use Rattle.sdd_rights.specs.declared.views.CellsView.{CellsView}
+use Rattle.sdd_rights.specs.declared.views.View.{View}
+use Rattle.sdd_rights.specs.declared.views.Sizes.{Sizes}
 use Rattle.sdd_word_invariant.specs.Words.{cell_word, pointer_word}
 use Rattle.sdd_word_invariant.specs.Codes.{held_slots}
 use Rattle.sdd_word_invariant.specs.Epoch.{IsLone}

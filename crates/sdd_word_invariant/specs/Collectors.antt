@@ -2,9 +2,9 @@
 use Rattle.std.specs.Prelude.{◌≡◌, ℕ, ◌<◌, ◌≤◌, List, Option, Some, None, true}
 use mathlib.Core.Option.{some}
 use lib.ListN.{get_elem?}
-use Rattle.sdd_views.specs.declared.PrivateItem.{PrivateItem}
-use Rattle.sdd_views.specs.declared.View.{View}
-use Rattle.sdd_views.specs.declared.Sizes.{Sizes}
+use Rattle.sdd_rights.specs.declared.views.PrivateItem.{PrivateItem}
+use Rattle.sdd_rights.specs.declared.views.View.{View}
+use Rattle.sdd_rights.specs.declared.views.Sizes.{Sizes}
 use Rattle.sdd_word_invariant.specs.Codes.{WordReading, emptied_word, left_word}
 use Rattle.sdd_word_invariant.specs.Slots.{slot_at, waits_in, Sees, IsTimed}
 use Rattle.sdd_word_invariant.specs.Sums.{total, is, times}

@@ -3,16 +3,16 @@ use Rattle.std.specs.Prelude.{◌≡◌, ℕ, ◌<◌, List, [], map, length}
 use mathlib.Core.Option.{some}
 use lib.ListN.{get_elem?}
 use Rattle.atomic_table.specs.Table.{State}
-use Rattle.sdd_views.specs.declared.EpochView.{EpochView}
-use Rattle.sdd_views.specs.declared.SlotsView.{SlotsView}
-use Rattle.sdd_views.specs.declared.View.{View}
-use Rattle.sdd_views.specs.declared.Sizes.{Sizes}
+use Rattle.sdd_rights.specs.declared.views.EpochView.{EpochView}
+use Rattle.sdd_rights.specs.declared.views.SlotsView.{SlotsView}
+use Rattle.sdd_rights.specs.declared.views.View.{View}
+use Rattle.sdd_rights.specs.declared.views.Sizes.{Sizes}
 use Rattle.sdd_word_invariant.specs.Words.{mark_word}
 use Rattle.sdd_word_invariant.specs.Codes.{codes}
 use Rattle.sdd_word_invariant.specs.Epoch.{EpochInvariant}
 use Rattle.sdd_word_invariant.specs.Slots.{SlotsInvariant, LoneInvariant}
 use Rattle.sdd_word_invariant.specs.Collectors.{CollectorsInvariant}
-use Rattle.sdd_views.specs.Views.{nobody, none_ended, bare, no_rights, at_rest, no_pledges}
+use Rattle.sdd_rights.specs.Views.{nobody, none_ended, bare, no_rights, at_rest, no_pledges}
 use Rattle.sdd_word_invariant.specs.SlotSteps.{blank}
 use Rattle.sdd_word_invariant.specs.Barred.{AreBarred, AreQuiet}
 

@@ -1,6 +1,6 @@
 -- Where the words of a domain are
 use Rattle.std.specs.Prelude.{◌⊎◌, ◌<◌, ◌≤◌, ℕ, ◌+◌, ◌*◌}
-use Rattle.sdd_views.specs.declared.Sizes.{Sizes}
+use Rattle.sdd_rights.specs.declared.views.Sizes.{Sizes}
 
 -- How far apart those words stand that different participants write: a processor keeps words by lines of 8, which it fetches
 -- by pairs, and who writes one takes the whole from all others that read there. So each participant writes in lines of its own.

@@ -2,10 +2,10 @@
 //!
 //! A cell is free, or holds no owner, or one, with a tag. Which owners it is for is known from the token of the right to it, beside which a participant steps.
 ghost use Rattle.std.specs.Prelude.{◌≡◌, ◌<◌, ℕ, Bool, [], ◌∷◌, None};
-ghost use Rattle.sdd_views.specs.declared.ShownValue.{ShownValue};
-ghost use Rattle.sdd_views.specs.declared.CellKind.{CellKind};
-ghost use Rattle.sdd_views.specs.contracts.View.{the_row};
-ghost use Rattle.sdd_views.specs.Views.{right_to};
+ghost use Rattle.sdd_rights.specs.declared.views.ShownValue.{ShownValue};
+ghost use Rattle.sdd_rights.specs.declared.views.CellKind.{CellKind};
+ghost use Rattle.sdd_rights.specs.contracts.views.View.{the_row};
+ghost use Rattle.sdd_rights.specs.Views.{right_to};
 ghost use Rattle.sdd_word_invariant.specs.Codes.{held_slots};
 ghost use Rattle.sdd_word_invariant.specs.Epoch.{HasPlace, IsOpen};
 ghost use Rattle.sdd_domain_invariant.specs.FilledInvariant.{HasRecord};
@@ -22,7 +22,7 @@ use crate::plays::{
     SeeIn, SwapBareCell, SwapCell,
 };
 use crate::words::cell_word;
-use sdd_views::CellKind;
+use sdd_rights::views::CellKind;
 use sdd_witness::{CompareExchange, Swap, Witness, part, step_beside};
 use std::marker::PhantomData;
 

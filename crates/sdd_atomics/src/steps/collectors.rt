@@ -3,8 +3,8 @@
 //! An item that waits is collected beside the right to the collector, so that nobody closes that meanwhile. The close claims what waits for its collector once
 //! it has looked at all places; the bag leaves what it finds claimed to it.
 ghost use Rattle.std.specs.Prelude.{◌≡◌, ◌<◌, ◌≤◌, ℕ, false, [], ◌∷◌, None};
-ghost use Rattle.sdd_views.specs.declared.CellKind.TheVariants.{Raw, Collector};
-ghost use Rattle.sdd_views.specs.declared.WaitingItem.{WaitingItem};
+ghost use Rattle.sdd_rights.specs.declared.views.CellKind.TheVariants.{Raw, Collector};
+ghost use Rattle.sdd_rights.specs.declared.views.WaitingItem.{WaitingItem};
 ghost use Rattle.sdd_word_invariant.specs.Codes as codes;
 ghost use Rattle.sdd_word_invariant.specs.Codes.{free_word};
 ghost use Rattle.sdd_word_invariant.specs.Epoch.{HasPlace};

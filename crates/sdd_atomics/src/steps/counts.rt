@@ -1,6 +1,6 @@
 //! The counts of a place that has ended, which leave its token and come to that of the close.
 ghost use Rattle.std.specs.Prelude.{◌≡◌, ◌<◌};
-ghost use Rattle.sdd_views.specs.declared.CountsView.{CountsView};
+ghost use Rattle.sdd_rights.specs.declared.views.CountsView.{CountsView};
 ghost use Rattle.sdd_domain_invariant.specs.Counts.{over_by};
 ghost use Rattle.sdd_domain_invariant.specs.FractionSteps.{counts_token, counting};
 ghost use Rattle.sdd_atomics.specs.DomainTable.{id_of};

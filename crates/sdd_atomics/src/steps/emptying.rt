@@ -3,7 +3,7 @@ ghost use Rattle.std.specs.Prelude.{◌≡◌, ◌<◌, true, None};
 ghost use Rattle.sdd_word_invariant.specs.Codes as codes;
 ghost use Rattle.sdd_word_invariant.specs.Codes.{free_word};
 ghost use Rattle.sdd_word_invariant.specs.Epoch.{HasPlace};
-ghost use Rattle.sdd_views.specs.declared.PrivateItem.{PrivateItem};
+ghost use Rattle.sdd_rights.specs.declared.views.PrivateItem.{PrivateItem};
 ghost use Rattle.sdd_word_invariant.specs.Collectors.{Empties, HasPrivate};
 ghost use Rattle.sdd_word_invariant.specs.CollectorSteps.{WaitsFor};
 ghost use Rattle.sdd_shared_values.specs.SharedValues.{IsNoValueCode};

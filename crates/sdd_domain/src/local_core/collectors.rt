@@ -8,7 +8,7 @@ ghost use Rattle.sdd_rights.specs.StandingKind.{is_shared};
 ghost use Rattle.sdd_rights.specs.Right.{number_of, home_of, kind_of, raw_number_of, raw_home_of};
 ghost use Rattle.sdd_word_invariant.specs.Codes.{held_slots};
 ghost use Rattle.sdd_rights.specs.Owner.{witness_of_cell};
-ghost use Rattle.sdd_views.specs.declared.CellKind.TheVariants.{Collector as of_closed};
+ghost use Rattle.sdd_rights.specs.declared.views.CellKind.TheVariants.{Collector as of_closed};
 ghost use Rattle.sdd_shared_values.specs.SharedValues.{showing};
 ghost use Rattle.sdd_space.specs.OwnerOrCell.{AreOf};
 ghost use Rattle.sdd_domain_slots.specs.SpaceIds.{home_in, cells_home};

@@ -1,6 +1,6 @@
 use Rattle.std.proofs.Common.{ℕ, arith, subst}
 use Rattle.sdd_word_invariant.specs.Barred.{Bars}
-use Rattle.sdd_views.specs.declared.Sizes.{Sizes}
+use Rattle.sdd_rights.specs.declared.views.Sizes.{Sizes}
 use Rattle.sdd_atomics.specs.DomainSeat.{Taught}
 use Rattle.sdd_atomics.proofs.Allowed.{taught, may_bar}
 use Rattle.sdd_atomics.proofs.steps.bar.Goals as goal

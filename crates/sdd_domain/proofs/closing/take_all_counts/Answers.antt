@@ -1,5 +1,5 @@
 use Rattle.std.proofs.Common.{◌≡◌, false, List, [], ◌∷◌, ◌++◌, All, sym, ap, ◌∙◌, subst, append_assoc}
-use Rattle.sdd_views.specs.declared.View.{View}
+use Rattle.sdd_rights.specs.declared.views.View.{View}
 use Rattle.sdd_atomics.specs.DomainTable.{id_of}
 use Rattle.sdd_domain_slots.specs.Receipt.{Receipt, HasTaken}
 use Rattle.sdd_domain.proofs.Tallies.{front_all, one_taken}

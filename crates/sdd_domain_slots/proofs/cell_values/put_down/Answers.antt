@@ -1,5 +1,5 @@
 use Rattle.std.proofs.Common.{ℕ, ◌<◌, [], ◌∷◌, sym, ap, ◌∙◌, subst}
-use Rattle.sdd_views.specs.declared.Sizes.{Sizes}
+use Rattle.sdd_rights.specs.declared.views.Sizes.{Sizes}
 use Rattle.sdd_domain_slots.proofs.CellWords.{named}
 use Rattle.sdd_domain_slots.proofs.cell_values.put_down.Goals as goal
 

@@ -1,5 +1,5 @@
 use Rattle.std.proofs.Common.{ap, arith}
-use Rattle.sdd_views.specs.declared.Sizes.{Sizes}
+use Rattle.sdd_rights.specs.declared.views.Sizes.{Sizes}
 use Rattle.sdd_domain_slots.proofs.Moving.{tried_at_once}
 use Rattle.sdd_domain_slots.proofs.claims.claim_at_once.Goals as goal
 

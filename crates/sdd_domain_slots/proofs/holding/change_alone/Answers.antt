@@ -2,8 +2,8 @@ use Rattle.std.proofs.Common.{ℕ, [], ◌∷◌, refl, ap, ◌∙◌}
 use Rattle.std.specs.Fn.{FnOnceReturnsAtMut}
 use base.Stored.{Gv}
 use Rattle.sdd_shared_values.specs.SharedValues.{IsNoValueCode, showing}
-use Rattle.sdd_views.specs.declared.View.{View}
-use Rattle.sdd_views.specs.contracts.View.{the_row}
+use Rattle.sdd_rights.specs.declared.views.View.{View}
+use Rattle.sdd_rights.specs.contracts.views.View.{the_row}
 use Rattle.sdd_domain_invariant.specs.FractionSteps.{departing, drawing, parting, resting, telling}
 use Rattle.sdd_atomics.specs.DomainTable.{book_of, places_of}
 use Rattle.sdd_domain_slots.specs.InPlace.{let_go_of}

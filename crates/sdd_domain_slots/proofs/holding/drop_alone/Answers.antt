@@ -1,7 +1,7 @@
 use Rattle.std.proofs.Common.{ap, ◌∙◌}
 use Rattle.sdd_shared_values.specs.SharedValues.{IsNoValueCode}
-use Rattle.sdd_views.specs.declared.Sizes.{Sizes}
-use Rattle.sdd_views.specs.declared.View.{View}
+use Rattle.sdd_rights.specs.declared.views.Sizes.{Sizes}
+use Rattle.sdd_rights.specs.declared.views.View.{View}
 use Rattle.sdd_atomics.specs.DomainTable.{book_of, places_of}
 use Rattle.sdd_domain_slots.proofs.Moving.{rest_out}
 use Rattle.sdd_domain_slots.proofs.holding.drop_alone.Goals as goal

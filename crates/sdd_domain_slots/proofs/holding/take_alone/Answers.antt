@@ -3,8 +3,8 @@ use base.Stored.{Gv}
 use Rattle.atomic_table.specs.declared.shared.Seat.{Seat}
 use Rattle.sdd_shared_values.specs.declared.value_fraction.ValueFraction.{ValueFraction}
 use Rattle.sdd_shared_values.specs.SharedValues.{IsValueCode, IsNoValueCode, vacant, showing}
-use Rattle.sdd_views.specs.declared.View.{View}
-use Rattle.sdd_views.specs.declared.ShownValue.{ShownValue}
+use Rattle.sdd_rights.specs.declared.views.View.{View}
+use Rattle.sdd_rights.specs.declared.views.ShownValue.{ShownValue}
 use Rattle.std.specs.Prelude.{List}
 use Rattle.sdd_domain_invariant.specs.FractionsAtHome.{CarriedFractions}
 use Rattle.sdd_domain_invariant.specs.FractionSteps.{CarriesAll, IsValue}

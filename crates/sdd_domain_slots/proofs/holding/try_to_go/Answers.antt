@@ -6,8 +6,8 @@ use Rattle.atomic_table.specs.declared.shared.Seat.{Seat}
 use Rattle.sdd_shared_values.specs.declared.value_fraction.ValueFraction.{ValueFraction}
 use Rattle.sdd_shared_values.specs.SharedValues.{showing}
 use Rattle.sdd_rights.specs.Owner.{one-shown, witness_of_owner}
-use Rattle.sdd_views.specs.declared.ShownValue.{ShownValue}
-use Rattle.sdd_views.specs.declared.View.{View}
+use Rattle.sdd_rights.specs.declared.views.ShownValue.{ShownValue}
+use Rattle.sdd_rights.specs.declared.views.View.{View}
 use Rattle.sdd_word_invariant.specs.Epoch.{IsLone}
 use Rattle.sdd_word_invariant.specs.SlotSteps.{Knew, discarded}
 use Rattle.sdd_domain_invariant.specs.FractionSteps.{dropping, moving, undrawing, untold}

@@ -1,5 +1,5 @@
 use Rattle.std.proofs.Common.{refl, sym, ◌∙◌, subst, arith}
-use Rattle.sdd_views.specs.declared.EpochView.{EpochView}
+use Rattle.sdd_rights.specs.declared.views.EpochView.{EpochView}
 use Rattle.sdd_word_invariant.specs.EpochSteps.{Takes}
 use Rattle.sdd_atomics.proofs.Allowed.{same_but_on}
 use mathlib.Core.Logic.{dite}

@@ -1,5 +1,5 @@
 use Rattle.std.proofs.Common.{ap, ◌∙◌}
-use Rattle.sdd_views.specs.declared.View.{View}
+use Rattle.sdd_rights.specs.declared.views.View.{View}
 use Rattle.sdd_domain_slots.proofs.quiet.bar_all.Goals as goal
 
 pub loop-place-preserved : goal.loop-place-preserved

@@ -1,5 +1,5 @@
 use Rattle.std.proofs.Common.{◌≡◌}
-use Rattle.sdd_views.specs.Views.{no_counts}
+use Rattle.sdd_rights.specs.Views.{no_counts}
 use Rattle.sdd_atomics.specs.DomainTable.{id_of, sizes_of}
 use Rattle.sdd_domain_slots.specs.Sightings.{KeepsMarks}
 use Rattle.sdd_domain_slots.proofs.quiet.bar_all.Given as goal

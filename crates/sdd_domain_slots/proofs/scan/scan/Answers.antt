@@ -1,8 +1,8 @@
 use Rattle.std.proofs.Common.{ℕ, sym, ap, ◌∙◌, subst, true≢false}
 use Rattle.atomic_table.specs.declared.shared.Seat.{Seat}
-use Rattle.sdd_views.specs.declared.EpochView.{EpochView}
+use Rattle.sdd_rights.specs.declared.views.EpochView.{EpochView}
 use Rattle.sdd_shared_values.specs.declared.value_fraction.ValueFraction.{ValueFraction}
-use Rattle.sdd_views.specs.declared.View.{View}
+use Rattle.sdd_rights.specs.declared.views.View.{View}
 use Rattle.sdd_word_invariant.specs.Epoch.{IsLone}
 use Rattle.sdd_word_invariant.specs.EpochSteps.{Reads, Locks, unlocked}
 use Rattle.sdd_domain_slots.specs.declared.scan.ScanEnd.{ScanEnd}

@@ -1,7 +1,7 @@
 use Rattle.std.proofs.Common.{◌≡◌, inl, refl, sym, subst}
 use Rattle.atomic_table.specs.declared.shared.Seat.{Seat}
 use Rattle.sdd_shared_values.specs.declared.value_fraction.ValueFraction.{ValueFraction}
-use Rattle.sdd_views.specs.declared.View.{View}
+use Rattle.sdd_rights.specs.declared.views.View.{View}
 use Rattle.sdd_domain_invariant.specs.FractionSteps.{IsStill}
 use Rattle.sdd_domain_slots.specs.Cells.{IsWith}
 use Rattle.sdd_domain_slots.specs.declared.seen_owners.Tried.TheVariants.{Came, Gone, Most, Lost}

@@ -1,8 +1,8 @@
 use Rattle.std.proofs.Common.{◌≡◌, ℕ, ◌∷◌, [], List, ◌⊎◌, ◌+◌, true, sym, ap, ◌∙◌, subst, arith, rules}
 use base.Stored.{Gv}
-use Rattle.sdd_views.specs.declared.View.{View}
-use Rattle.sdd_views.specs.declared.EpochView.{EpochView}
-use Rattle.sdd_views.specs.declared.ShownValue.{ShownValue}
+use Rattle.sdd_rights.specs.declared.views.View.{View}
+use Rattle.sdd_rights.specs.declared.views.EpochView.{EpochView}
+use Rattle.sdd_rights.specs.declared.views.ShownValue.{ShownValue}
 use Rattle.sdd_word_invariant.specs.Codes.{alive, counted}
 use Rattle.std.specs.Prelude.{None, slice_index}
 use Rattle.sdd_word_invariant.specs.Epoch.{HasPlace, IsLone}

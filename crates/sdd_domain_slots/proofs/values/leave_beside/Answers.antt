@@ -8,7 +8,7 @@ use Rattle.sdd_rights.specs.Owner.{one-shown}
 use Rattle.sdd_shared_values.specs.SharedValues.{IsValueCode}
 use Rattle.sdd_shared_values.specs.ValueFractions.{FractionContent}
 use Rattle.sdd_domain_invariant.specs.Records.{IsIn}
-use Rattle.sdd_views.specs.declared.View.{View}
+use Rattle.sdd_rights.specs.declared.views.View.{View}
 use Rattle.sdd_domain_slots.proofs.Beside.{entered_view, entered_home, entered_owns, entered_told, gone, still_home, still_knows, still_place, still_rests, still_told, still_owns, never_lone, unit_is, drawn_home, drawn_knows, drawn_place, drawn_owns, drawn_free, back_unmoved, back_shows, back_grip}
 use Rattle.sdd_domain_slots.proofs.values.leave_beside.Goals as goal
 

@@ -4,7 +4,7 @@ use Rattle.sdd_space.specs.OwnerOrCell.{AreOf}
 use Rattle.sdd_domain_slots.specs.SpaceIds.{home_of_slots}
 use base.Stored.{Gv}
 use Rattle.sdd_shared_values.specs.SharedValues.{IsNoValueCode, lot, showing}
-use Rattle.sdd_views.specs.declared.View.{View}
+use Rattle.sdd_rights.specs.declared.views.View.{View}
 use Rattle.sdd_word_invariant.specs.Sums.{times}
 use Rattle.sdd_word_invariant.specs.Codes.{counted}
 use Rattle.sdd_domain_invariant.specs.KindsInvariant.{written}

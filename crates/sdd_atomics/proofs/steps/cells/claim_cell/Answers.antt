@@ -1,6 +1,6 @@
 use Rattle.std.proofs.Common.{true, false, sym, ◌∙◌, subst, arith}
-use Rattle.sdd_views.specs.declared.CellKind.{CellKind}
-use Rattle.sdd_views.specs.declared.CellKind.TheVariants.{Raw}
+use Rattle.sdd_rights.specs.declared.views.CellKind.{CellKind}
+use Rattle.sdd_rights.specs.declared.views.CellKind.TheVariants.{Raw}
 use Rattle.sdd_domain_invariant.specs.CellSteps.{ClaimsCell, OfCell}
 use Rattle.sdd_atomics.specs.Cells.{FitsCell}
 use Rattle.sdd_atomics.proofs.Cells.{cell_moved, may_claim, may_claim_bare}

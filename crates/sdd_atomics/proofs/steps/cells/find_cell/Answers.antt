@@ -1,5 +1,5 @@
 use Rattle.std.proofs.Common.{sym, ◌∙◌}
-use Rattle.sdd_views.specs.Views.{right_to}
+use Rattle.sdd_rights.specs.Views.{right_to}
 use Rattle.sdd_atomics.proofs.Cells.{may_find_cell}
 use Rattle.sdd_atomics.proofs.Shown.{view_is}
 use Rattle.sdd_atomics.proofs.steps.cells.find_cell.Goals as goal

@@ -1,6 +1,6 @@
 use Rattle.std.proofs.Common.{sym, ◌∙◌}
 use Rattle.sdd_rights.specs.Owner.{cell_kind}
-use Rattle.sdd_views.specs.Views.{right_to}
+use Rattle.sdd_rights.specs.Views.{right_to}
 use Rattle.sdd_atomics.proofs.Cells.{may_recall_cell}
 use Rattle.sdd_atomics.proofs.Shown.{view_is}
 use Rattle.sdd_atomics.proofs.steps.cells.recall_cell.Goals as goal

@@ -1,6 +1,6 @@
 use Rattle.std.proofs.Common.{sym, ap, ◌∙◌}
-use Rattle.sdd_views.specs.declared.View.{View}
-use Rattle.sdd_views.specs.Views.{right_to}
+use Rattle.sdd_rights.specs.declared.views.View.{View}
+use Rattle.sdd_rights.specs.Views.{right_to}
 use Rattle.sdd_domain_invariant.specs.FractionSteps.{SeatState}
 use Rattle.sdd_domain_invariant.specs.CellSteps.{righted}
 use Rattle.sdd_domain_invariant.proofs.RightTokens.{joins_right}

@@ -1,10 +1,10 @@
 use Rattle.std.proofs.Common.{ℕ, refl, sym, ap, ◌∙◌, arith}
 use base.Fml.{Share}
 use Rattle.sdd_witness.specs.Ledger.{Pledge}
-use Rattle.sdd_views.specs.declared.CellKind.TheVariants.{Raw}
-use Rattle.sdd_views.specs.declared.Sizes.{Sizes}
-use Rattle.sdd_views.specs.contracts.View.{the_row}
-use Rattle.sdd_views.specs.Views.{right_to}
+use Rattle.sdd_rights.specs.declared.views.CellKind.TheVariants.{Raw}
+use Rattle.sdd_rights.specs.declared.views.Sizes.{Sizes}
+use Rattle.sdd_rights.specs.contracts.views.View.{the_row}
+use Rattle.sdd_rights.specs.Views.{right_to}
 use Rattle.sdd_word_invariant.specs.Words.{slot_word}
 use Rattle.sdd_domain_invariant.proofs.Cloning as cloning
 use Rattle.sdd_atomics.specs.DomainTable.{book_of, sizes_of}

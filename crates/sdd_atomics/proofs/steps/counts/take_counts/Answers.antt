@@ -1,5 +1,5 @@
 use Rattle.std.proofs.Common.{sym, ap, ◌∙◌}
-use Rattle.sdd_views.specs.declared.View.{View}
+use Rattle.sdd_rights.specs.declared.views.View.{View}
 use Rattle.sdd_domain_invariant.specs.FractionSteps.{SeatState, counts_token, counting}
 use Rattle.sdd_domain_invariant.proofs.Tokens.{joins_counts}
 use Rattle.sdd_atomics.proofs.Shown.{view_is}

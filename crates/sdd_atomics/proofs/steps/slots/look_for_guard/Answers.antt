@@ -1,5 +1,5 @@
 use Rattle.std.proofs.Common.{ℕ, ◌∙◌, sym, ap, arith, subst}
-use Rattle.sdd_views.specs.declared.Sizes.{Sizes}
+use Rattle.sdd_rights.specs.declared.views.Sizes.{Sizes}
 use Rattle.sdd_word_invariant.specs.Words.{state_word}
 use Rattle.sdd_word_invariant.specs.SlotSteps.{LooksForGuard}
 use Rattle.sdd_atomics.specs.DomainSeat.{Taught}

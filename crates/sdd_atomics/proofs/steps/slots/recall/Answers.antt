@@ -1,5 +1,5 @@
 use Rattle.std.proofs.Common.{sym, ◌∙◌}
-use Rattle.sdd_views.specs.Views.{owner_of}
+use Rattle.sdd_rights.specs.Views.{owner_of}
 use Rattle.sdd_atomics.proofs.Allowed.{may_recall}
 use Rattle.sdd_atomics.proofs.Shown.{view_is}
 use Rattle.sdd_atomics.proofs.steps.slots.recall.Goals as goal

@@ -1,6 +1,6 @@
 use Rattle.std.proofs.Common.{sym, ap, ◌∙◌}
-use Rattle.sdd_views.specs.declared.View.{View}
-use Rattle.sdd_views.specs.Views.{owner_of}
+use Rattle.sdd_rights.specs.declared.views.View.{View}
+use Rattle.sdd_rights.specs.Views.{owner_of}
 use Rattle.sdd_domain_invariant.specs.FractionSteps.{SeatState, regained}
 use Rattle.sdd_domain_invariant.proofs.Tokens.{joins_owner}
 use Rattle.sdd_atomics.proofs.Shown.{view_is}

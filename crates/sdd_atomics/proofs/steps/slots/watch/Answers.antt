@@ -1,5 +1,5 @@
 use Rattle.std.proofs.Common.{sym, ◌∙◌, arith}
-use Rattle.sdd_views.specs.Views.{owner_of}
+use Rattle.sdd_rights.specs.Views.{owner_of}
 use Rattle.sdd_atomics.proofs.Allowed.{may_watch}
 use Rattle.sdd_atomics.proofs.Shown.{view_is}
 use Rattle.sdd_atomics.proofs.steps.slots.watch.Goals as goal

@@ -1,8 +1,8 @@
 use Rattle.std.proofs.Common.{rules, ◌≡◌, ℕ, ◌+◌, ◌-◌, ◌≤◌, List, length, sym, ap, ◌∙◌, subst, arith}
 use Rattle.core.specs.Mem.Slots.{slots_items}
 use Rattle.sdd_rights.specs.Units as token
-use Rattle.sdd_views.specs.declared.EndedView.{EndedView}
-use Rattle.sdd_views.specs.declared.Sizes.{Sizes}
+use Rattle.sdd_rights.specs.declared.views.EndedView.{EndedView}
+use Rattle.sdd_rights.specs.declared.views.Sizes.{Sizes}
 use Rattle.sdd_domain_invariant.specs.Counts.{full_slots}
 use Rattle.sdd_atomics.specs.DomainTable.{sizes_of}
 use Rattle.sdd_domain.specs.Domain.{slots_in}

@@ -7,9 +7,9 @@ use Rattle.sdd_participants.specs.declared.participant.Participant.{Participant}
 use Rattle.sdd_participants.specs.declared.waiting.LimboEntry.{LimboEntry}
 use Rattle.sdd_rights.specs.Owner.{witness_of_cell}
 use Rattle.sdd_rights.specs.Right.{raw_number_of}
-use Rattle.sdd_views.specs.declared.CellKind.TheVariants.{Collector as of_closed}
-use Rattle.sdd_views.specs.declared.Sizes.{Sizes}
-use Rattle.sdd_views.specs.declared.View.{View}
+use Rattle.sdd_rights.specs.declared.views.CellKind.TheVariants.{Collector as of_closed}
+use Rattle.sdd_rights.specs.declared.views.Sizes.{Sizes}
+use Rattle.sdd_rights.specs.declared.views.View.{View}
 use Rattle.sdd_word_invariant.specs.Slots.{waits_in}
 use Rattle.sdd_word_invariant.proofs.Sums.{is_same, total_has}
 use Rattle.sdd_domain_slots.specs.BetweenCalls.{AreLentTo, IsBetweenCalls, IsReady}

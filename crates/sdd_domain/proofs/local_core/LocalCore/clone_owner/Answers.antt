@@ -9,7 +9,7 @@ use Rattle.sdd_rights.specs.declared.read_fraction.ReadFraction.{ReadFraction}
 use Rattle.sdd_shared_values.specs.SharedValues.{IsValueCode}
 use Rattle.sdd_shared_values.specs.ValueFractions.{FractionContent}
 use Rattle.sdd_shared_values.specs.declared.value_fraction.ValueFraction.{ValueFraction}
-use Rattle.sdd_views.specs.declared.View.{View}
+use Rattle.sdd_rights.specs.declared.views.View.{View}
 use Rattle.sdd_word_invariant.specs.SlotSteps.{behind, noted}
 use Rattle.sdd_domain_slots.specs.Items.{slots_home}
 use Rattle.sdd_domain_slots.specs.LocalState.{AddsAt, HasMost, IsLone, KnowsOwner, LocalState}

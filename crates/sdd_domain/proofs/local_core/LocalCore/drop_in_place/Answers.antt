@@ -11,7 +11,7 @@ use Rattle.sdd_rights.specs.Right.{number_of}
 use Rattle.sdd_shared_values.specs.SharedValues.{showing}
 use Rattle.sdd_shared_values.specs.declared.value_fraction.ValueFraction.{ValueFraction}
 use Rattle.sdd_space.specs.OwnerOrCell.{AreOf}
-use Rattle.sdd_views.specs.declared.View.{View}
+use Rattle.sdd_rights.specs.declared.views.View.{View}
 use Rattle.sdd_word_invariant.specs.Epoch.{IsLone as IsLoneAt}
 use Rattle.sdd_word_invariant.specs.SlotSteps.{noted}
 use Rattle.sdd_atomics.specs.DomainTable.{id_of, book_of, slots_of}

@@ -1,7 +1,7 @@
 use Rattle.std.proofs.Common.{sym, ap, ◌∙◌, subst}
 use Rattle.sdd_participants.specs.declared.tally.Tally.{Tally}
-use Rattle.sdd_views.specs.declared.CountsView.{CountsView}
-use Rattle.sdd_views.specs.declared.View.{View}
+use Rattle.sdd_rights.specs.declared.views.CountsView.{CountsView}
+use Rattle.sdd_rights.specs.declared.views.View.{View}
 use Rattle.sdd_atomics.specs.DomainTable.{sizes_of, slots_of}
 use Rattle.sdd_domain_slots.specs.InBags.{known_waiting}
 use Rattle.sdd_domain_slots.specs.LocalState.{LocalState, waits}

@@ -2,8 +2,8 @@ use Rattle.std.proofs.Common.{◌≡◌, None, refl, sym, ap, ◌∙◌, subst}
 use Rattle.sdd_atomics.specs.DomainTable.{slots_of}
 use Rattle.sdd_domain_invariant.specs.CellSteps.{rightless}
 use Rattle.sdd_domain_invariant.specs.FractionSteps.{SeatState}
-use Rattle.sdd_views.specs.declared.CellKind.TheVariants.{Collector as of_closed}
-use Rattle.sdd_views.specs.declared.View.{View}
+use Rattle.sdd_rights.specs.declared.views.CellKind.TheVariants.{Collector as of_closed}
+use Rattle.sdd_rights.specs.declared.views.View.{View}
 use Rattle.sdd_word_invariant.specs.CollectorSteps.{closed_none}
 use Rattle.sdd_domain_slots.specs.BetweenCalls.{AreLentTo, IsReady}
 use Rattle.sdd_domain_slots.specs.InBags.{known_waiting}

@@ -5,8 +5,8 @@ use Rattle.atomic_table.specs.declared.shared.Seat.{Seat}
 use Rattle.sdd_shared_values.specs.CarriedFractions.{lots}
 use Rattle.sdd_shared_values.specs.SharedValues.{CanShow, showing}
 use Rattle.sdd_shared_values.specs.declared.value_fraction.ValueFraction.{ValueFraction}
-use Rattle.sdd_views.specs.declared.View.{View}
-use Rattle.sdd_views.specs.declared.Sizes.{Sizes}
+use Rattle.sdd_rights.specs.declared.views.View.{View}
+use Rattle.sdd_rights.specs.declared.views.Sizes.{Sizes}
 use Rattle.sdd_domain_invariant.specs.FractionSteps.{SeesOwned}
 use Rattle.sdd_domain_invariant.proofs.Records.{in_times}
 use Rattle.sdd_atomics.specs.DomainTable.{book_of, places_of}

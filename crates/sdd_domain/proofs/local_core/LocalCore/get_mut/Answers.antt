@@ -9,7 +9,7 @@ use Rattle.sdd_rights.specs.Right.{AreSlotsOfTable, IsOwnerBy, home_of, kind_of,
 use Rattle.sdd_shared_values.specs.SharedValues.{showing}
 use Rattle.sdd_shared_values.specs.declared.value_fraction.ValueFraction.{ValueFraction}
 use Rattle.sdd_space.specs.OwnerOrCell.{AreOf}
-use Rattle.sdd_views.specs.declared.View.{View}
+use Rattle.sdd_rights.specs.declared.views.View.{View}
 use Rattle.sdd_atomics.specs.DomainTable.{slots_of}
 use Rattle.sdd_domain_slots.specs.BetweenCalls.{AreLentTo, IsReady}
 use Rattle.sdd_domain_slots.specs.InBags.{known_waiting}

@@ -1,5 +1,5 @@
 use Rattle.std.proofs.Common.{◌≡◌, ℕ, ◌<◌, ap, ◌∙◌, subst, arith}
-use Rattle.sdd_views.specs.declared.Sizes.{Sizes}
+use Rattle.sdd_rights.specs.declared.views.Sizes.{Sizes}
 use Rattle.sdd_atomics.specs.DomainTable.{slots_of}
 use Rattle.sdd_domain_slots.specs.LocalState.{LocalState, IsFree}
 use Rattle.sdd_domain.proofs.local_core.LocalCore.has_slot.Goals as goal

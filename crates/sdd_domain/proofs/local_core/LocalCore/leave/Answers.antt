@@ -1,6 +1,6 @@
 use Rattle.std.proofs.Common.{rules, arith, ◌≡◌, ◌≢◌, ◌<◌, ◌^◌, sym, subst, ap, ◌∙◌, ⊎_elim}
 use Rattle.sdd_participants.specs.declared.participant.Participant.{Participant}
-use Rattle.sdd_views.specs.declared.Sizes.{Sizes}
+use Rattle.sdd_rights.specs.declared.views.Sizes.{Sizes}
 use Rattle.sdd_domain_slots.specs.LocalState.{LocalState, IsLone}
 use Rattle.sdd_domain_slots.proofs.Posing.{known_fits}
 use Rattle.sdd_domain_slots.proofs.Scans.{tells_as}

@@ -7,8 +7,8 @@ use Rattle.sdd_rights.specs.StandingKind.{is_shared}
 use Rattle.sdd_shared_values.specs.CarriedFractions.{lots}
 use Rattle.sdd_shared_values.specs.SharedValues.{CanShow, showing}
 use Rattle.sdd_shared_values.specs.declared.value_fraction.ValueFraction.{ValueFraction}
-use Rattle.sdd_views.specs.declared.View.{View}
-use Rattle.sdd_views.specs.declared.Sizes.{Sizes}
+use Rattle.sdd_rights.specs.declared.views.View.{View}
+use Rattle.sdd_rights.specs.declared.views.Sizes.{Sizes}
 use Rattle.sdd_word_invariant.specs.Codes.{held_slots}
 use Rattle.sdd_domain_invariant.specs.FractionSteps.{SeesOwned}
 use Rattle.sdd_domain_invariant.specs.CellSteps.{SeesInCell}

@@ -3,8 +3,8 @@ use Rattle.sdd_space.specs.OwnerOrCell.{AreOf}
 use Rattle.sdd_domain_slots.specs.SpaceIds.{home_in}
 use Rattle.sdd_domain_slots.specs.LocalState.{LocalState}
 use Rattle.sdd_domain_slots.proofs.Housed.{to_board, on_board}
-use Rattle.sdd_views.specs.declared.Sizes.{Sizes}
-use Rattle.sdd_views.specs.declared.View.{View}
+use Rattle.sdd_rights.specs.declared.views.Sizes.{Sizes}
+use Rattle.sdd_rights.specs.declared.views.View.{View}
 use Rattle.sdd_participants.specs.declared.tally.Tally.{Tally}
 use Rattle.sdd_participants.specs.Tally.{one_made}
 use Rattle.sdd_shared_values.specs.SharedValues.{showing}

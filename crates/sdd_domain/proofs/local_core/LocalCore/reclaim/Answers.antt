@@ -3,12 +3,12 @@ use Rattle.sdd_shared_values.specs.SharedValues.{showing}
 use Rattle.sdd_participants.specs.declared.waiting.LimboEntry.TheVariants.{Item}
 use Rattle.sdd_participants.specs.declared.tally.Tally.{Tally}
 use Rattle.sdd_participants.specs.Tally.{one_reclaimed}
-use Rattle.sdd_views.specs.declared.Sizes.{Sizes}
+use Rattle.sdd_rights.specs.declared.views.Sizes.{Sizes}
 use Rattle.sdd_word_invariant.specs.Sums.{total}
 use Rattle.sdd_word_invariant.specs.Slots.{waits_in}
 use Rattle.sdd_word_invariant.proofs.Owning.{item_kept}
 use Rattle.sdd_atomics.specs.DomainTable.{sizes_of, slots_of}
-use Rattle.sdd_views.specs.declared.View.{View}
+use Rattle.sdd_rights.specs.declared.views.View.{View}
 use Rattle.sdd_space.specs.OwnerOrCell.{AreOf}
 use Rattle.sdd_domain_slots.specs.SpaceIds.{home_in}
 use Rattle.sdd_domain_slots.specs.LocalState.{LocalState}

@@ -19,10 +19,10 @@ use Rattle.sdd_domain_slots.specs.InBags.{AreInBags, KnownWaiting, TellsCollecto
 use Rattle.sdd_domain_slots.proofs.InBags.{one_more, room_left}
 use Rattle.sdd_domain_slots.proofs.Reclaims.{what_item}
 use Rattle.sdd_domain_slots.specs.Receipt.{IsTallied}
-use Rattle.sdd_views.specs.declared.View.{View}
+use Rattle.sdd_rights.specs.declared.views.View.{View}
 use Rattle.atomic_table.specs.declared.shared.Seat.{Seat}
-use Rattle.sdd_views.specs.declared.Sizes.{Sizes}
-use Rattle.sdd_views.specs.Views.{owner_of}
+use Rattle.sdd_rights.specs.declared.views.Sizes.{Sizes}
+use Rattle.sdd_rights.specs.Views.{owner_of}
 use Rattle.sdd_shared_values.specs.declared.value_fraction.ValueFraction.{ValueFraction}
 use Rattle.sdd_domain_invariant.specs.FractionSteps.{regained}
 use Rattle.sdd_rights.specs.StandingKind.{is_shared}

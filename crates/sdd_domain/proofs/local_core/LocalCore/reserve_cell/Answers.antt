@@ -1,7 +1,7 @@
 use Rattle.std.proofs.Common.{rules, refl, sym, ap, ◌∙◌, subst}
 use Rattle.sdd_core.specs.declared.refused.Refused.{Refused}
-use Rattle.sdd_views.specs.declared.View.{View}
-use Rattle.sdd_views.specs.declared.Sizes.{Sizes}
+use Rattle.sdd_rights.specs.declared.views.View.{View}
+use Rattle.sdd_rights.specs.declared.views.Sizes.{Sizes}
 use Rattle.sdd_domain_slots.specs.LocalState.{LocalState}
 use Rattle.sdd_domain_slots.specs.Cells.{ClaimsNone}
 use Rattle.sdd_domain_slots.proofs.HeldOwners.{none_claimed}

@@ -1,5 +1,5 @@
 use Rattle.std.proofs.Common.{true≢false, ap, arith}
-use Rattle.sdd_views.specs.declared.Sizes.{Sizes}
+use Rattle.sdd_rights.specs.declared.views.Sizes.{Sizes}
 use Rattle.sdd_domain_slots.proofs.Moving.{gains}
 use Rattle.sdd_domain_slots.proofs.search.Search.slot.Goals as goal
 

@@ -1,0 +1,254 @@
+-- What a change of a link leaves in hand: it is sound, and it is what the call means
+use Rattle.std.proofs.Common.{◌≡◌, ◌≢◌, ◌+◌, ℕ, Bool, true, false, List, [], ◌∷◌, Option, None, Some, inl, inr, slice_index_or, slice_set, refl, sym, ap, ◌∙◌, subst}
+use Rattle.std.specs.Prelude.{IfSome, IsSome, IsTrue}
+use Rattle.std.specs.Option.{option_map}
+use Rattle.std.specs.Global.{Vec}
+use Rattle.sdd_core.specs.declared.tag.Tag.{Tag}
+use Rattle.sdd_core.specs.declared.tag.Tag.TheVariants.{None as no_tag, Both, Second}
+use Rattle.sdd_participants.specs.Slab.{entry_at}
+use Rattle.sdd_participants.specs.declared.standing.CellContents.{CellContents}
+use Rattle.sdd_space.specs.World.{World, standing_at, value_at}
+use Rattle.sdd_space.specs.WorldInvariant.{IsWhole}
+use Rattle.sdd_space.specs.Ledger.{Claim}
+use Rattle.sdd_space.specs.Out.{is_out}
+use Rattle.sdd_space.specs.Shared.{holding_of, slot_of}
+use Rattle.sdd_space.specs.WorldChanges.{held_in}
+use Rattle.sdd_space.specs.declared.shared.Shared.{Shared}
+use Rattle.sdd_lists.specs.Behind.{IsFresh, mark_tag}
+use Rattle.sdd_lists.specs.Ends.{IsAmong}
+use Rattle.sdd_lists.specs.Marks.{says_deleted}
+use Rattle.sdd_lists.specs.Lists.{AreLinked, Entry, IsList, first_slot, left, linked_in, trimmed}
+use Rattle.sdd_world.specs.Place.{index_of}
+use Rattle.sdd_script_text.specs.declared.name.PlaceName.{PlaceName}
+use Rattle.sdd_script_text.specs.declared.name.ItemName.{ItemName}
+use Rattle.sdd_script_text.specs.declared.name.GuardName.{GuardName}
+use Rattle.sdd_script_text.specs.declared.name.OwnerName.{OwnerName}
+use Rattle.sdd_script_text.specs.declared.call.Call.TheVariants.{At}
+use Rattle.sdd_script_text.specs.declared.call.Action.TheVariants as call
+use Rattle.sdd_script_text.specs.declared.answer.Reply.TheVariants as reply
+use Rattle.sdd_script_model.specs.declared.link_change.LinkChange.{LinkChange}
+use Rattle.sdd_script_model.specs.declared.link_change.LinkChange.TheVariants.{Mark, Unmark, Delete}
+use Rattle.sdd_script_model.specs.Val.{Val, link_of}
+use Rattle.sdd_script_model.specs.Appending.{IsLooseEntry, MayAppend}
+use Rattle.sdd_script_model.specs.Link.{IsBehind, IsLink, may_change, retagged, tag_after}
+use Rattle.sdd_script_model.specs.Shown.{item_in}
+use Rattle.sdd_script_model.specs.ScriptState.{ScriptState, holding_at, in_world, opening_at, shared_slot, slot_at}
+use Rattle.sdd_script_model.specs.Script.{Acts, CanPointTo, HasOpen, IsUnderGuard, IsValid, Meets}
+use Rattle.sdd_script_model.proofs.BehindGoing.{behind-named, behind-there, next-leaves}
+use Rattle.sdd_script_model.specs.Sound.{contained, named}
+use Rattle.sdd_script_model.proofs.CellGoing.{link-leaves}
+use Rattle.sdd_interpreter.specs.declared.participants.NamedParticipant.{NamedParticipant}
+use Rattle.sdd_interpreter.specs.declared.interpreter.Environment.{Environment}
+use Rattle.sdd_interpreter.specs.Environment.{attending}
+use Rattle.sdd_interpreter.specs.Owners.{owner_holding}
+use Rattle.sdd_interpreter.specs.declared.holding.AnyOwner.{AnyOwner}
+use Rattle.sdd_interpreter.specs.declared.holding.AnyOwner.TheVariants.{Share}
+use Rattle.sdd_interpreter.specs.Interpreter.{desk_of, IsTied}
+use Rattle.sdd_interpreter.proofs.Acts.{Does, does, goes, in_range, is, leads, named-owner, owner-spent, still}
+use Rattle.sdd_script.specs.ItemLines.{changing}
+use Rattle.sdd_script.proofs.RawActs.{put-back, same-desk}
+use Rattle.sdd_script.proofs.StackActs.{AreDatedNow, AreTold, dated-within}
+use Rattle.sdd_script_model.proofs.Appending.{appended-leaves}
+use Rattle.sdd_script_model.proofs.Counting.{accounts, owned-out}
+use Rattle.sdd_script_model.proofs.Listed.{apart-item, links-apart}
+use Rattle.sdd_script_model.proofs.Storing.{IsReserved, there-apart}
+use Rattle.sdd_script_model.proofs.Chains.{link-apart-from, starts}
+
+-- no line gives both tags
+no-both : (how : LinkChange) → tag_after how ≢ Both
+no-both Mark same = absurd (cc)
+no-both Unmark same = absurd (cc)
+no-both Delete same = absurd (cc)
+
+-- and none changes the link of a deleted entry
+no-deleted : (how : LinkChange) → may_change how Second ≡ false
+no-deleted Mark = refl
+no-deleted Unmark = refl
+no-deleted Delete = refl
+
+-- who changes a link has a guard open, and can point to its item
+pub valid-changing : (d : ScriptState) (n : ℕ) (how : LinkChange) (i : ItemName) → IsValid d n (changing how i) → IsUnderGuard d n × CanPointTo d n i.0
+valid-changing d n Mark i valid = valid
+valid-changing d n Unmark i valid = valid
+valid-changing d n Delete i valid = valid
+
+module _ (h : Environment) (t : IsTied h) (i : ItemName) (name : PlaceName) (v : Val) (cell : CellContents)
+    (valid : IsUnderGuard (desk_of h) name.0 × CanPointTo (desk_of h) name.0 i.0) (shown : value_at h.world (slot_at (desk_of h) i.0) ≡ Some v)
+    (holds : entry_at h.world.cells (link_of v) ≡ Some cell) where
+  abbrev d : ScriptState
+  d = desk_of h
+
+  is-link : IsLink d i.0 (link_of v) cell
+  is-link = record { entry = v; there = shown; link = refl; holds = holds }
+
+  pub acts-link_told : (tag : Tag) → tag ≡ cell.tag → Acts d (At name (call.LinkTag i)) (reply.Tag tag) d
+  acts-link_told tag told = still d (At name (call.LinkTag i)) (reply.Tag tag) (valid, ((link_of v, cell, is-link, told), refl))
+
+  meets : (how : LinkChange) (b : Bool) → b ≡ may_change how cell.tag →
+      Meets d (At name (changing how i)) (reply.Truth b) (in_world d (retagged h.world (link_of v) cell how b))
+  meets Mark b may = (valid, (link_of v, cell, is-link, may, refl))
+  meets Unmark b may = (valid, (link_of v, cell, is-link, may, refl))
+  meets Delete b may = (valid, (link_of v, cell, is-link, may, refl))
+
+  pub acts-changed : IsWhole h.world → (a : NamedParticipant) → attending (Some a) ≡ opening_at d.places name.0 →
+      (how : LinkChange) (b : Bool) (w : World Val) → b ≡ may_change how cell.tag → w ≡ retagged h.world (link_of v) cell how b →
+      Does d (At name (changing how i)) (reply.Truth b) (record h { world = w })
+  acts-changed whole a there how true w may world =
+      leads h t (At name (changing how i)) (reply.Truth true) refl (ap (in_world d) world)
+      (link-leaves d t.sound whole (index_of a.place) (link_of v) cell (in_range h t whole name a there) holds (tag_after how) (slot_at d i.0) v
+      (there-apart d t.sound.bags i.0 valid.1.0) shown refl
+      (no-both how) (λ same. absurd (let never : true ≡ false = may ∙ ap (may_change how) same ∙ no-deleted how in cc))) (meets how true may)
+  acts-changed whole a there how false w may world =
+      does d (At name (changing how i)) (reply.Truth false) (goes (ap (in_world d) world) t.sound t.guards)
+      (still d (At name (changing how i)) (reply.Truth false) (meets how false may))
+
+-- ---- what is behind an item is told
+
+module _ (h : Environment) (t : IsTied h) (whole : IsWhole h.world) (name : PlaceName) (a : NamedParticipant)
+    (there : attending (Some a) ≡ opening_at (desk_of h).places name.0) (i : ItemName) (v : Val)
+    (shown : value_at h.world (slot_at (desk_of h) i.0) ≡ Some v) (can : CanPointTo (desk_of h) name.0 i.0) where
+  abbrev p : ℕ
+  p = index_of a.place
+
+  pub behind : (u : Tag) × (es : List (Entry Val)) × IsBehind (desk_of h) i.0 (link_of v) u es
+  behind = behind-there (desk_of h) t.sound i.0 v shown can.0
+
+  -- its link is none of a bag's storages
+  link-off : IsReserved (desk_of h) h.world (link_of v) → ⊥
+  link-off = link-apart-from (starts (desk_of h) t.sound whole) (slot_at (desk_of h) i.0) v shown (there-apart (desk_of h) t.sound.bags i.0 can.0)
+
+  abbrev next_one : Option ℕ
+  next_one = first_slot (left behind.1)
+
+  -- its item has a name
+  pub next-named : (next : Option ℕ) → next ≡ next_one → IfSome next (λ s. IsSome (slice_index_or h.names.items s None))
+  next-named None is = tt
+  next-named (Some s) is = behind-named (desk_of h) t.sound (link_of v) behind.0 behind.1 behind.2.list link-off s (sym is)
+
+  pub acts-next : (g : GuardName) (waited : List Bool) (w : World Val) (dates : Vec ℕ) (next : Option ℕ) (item : Option ItemName) →
+      HasOpen (desk_of h) name.0 g.0 → AreTold h waited →
+      ((u : Tag) (es : List (Entry Val)) → IsList link_of h.world (link_of v) u es →
+      (next ≡ first_slot (left es)) × (w ≡ trimmed link_of h.world p (link_of v) u es)) →
+      item ≡ option_map (item_in h.names.items) next → AreDatedNow h w waited dates →
+      Does (desk_of h) (At name (call.Next i g)) (reply.Pointer item no_tag) (record h { world = w; dates = dates })
+  acts-next g waited w dates next item under told did seen now =
+      let u : Tag = behind.0 in
+      let es : List (Entry Val) = behind.1 in
+      let done = did u es behind.2.list in
+      let after : World Val = trimmed link_of h.world p (link_of v) u es in
+      leads h t (At name (call.Next i g)) (reply.Pointer item no_tag) refl
+      (ap (λ (x : World Val). record (in_world (desk_of h) x) { dates = dates.items }) done.1)
+      (next-leaves (desk_of h) t.sound whole p (in_range h t whole name a there) i.0 (link_of v) u es behind.2 can.0 dates.items
+      (dated-within h t waited told after dates (subst (λ (x : World Val). AreDatedNow h x waited dates) done.1 now))) (
+        (under, can),
+        (
+          link_of v,
+          u,
+          es,
+          behind.2,
+          seen ∙ ap (λ (x : Option ℕ). option_map (item_in h.names.items) x) done.0,
+          refl,
+          ap (λ (q : ℕ). record (in_world (desk_of h) (trimmed link_of h.world q (link_of v) u es)) { dates = dates.items })
+              (sym (is h t whole name a there)),
+        ),
+      )
+
+-- ---- an owner's entry comes behind an item
+
+-- what is behind a cell is in some cell
+behind-held : (w : World Val) (c : ℕ) (es : List (Entry Val)) → held_in (entry_at w.cells c) ≡ first_slot es → AreLinked link_of w es → (k : ℕ) → IsAmong k es →
+    (b : ℕ) × (held_in (entry_at w.cells b) ≡ Some k)
+behind-held w c [] head linked k among = absurd among
+behind-held w c (e ∷ es) head linked k (inl is) = (c, head ∙ ap Some is)
+behind-held w c (e ∷ es) head linked k (inr more) = behind-held w (link_of e.value) es (ap held_in linked.0.linked) linked.1 k more
+
+module _ (h : Environment) (t : IsTied h) (whole : IsWhole h.world) (o : ℕ) (x : Shared Val)
+    (mine : slice_index_or h.owners.entries.items o None ≡ Some (Share x)) where
+  -- its item has an owner outside, so it can't go
+  pub its-out : IsTrue (is_out (standing_at h.world (slot_of x)))
+  its-out =
+      owned-out (desk_of h) (accounts (desk_of h) t.sound) o (owner_holding (Share x)) (slot_of x) (named-owner h t whole o (Share x) mine) refl
+
+  -- what is told of it is told of the one that is taken by that name
+  pub loose-taken : (y : Shared Val) (k : ℕ) → slice_index_or h.owners.entries.items o None ≡ Some (Share y) →
+      IsLooseEntry h.world (slot_of x) × (slot_of x ≢ k) → IsLooseEntry h.world (slot_of y) × (slot_of y ≢ k)
+  loose-taken y k taken loose =
+      let both : Some (Share x) ≡ Some (Share y) = sym mine ∙ taken in
+      let same : x ≡ y = cc in subst (λ (z : Shared Val). IsLooseEntry h.world (slot_of z) × (slot_of z ≢ k)) same loose
+
+  -- where its item isn't loose, or is the one that it would come behind, it may not be put there
+  pub may-not : (i : ℕ) → (IsLooseEntry h.world (slot_of x) × (slot_of x ≢ slot_at (desk_of h) i) → ⊥) → MayAppend (desk_of h) i o → ⊥
+  may-not i cannot may =
+      let both : Some may.slot ≡ Some (slot_of x) = sym may.owner ∙ ap shared_slot (named-owner h t whole o (Share x) mine) in
+      let same : may.slot ≡ slot_of x = cc in
+      cannot (subst (λ (k : ℕ). IsLooseEntry h.world k × (k ≢ slot_at (desk_of h) i)) same (may.loose, may.other))
+
+module _ (h : Environment) (t : IsTied h) (whole : IsWhole h.world) (name : PlaceName) (a : NamedParticipant)
+    (there : attending (Some a) ≡ opening_at (desk_of h).places name.0) (i : ItemName) (v : Val)
+    (shown : value_at h.world (slot_at (desk_of h) i.0) ≡ Some v) (can : CanPointTo (desk_of h) name.0 i.0) (o : OwnerName) (x : Shared Val)
+    (mine : slice_index_or h.owners.entries.items o.0 None ≡ Some (Share x)) (loose : IsLooseEntry h.world (slot_of x))
+    (other : slot_of x ≢ slot_at (desk_of h) i.0) where
+  abbrev k : ℕ
+  k = slot_of x
+
+  its-list : (u : Tag) × (es : List (Entry Val)) × IsBehind (desk_of h) i.0 (link_of v) u es
+  its-list = behind h t whole name a there i v shown can
+
+  abbrev es : List (Entry Val)
+  es = its-list.1
+
+  -- the entry's link is no other's
+  fresh : IsFresh link_of h.world k loose.entry (link_of v) es
+  fresh =
+      let outside = λ (u : Claim). named (desk_of h) u + contained (desk_of h) u in
+      record {
+        there = loose.there;
+        clear = loose.clear;
+        far = λ same. other (sym (links-apart h.world outside t.sound.ledger (slot_at (desk_of h) i.0) k v loose.entry shown loose.there same));
+        apart = apart-item h.world outside t.sound.ledger k loose.entry loose.there es its-list.2.list.linked (λ among.
+            let at = behind-held h.world (link_of v) es (ap held_in its-list.2.list.begins) its-list.2.list.linked k among in loose.unheld at.0 at.1);
+      }
+
+  pub may-come : (u : Tag) × (fs : List (Entry Val)) × (z : Val) × IsList link_of h.world (link_of v) u fs × IsFresh link_of h.world k z (link_of v) fs
+  may-come = (its-list.0, es, loose.entry, its-list.2.list, fresh)
+
+  abbrev cell : CellContents
+  cell = record { held = first_slot es; tag = its-list.0 }
+
+  its-link : IsLink (desk_of h) i.0 (link_of v) cell
+  its-link = record { entry = v; there = shown; link = refl; holds = its-list.2.list.begins }
+
+  entry : holding_at (desk_of h).owners o.0 ≡ Some (owner_holding (Share x))
+  entry = named-owner h t whole o.0 (Share x) mine
+
+  owner : shared_slot (holding_at (desk_of h).owners o.0) ≡ Some k
+  owner = ap shared_slot entry
+
+  module _ (mark : Bool) (g : GuardName) (under : HasOpen (desk_of h) name.0 g.0) where
+    valid : IsValid (desk_of h) name.0 (call.Append i o mark g)
+    valid = (under, can, record { slot = k; owner = owner; loose = loose; other = other })
+
+    pub acts-appended : (w : World Val) (owners : Vec (Option AnyOwner)) →
+        ((c : CellContents) (z : Val) → entry_at h.world.cells (link_of v) ≡ Some c → value_at h.world k ≡ Some z →
+        (says_deleted c.tag ≡ false) × (w ≡ linked_in h.world (link_of v) (mark_tag mark) (link_of z) k c.held)) →
+        owners.items ≡ slice_set h.owners.entries.items o.0 None →
+        Does (desk_of h) (At name (call.Append i o mark g)) reply.Done (record h { world = w; owners = record { entries = owners } })
+    acts-appended w owners did taken =
+        let (undeleted, world) = did cell loose.entry its-list.2.list.begins loose.there in
+        let gone = owner-spent h t whole owners o.0 taken in
+        leads h t (At name (call.Append i o mark g)) reply.Done refl (cc (world, gone))
+        (appended-leaves (desk_of h) t.sound whole (index_of a.place) (in_range h t whole name a there) i.0 o.0 mark k (link_of v) cell its-link undeleted
+        can.0 owner loose other)
+        (valid, (link_of v, cell, k, loose.entry, its-link, undeleted, owner, loose.there, refl))
+
+    -- the item is deleted, and the owner stands under its name again
+    pub acts-deleted : (w : World Val) (between after : Vec (Option AnyOwner)) (y : Shared Val) →
+        ((c : CellContents) (z : Val) → entry_at h.world.cells (link_of v) ≡ Some c → value_at h.world k ≡ Some z →
+        (says_deleted c.tag ≡ true) × (holding_of y ≡ holding_of x) × (w ≡ h.world)) →
+        between.items ≡ slice_set h.owners.entries.items o.0 None → after.items ≡ slice_set between.items o.0 (Some (Share y)) →
+        Does (desk_of h) (At name (call.Append i o mark g)) reply.Deleted (record h { world = w; owners = record { entries = after } })
+    acts-deleted w between after y did taken back =
+        let (deleted, same, world) = did cell loose.entry its-list.2.list.begins loose.there in
+        let as_before = same-desk h w after world (put-back h between after o.0 (Share x) (Share y) mine taken back same) in
+        does (desk_of h) (At name (call.Append i o mark g)) reply.Deleted (goes as_before t.sound t.guards)
+        (still (desk_of h) (At name (call.Append i o mark g)) reply.Deleted (valid, ((link_of v, cell, its-link, deleted), refl)))

@@ -1,0 +1,60 @@
+use Rattle.std.proofs.Common.{◌≡◌, length, arith, rules}
+use Rattle.sdd_script_text.specs.declared.call.Call.TheVariants.{At}
+use Rattle.sdd_script_text.specs.declared.call.Action.TheVariants as call
+use Rattle.sdd_script_text.specs.declared.answer.Reply.TheVariants as reply
+use Rattle.sdd_interpreter.specs.Interpreter.{desk_of}
+use Rattle.sdd_interpreter.proofs.Acts.{Does}
+use Rattle.sdd_interpreter.proofs.Missing.{invalid}
+use Rattle.sdd_script.proofs.BagActs.{acts-added, acts-given_back, no-bag, put-so}
+use Rattle.sdd_script.proofs.CopyActs.{AreFreeSo}
+use Rattle.sdd_script.proofs.commands.bags.add.Goals as goal
+
+pub returns-in_default : goal.returns-in_default
+returns-in_default c = record {
+  acts = rw (← c.stage.view_is) (invalid _ _ _ (λ valid. c.in_default.ensures.valid valid.0));
+}
+
+pub returns-in_default-get : goal.returns-in_default-get
+returns-in_default-get c = record {
+  acts = rw (← c.stage.view_is) (invalid _ _ _ (λ valid. no-bag c.stage.inside.hand c.args.bag.0 c.in_default-get.ensures valid.1));
+}
+
+added : (c : goal.After-drop-free) → Does (desk_of c.stage.inside.hand) (At c.args.name (call.Add c.args.bag c.args.number c.args.guard)) reply.Done
+    (record c.stage.inside.hand { world = c.add_at-taken.new.world; bags = c.put_back.new.self; names = c.forget_new.new.names })
+added c =
+    let h = c.stage.inside.hand in let bag = c.add_at-taken.result.0 in
+    let line = rw (← c.stage.view_is) at c.requires.line in
+    let did = rw c.in-Ok.is at c.add_at-taken.ensures.put in
+    let put = put-so h.bags.entries.items c.take.new.self.entries.items c.put_back.new.self.entries.items c.args.bag.0 bag c.in-Some-take.ensures.spent
+    c.put_back.ensures.back in
+    let long : c.len-slots.result ≡ length c.stage.inside.hand.names.items = search rules in
+    let free_so : AreFreeSo c.stage.inside.hand c.in_ok-free.free.items = λ s lt. c.in_ok-free.ensures.each s (omega (arith, lt, long)) in
+    acts-added h c.stage.invariant c.is_whole.ensures c.args.name _ c.in-Some.ensures.found.0 c.args.bag _ c.in-Some-take.ensures.taken bag did.0
+    c.put_back.new.self.entries put c.add_at-taken.new.world c.add_at-taken.ensures.bag c.args.guard c.in-Some.ensures.valid line c.args.number did
+    c.in_ok-free.free.items free_so c.forget_new.new.names (rw c.as_slice.ensures.value at c.forget_new.ensures.names, c.forget_new.ensures.long)
+
+pub invariant_of-stage : goal.invariant_of-stage
+invariant_of-stage c = (added c).0
+
+pub returns-in-Ok : goal.returns-in-Ok
+returns-in-Ok c = record { acts = rw (← c.stage.view_is) (added c).1 }
+
+pub invariant_of-stage-in-Err : goal.invariant_of-stage-in-Err
+invariant_of-stage-in-Err c =
+    let h = c.stage.inside.hand in
+    let put = put-so h.bags.entries.items c.take.new.self.entries.items c.put_back.new.self.entries.items c.args.bag.0 c.add_at-taken.result.0
+    c.in-Some-take.ensures.spent c.put_back.ensures.back in
+    (acts-given_back h c.stage.invariant c.is_whole.ensures c.args.name _ c.in-Some.ensures.found.0 c.args.bag _ c.in-Some-take.ensures.taken
+    c.add_at-taken.result.0 c.add_at-taken.new.world c.put_back.new.self.entries put c.args.guard c.in-Some.ensures.valid c.args.number c.in-Err.refused
+    (rw c.in-Err.is at c.add_at-taken.ensures.put)).0
+
+pub returns : goal.returns
+returns c =
+    let h = c.stage.inside.hand in
+    let put = put-so h.bags.entries.items c.take.new.self.entries.items c.put_back.new.self.entries.items c.args.bag.0 c.add_at-taken.result.0
+    c.in-Some-take.ensures.spent c.put_back.ensures.back in
+    record {
+      acts = rw (← c.stage.view_is) (acts-given_back h c.stage.invariant c.is_whole.ensures c.args.name _ c.in-Some.ensures.found.0 c.args.bag _
+          c.in-Some-take.ensures.taken c.add_at-taken.result.0 c.add_at-taken.new.world c.put_back.new.self.entries put c.args.guard
+          c.in-Some.ensures.valid c.args.number c.in-Err.refused (rw c.in-Err.is at c.add_at-taken.ensures.put)).1;
+    }

@@ -1,0 +1,45 @@
+use Rattle.std.proofs.Common.{◌≡◌, length, arith, rules, List, ℕ, subst, sym}
+use Rattle.sdd_script_text.specs.declared.call.Call.TheVariants.{At}
+use Rattle.sdd_script_text.specs.declared.call.Action.TheVariants as call
+use Rattle.sdd_script_text.specs.declared.answer.Reply.TheVariants as reply
+use Rattle.sdd_interpreter.specs.Interpreter.{desk_of}
+use Rattle.sdd_interpreter.proofs.Acts.{Does}
+use Rattle.sdd_interpreter.proofs.Missing.{invalid}
+use Rattle.std.specs.List.Sorted.{IsNonDecreasing, IsPermutation}
+use Rattle.std.proofs.lemmas.List.Sorted.{IsNonDecreasingBy-from_sort}
+use Rattle.sdd_script.proofs.BagActs.{acts-drained, no-bag, put-so}
+use Rattle.sdd_script.proofs.StackActs.{AreTold}
+use Rattle.sdd_script.proofs.commands.bags.drain.Goals as goal
+
+pub returns-in_default : goal.returns-in_default
+returns-in_default c = record {
+  acts = rw (← c.stage.view_is) (invalid _ _ _ (λ valid. c.in_default.ensures.valid valid.0));
+}
+
+pub returns-in_default-get : goal.returns-in_default-get
+returns-in_default-get c = record {
+  acts = rw (← c.stage.view_is) (invalid _ _ _ (λ valid. no-bag c.stage.inside.hand c.args.bag.0 c.in_default-get.ensures valid.1));
+}
+
+drained : (c : goal.After-drop-waited) → Does (desk_of c.stage.inside.hand) (At c.args.name (call.Drain c.args.bag c.args.guard))
+    (reply.Numbers c.of.result)
+    (record c.stage.inside.hand { world = c.drain_at-taken.new.world; bags = c.put_back.new.self; dates = c.date_new.new.dates })
+drained c =
+    let h = c.stage.inside.hand in let bag = c.drain_at-taken.result.0 in let numbers = c.drain_at-taken.result.1.items in
+    let did = c.drain_at-taken.ensures.taken in
+    let put = put-so h.bags.entries.items c.take.new.self.entries.items c.put_back.new.self.entries.items c.args.bag.0 bag c.in-Some-take.ensures.spent
+    c.put_back.ensures.back in
+    let long : c.len-slots.result ≡ length c.stage.inside.hand.names.items = search rules in
+    let told_so : AreTold c.stage.inside.hand c.in_ok-waited.waited.items = λ s lt. c.in_ok-waited.ensures.each s (omega (arith, lt, long)) in
+    acts-drained h c.stage.invariant c.is_whole.ensures c.args.name _ c.in-Some.ensures.found.0 c.args.bag _ c.in-Some-take.ensures.taken bag did.cells
+    c.put_back.new.self.entries put c.drain_at-taken.new.world c.drain_at-taken.ensures.bag c.args.guard c.in-Some.ensures.valid
+    c.in_ok-waited.waited.items told_so c.date_new.new.dates (rw c.as_slice.ensures.value at c.date_new.ensures.dated, c.date_new.ensures.long) numbers
+    c.of.result did (subst (λ (xs : List ℕ). IsPermutation numbers xs) (sym c.of.ensures) c.sort_unstable.ensures.permutation)
+    (subst (λ (xs : List ℕ). IsNonDecreasing xs) (sym c.of.ensures)
+    (IsNonDecreasingBy-from_sort (λ x. x) c.sort_unstable.new.self.items c.sort_unstable.ensures.sorted))
+
+pub invariant_of-stage : goal.invariant_of-stage
+invariant_of-stage c = (drained c).0
+
+pub returns : goal.returns
+returns c = record { acts = rw (← c.stage.view_is) (drained c).1 }

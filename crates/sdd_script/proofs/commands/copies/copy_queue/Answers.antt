@@ -1,0 +1,170 @@
+use Rattle.std.proofs.Common.{◌≡◌, ◌+◌, ◌≤◌, length, sym, ap, ◌∙◌, arith, rules, vec_capacity}
+use Rattle.std.proofs.lemmas.List.{length-map}
+use Rattle.sdd_lists.specs.Lists.{Entry}
+use Rattle.sdd_script_text.specs.declared.call.Call.TheVariants.{At}
+use Rattle.sdd_script_text.specs.declared.call.Action.TheVariants as call
+use Rattle.sdd_script_text.specs.declared.name.ListName.TheVariants as list
+use Rattle.sdd_script_text.specs.declared.answer.Reply.TheVariants as reply
+use Rattle.sdd_script_model.specs.Copies.{entry_slots}
+use Rattle.sdd_script_model.specs.Val.{Val}
+use Rattle.sdd_interpreter.specs.Interpreter.{desk_of}
+use Rattle.sdd_interpreter.proofs.Acts.{Does}
+use Rattle.sdd_interpreter.proofs.Missing.{invalid}
+use Rattle.sdd_interpreter.proofs.Queues.{no-queue, queue-home}
+use Rattle.sdd_script.proofs.ContainerActs.{reader-is}
+use Rattle.sdd_script.proofs.CopyActs.{AreFreeSo, acts-queue_copied, acts-queue_refused, numbers-of_queue, queue-filled}
+use Rattle.sdd_script.proofs.QueueActs.{queue-entries}
+use Rattle.sdd_script.proofs.StackActs.{AreTold}
+use Rattle.sdd_script.proofs.commands.copies.copy_queue.Goals as goal
+
+pub returns-in_default : goal.returns-in_default
+returns-in_default c = record {
+  acts = rw (← c.stage.view_is) (invalid _ _ _ (λ valid. c.in_default.ensures.valid valid.0));
+}
+
+pub returns-in_default-get : goal.returns-in_default-get
+returns-in_default-get c = record {
+  acts = rw (← c.stage.view_is) (invalid _ _ _ (λ valid. no-queue c.stage.inside.hand c.args.queue.0 c.in_default-get.ensures valid.1));
+}
+
+pub copy_queue_at-requires-clause-queue : goal.copy_queue_at-requires-clause-queue
+copy_queue_at-requires-clause-queue c = queue-home c.stage.inside.hand c.args.queue.0 _ (rw c.make_room.ensures.kept at c.in-Some-get-2.ensures) c.stage.invariant
+
+pub copy_queue_at-requires-clause-numbers : goal.copy_queue_at-requires-clause-numbers
+copy_queue_at-requires-clause-numbers c =
+    let h = c.stage.inside.hand in
+    let mine = (rw c.make_room.ensures.kept at c.in-Some-get-2.ensures) in
+    let line = rw (← c.stage.view_is) at c.requires.line in
+    let its = queue-entries h c.stage.invariant c.args.queue.0 _ mine in (
+      its.0,
+      its.1,
+      its.2.queue,
+      numbers-of_queue h c.stage.invariant c.is_whole.ensures c.args.name _ c.in-Some.ensures.found.0 line c.args.queue _ mine c.args.guard
+          c.in-Some.ensures.valid,
+    )
+
+refused : (c : goal.After-drop-room-in-Err) → Does (desk_of c.stage.inside.hand) (At c.args.name (call.CloneList (list.Queue c.args.queue) c.args.guard))
+    (reply.Refused c.in-Err.refused)
+    (record c.stage.inside.hand {
+      world = c.copy_queue_at.new.world;
+      queues = c.make_room.new.self;
+      slots = c.reserve.new.self;
+      names = c.forget_new.new.names;
+      dates = c.date_new.new.dates;
+    })
+refused c =
+    let h = c.stage.inside.hand in
+    let mine = (rw c.make_room.ensures.kept at c.in-Some-get-2.ensures) in
+    let line = rw (← c.stage.view_is) at c.requires.line in
+    let its = queue-entries h c.stage.invariant c.args.queue.0 _ mine in
+    let most : c.len-most.result ≡ length c.stage.inside.hand.names.items = search rules in
+    let free_so : AreFreeSo c.stage.inside.hand c.in_ok-free.free.items = λ s lt. c.in_ok-free.ensures.each s (omega (arith, lt, most)) in
+    let told_so : AreTold c.stage.inside.hand c.in_ok-waited.waited.items = λ s lt. c.in_ok-waited.ensures.each s (omega (arith, lt, most)) in
+    acts-queue_refused h c.stage.invariant c.is_whole.ensures c.args.name _ c.in-Some.ensures.found.0 line c.args.queue _ mine c.args.guard
+    c.in-Some.ensures.valid c.make_room.new.self.entries c.reserve.new.self
+    c.make_room.ensures.kept c.reserve.ensures.items c.copy_queue_at.new.world c.in-Err.refused c.in_ok-free.free.items c.in_ok-waited.waited.items
+    free_so told_so c.forget_new.new.names c.date_new.new.dates (rw c.as_slice.ensures.value at c.forget_new.ensures.names, c.forget_new.ensures.long)
+    (rw c.as_slice-in-Err.ensures.value at c.date_new.ensures.dated, c.date_new.ensures.long)
+    (c.in-Err.ensures.copied its.0 its.1 its.2.queue)
+
+pub invariant_of-stage-in-Err : goal.invariant_of-stage-in-Err
+invariant_of-stage-in-Err c = (refused c).0
+
+pub returns-in-Err : goal.returns-in-Err
+returns-in-Err c = record { acts = rw (← c.stage.view_is) (refused c).1 }
+
+pub slots_at-slots-requires-clause-place : goal.slots_at-slots-requires-clause-place
+slots_at-slots-requires-clause-place c =
+    let h = c.stage.inside.hand in
+    let mine = (rw c.make_room.ensures.kept at c.in-Some-get-2.ensures) in
+    let line = rw (← c.stage.view_is) at c.requires.line in
+    let its = queue-entries h c.stage.invariant c.args.queue.0 _ mine in
+    let f = queue-filled h c.stage.invariant c.is_whole.ensures c.args.name _ c.in-Some.ensures.found.0 line c.args.queue _ mine c.args.guard
+    c.in-Some.ensures.valid c.copy_queue_at.new.world c.in-Ok.copy
+    (c.in-Ok.ensures.copied its.0 its.1 its.2.queue) in
+    f.placed
+
+pub slots_at-slots-requires-clause-list : goal.slots_at-slots-requires-clause-list
+slots_at-slots-requires-clause-list c =
+    let h = c.stage.inside.hand in
+    let mine = (rw c.make_room.ensures.kept at c.in-Some-get-2.ensures) in
+    let line = rw (← c.stage.view_is) at c.requires.line in
+    let its = queue-entries h c.stage.invariant c.args.queue.0 _ mine in
+    let f = queue-filled h c.stage.invariant c.is_whole.ensures c.args.name _ c.in-Some.ensures.found.0 line c.args.queue _ mine c.args.guard
+    c.in-Some.ensures.valid c.copy_queue_at.new.world c.in-Ok.copy
+    (c.in-Ok.ensures.copied its.0 its.1 its.2.queue) in
+    rw f.home c.in-Ok.ensures.home
+
+pub slots_at-slots-requires-clause-reader : goal.slots_at-slots-requires-clause-reader
+slots_at-slots-requires-clause-reader c =
+    let h = c.stage.inside.hand in
+    let mine = (rw c.make_room.ensures.kept at c.in-Some-get-2.ensures) in
+    let line = rw (← c.stage.view_is) at c.requires.line in
+    let its = queue-entries h c.stage.invariant c.args.queue.0 _ mine in
+    let f = queue-filled h c.stage.invariant c.is_whole.ensures c.args.name _ c.in-Some.ensures.found.0 line c.args.queue _ mine c.args.guard
+    c.in-Some.ensures.valid c.copy_queue_at.new.world c.in-Ok.copy
+    (c.in-Ok.ensures.copied its.0 its.1 its.2.queue) in
+    let found = c.in-Some.ensures.found in
+    reader-is h c.stage.invariant c.args.guard.0 _ _ found.1 found.2 ∙ sym f.reader
+
+pub name_all-requires-clause-room : goal.name_all-requires-clause-room
+name_all-requires-clause-room c =
+    let h = c.stage.inside.hand in
+    let mine = (rw c.make_room.ensures.kept at c.in-Some-get-2.ensures) in
+    let line = rw (← c.stage.view_is) at c.requires.line in
+    let its = queue-entries h c.stage.invariant c.args.queue.0 _ mine in
+    let f = queue-filled h c.stage.invariant c.is_whole.ensures c.args.name _ c.in-Some.ensures.found.0 line c.args.queue _ mine c.args.guard
+    c.in-Some.ensures.valid c.copy_queue_at.new.world c.in-Ok.copy
+    (c.in-Ok.ensures.copied its.0 its.1 its.2.queue) in
+    let most : c.len-most.result ≡ length c.stage.inside.hand.names.items = search rules in
+    let few : length f.entries ≤ c.len-most.result = omega (arith, f.few, most) in
+    let written : c.as_slice-2.result.now ≡ entry_slots f.entries =
+    c.as_slice-2.ensures.value ∙ c.slots_at-slots.ensures.slots f.entries f.newest f.has f.plain few in
+    let long : c.reserve.new.self.len ≡ length c.reserve.new.self.items = c.reserve.new.self.ok.0 in
+    let room : c.reserve.new.self.len + c.len-most.result ≤ vec_capacity c.reserve.new.self = c.in_ok-reserve.ensures.ok in
+    omega (arith, ap length written, length-map f.entries (λ (e : Entry Val). e.slot), few, long, room)
+
+pub name_all-requires-clause-inside : goal.name_all-requires-clause-inside
+name_all-requires-clause-inside c =
+    let h = c.stage.inside.hand in
+    let mine = (rw c.make_room.ensures.kept at c.in-Some-get-2.ensures) in
+    let line = rw (← c.stage.view_is) at c.requires.line in
+    let its = queue-entries h c.stage.invariant c.args.queue.0 _ mine in
+    let f = queue-filled h c.stage.invariant c.is_whole.ensures c.args.name _ c.in-Some.ensures.found.0 line c.args.queue _ mine c.args.guard
+    c.in-Some.ensures.valid c.copy_queue_at.new.world c.in-Ok.copy
+    (c.in-Ok.ensures.copied its.0 its.1 its.2.queue) in
+    let most : c.len-most.result ≡ length c.stage.inside.hand.names.items = search rules in
+    let few : length f.entries ≤ c.len-most.result = omega (arith, f.few, most) in
+    let written : c.as_slice-2.result.now ≡ entry_slots f.entries =
+    c.as_slice-2.ensures.value ∙ c.slots_at-slots.ensures.slots f.entries f.newest f.has f.plain few in
+    λ k i lt. rw written (f.inside k i (omega (arith, lt, ap length written)))
+
+copied : (c : goal.After-drop-waited-2) → Does (desk_of c.stage.inside.hand) (At c.args.name (call.CloneList (list.Queue c.args.queue) c.args.guard))
+    (reply.Queue (record { 0 = c.give-name.result }))
+    (record c.stage.inside.hand { world = c.slots_at-slots.new.world; queues = c.give-name.new.self; slots = c.name_all.new.slots; names = c.name_all.new.names })
+copied c =
+    let h = c.stage.inside.hand in
+    let mine = (rw c.make_room.ensures.kept at c.in-Some-get-2.ensures) in
+    let line = rw (← c.stage.view_is) at c.requires.line in
+    let its = queue-entries h c.stage.invariant c.args.queue.0 _ mine in
+    let f = queue-filled h c.stage.invariant c.is_whole.ensures c.args.name _ c.in-Some.ensures.found.0 line c.args.queue _ mine c.args.guard
+    c.in-Some.ensures.valid c.copy_queue_at.new.world c.in-Ok.copy
+    (c.in-Ok.ensures.copied its.0 its.1 its.2.queue) in
+    let most : c.len-most.result ≡ length c.stage.inside.hand.names.items = search rules in
+    let few : length f.entries ≤ c.len-most.result = omega (arith, f.few, most) in
+    let written : c.as_slice-2.result.now ≡ entry_slots f.entries =
+    c.as_slice-2.ensures.value ∙ c.slots_at-slots.ensures.slots f.entries f.newest f.has f.plain few in
+    let world = c.slots_at-slots.ensures.world in
+    acts-queue_copied h c.stage.invariant c.is_whole.ensures c.args.name _ c.in-Some.ensures.found.0 line c.args.queue _ mine c.args.guard
+    c.in-Some.ensures.valid c.slots_at-slots.new.world
+    c.give-name.new.self.entries c.name_all.new.slots c.name_all.new.names c.in-Ok.copy (record { 0 = c.give-name.result }) f.entries f.newest
+    (rw world f.makes) c.in-Ok.ensures.home (rw c.make_room.ensures.kept at c.give-name.ensures.given)
+    (rw (c.in_ok-reserve.ensures.items, written) at c.name_all.ensures.slots)
+    (rw (c.in_ok-reserve.ensures.items, written) at c.name_all.ensures.names)
+    (c.give-name.ensures.name ∙ ap length c.make_room.ensures.kept)
+
+pub invariant_of-stage-2 : goal.invariant_of-stage-2
+invariant_of-stage-2 c = (copied c).0
+
+pub returns : goal.returns
+returns c = record { acts = rw (← c.stage.view_is) (copied c).1 }

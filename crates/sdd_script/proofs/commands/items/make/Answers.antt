@@ -1,0 +1,74 @@
+use Rattle.std.proofs.Common.{◌≡◌, ℕ, Some, refl, length, slice_set, sym, ap, ◌∙◌, rules}
+use Rattle.std.specs.Vec.{with_item}
+use Rattle.std.proofs.lemmas.Bool.{false≢true}
+use Rattle.sdd_script_model.specs.ScriptState.{slot_of}
+use Rattle.sdd_script_text.specs.declared.call.Call.TheVariants.{At}
+use Rattle.sdd_script_text.specs.declared.answer.Reply.TheVariants as reply
+use Rattle.sdd_interpreter.specs.declared.interpreter.Environment.{Environment}
+use Rattle.sdd_script_model.specs.Script.{Acts, IsThereToPut}
+use Rattle.sdd_interpreter.specs.Interpreter.{desk_of, IsTied}
+use Rattle.sdd_script.specs.ItemLines.{making}
+use Rattle.sdd_interpreter.proofs.Acts.{got}
+use Rattle.sdd_script.proofs.ItemActs.{acts-refused, acts-made}
+use Rattle.sdd_interpreter.proofs.Missing.{invalid, nobody}
+use Rattle.sdd_script.proofs.Making.{first-slot, becomes-long, none-to-put, valid-making, there-to-put, body-home}
+use Rattle.sdd_script.proofs.commands.items.make.Goals as goal
+
+pub returns-in_default : goal.returns-in_default
+returns-in_default c = record {
+  acts = rw (← c.stage.view_is) (nobody c.stage.inside.hand c.args.name _ c.in_default.ensures
+      (λ valid. (valid-making (desk_of c.stage.inside.hand) c.args.name.0 c.args.ownership c.args.value valid).0));
+}
+
+pub returns-then-is_missing : goal.returns-then-is_missing
+returns-then-is_missing c = record {
+  acts = rw (← c.stage.view_is) (invalid _ _ _ (λ valid. none-to-put c.stage.inside.hand c.args.value (c.if-is_missing.ensures.0 refl)
+      (valid-making (desk_of c.stage.inside.hand) c.args.name.0 c.args.ownership c.args.value valid).1));
+}
+
+pub returns-in-Some-refuses_item : goal.returns-in-Some-refuses_item
+returns-in-Some-refuses_item c =
+    let put : IsThereToPut (desk_of c.stage.inside.hand) c.args.value =
+    there-to-put c.stage.inside.hand c.args.value (λ missing. false≢true (c.if-is_missing.ensures.1 missing)) in
+    record {
+      acts = rw (← c.stage.view_is, c.make_room.ensures.kept, c.reserve.ensures.items) (acts-refused _ c.stage.invariant c.is_whole.ensures c.args.name _
+          (got c.stage.inside.hand.places c.args.name.0 _ c.in-Some.ensures) c.args.ownership c.args.value _ put c.in-Some-refuses_item.ensures);
+    }
+
+pub make_item-owner-requires-clause-home : goal.make_item-owner-requires-clause-home
+make_item-owner-requires-clause-home c =
+    body-home c.stage.inside.hand c.stage.invariant c.is_whole.ensures c.args.value _ _ (rw c.make_room.ensures.kept at c.in-Some-body_from.ensures.becomes)
+
+pub give-name-requires : goal.give-name-requires
+give-name-requires c =
+    let long = becomes-long _ _ c.args.value _ c.in-Some-body_from.ensures.becomes in
+    rw (long, c.in-Some-body_from.ensures.room) c.in_ok-make_room.ensures.room
+
+abbrev left : goal.After-give-name → Environment
+left c = record c.stage.inside.hand {
+  world = c.make_item-owner.new.world;
+  owners = c.give-name.new.self;
+  slots = c.push_reserved.new.self;
+  names = with_item c.stage.inside.hand.names c.slot-slot.result (Some c.len-item.result);
+}
+
+made : (c : goal.After-give-name) → IsTied (left c) × Acts (desk_of c.stage.inside.hand) (At c.args.name (making c.args.ownership c.args.value))
+    (reply.Item (record { 0 = c.give-name.result }) (record { 0 = c.len-item.result })) (desk_of (left c))
+made c =
+    let m = c.make_item-owner.ensures.made in
+    let next : c.len-item.result ≡ length c.stage.inside.hand.slots.items = search rules in
+    let slot : c.slot-slot.result ≡ m.0 = sym (first-slot c.args.ownership m.0 _ _ (ap (λ x. slot_of (Some x)) (sym m.3) ∙ c.slot-slot.ensures)) in
+    let long = becomes-long _ _ c.args.value _ c.in-Some-body_from.ensures.becomes in
+    acts-made _ c.stage.invariant c.is_whole.ensures c.args.name _ (got c.stage.inside.hand.places c.args.name.0 _ c.in-Some.ensures)
+    c.args.ownership c.args.value
+    m.0 m.1 m.2 _ c.body_from.new.owners.entries _ _ _ _ c.in-Some-body_from.body _ _ (rw c.make_room.ensures.kept at c.in-Some-body_from.ensures.becomes)
+    m.6 m.4 m.5 m.7 m.8 m.9 m.3 c.give-name.ensures.given (rw (c.reserve.ensures.items, slot) at c.push_reserved.ensures.items)
+    (ap (λ (n : ℕ). slice_set c.stage.inside.hand.names.items c.slot-slot.result (Some n)) next
+    ∙ ap (λ k. slice_set c.stage.inside.hand.names.items k (Some (length c.stage.inside.hand.slots.items))) slot)
+    (c.give-name.ensures.name ∙ long ∙ ap length c.make_room.ensures.kept) next
+
+pub invariant_of-stage-2 : goal.invariant_of-stage-2
+invariant_of-stage-2 c = (made c).0
+
+pub returns : goal.returns
+returns c = record { acts = rw (← c.stage.view_is) (made c).1 }

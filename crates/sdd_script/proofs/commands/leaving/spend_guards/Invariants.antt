@@ -1,0 +1,9 @@
+use Rattle.std.proofs.Common.{◌≡◌, length}
+use Rattle.sdd_script_model.proofs.Entry.{IsSpentTo}
+use Rattle.sdd_script.proofs.commands.leaving.spend_guards.Given as goal
+
+abbrev pub invariant-loop-guard : goal.invariant-loop-guard
+invariant-loop-guard l = record {
+  spent : IsSpentTo l.guard (length l.initial.stage.guards) l.stage.guards;
+  tally : l.stage.world.tally ≡ l.initial.stage.world.tally;
+}

@@ -1,0 +1,136 @@
+use Rattle.std.proofs.Common.{◌≢◌, inl, is_some, slice_index_or, ap, ◌∙◌}
+use Rattle.sdd_script_text.specs.declared.call.Call.TheVariants.{At}
+use Rattle.sdd_script_text.specs.declared.call.Action.TheVariants as call
+use Rattle.sdd_script_text.specs.declared.answer.Reply.TheVariants as reply
+use Rattle.std.specs.Prelude.{IsTrue}
+use Rattle.sdd_space.specs.Shared.{slot_of}
+use Rattle.sdd_script_model.specs.Appending.{IsLooseEntry}
+use Rattle.sdd_script_model.specs.ScriptState.{slot_at}
+use Rattle.sdd_interpreter.specs.Interpreter.{desk_of}
+use Rattle.sdd_interpreter.specs.declared.holding.AnyOwner.TheVariants.{Share}
+use Rattle.sdd_interpreter.proofs.Acts.{Does, owner-home, stays-here}
+use Rattle.sdd_interpreter.proofs.Missing.{invalid, no-shared, points, points-not}
+use Rattle.sdd_script.proofs.ContainerActs.{reader-is}
+use Rattle.sdd_script.proofs.LinkActs.{acts-appended, acts-deleted, its-out, loose-taken, may-come, may-not}
+use Rattle.sdd_script_model.proofs.Stocked.{name-given}
+use Rattle.sdd_script.proofs.commands.links.append.Goals as goal
+
+pub returns-in_default : goal.returns-in_default
+returns-in_default c = record {
+  acts = rw (← c.stage.view_is) (invalid _ _ _ (λ valid. c.in_default.ensures.valid valid.0));
+}
+
+pub slot_since-requires-clause-inside : goal.slot_since-requires-clause-inside
+slot_since-requires-clause-inside c s some =
+    rw (c.as_slice-slots.ensures.value, c.as_slice-names.ensures.value) (name-given _ c.stage.invariant.sound.stocked s some)
+
+pub returns-in_default-slot_since : goal.returns-in_default-slot_since
+returns-in_default-slot_since c =
+    let cannot = rw (c.as_slice-slots.ensures.value, c.as_slice-names.ensures.value, c.as_slice-dates.ensures.value) at c.in_default-slot_since.ensures in
+    record {
+      acts = rw (← c.stage.view_is)
+          (invalid _ _ _ (λ valid. points-not c.stage.inside.hand c.args.name.0 _ c.in-Some.ensures.found.0 c.args.item.0 cannot valid.1));
+    }
+
+pub returns-in_default-shared_of : goal.returns-in_default-shared_of
+returns-in_default-shared_of c = record {
+  acts = rw (← c.stage.view_is)
+      (invalid _ _ _ (λ valid. no-shared c.stage.inside.hand c.args.owner.0 c.in_default-shared_of.ensures (ap is_some valid.2.owner)));
+}
+
+pub is_loose_beside-requires-clause-stays : goal.is_loose_beside-requires-clause-stays
+is_loose_beside-requires-clause-stays c =
+    rw c.slot_of_share.ensures
+    (inl (its-out c.stage.inside.hand c.stage.invariant c.is_whole.ensures c.args.owner.0 c.in-Some-shared_of.owned.now c.in-Some-shared_of.ensures))
+
+pub returns-then-not-is_loose_beside : goal.returns-then-not-is_loose_beside
+returns-then-not-is_loose_beside c =
+    let h = c.stage.inside.hand in
+    let x = c.in-Some-shared_of.owned.now in
+    let slot = c.in-Some-slot_since.ensures.1 ∙ ap (λ slots. slice_index_or slots c.args.item.0 0) c.as_slice-slots.ensures.value in
+    let loose = rw (c.slot_of_share.ensures, slot) at c.is_loose_beside.ensures.loose.1 in
+    let cannot : IsLooseEntry h.world (slot_of x) × (slot_of x ≢ slot_at (desk_of h) c.args.item.0) → ⊥ =
+    λ both. (let yes : IsTrue c.is_loose_beside.result = loose both in let is = c.if-not-is_loose_beside.true in cc) in
+    record {
+      acts = rw (c.is_loose_beside.ensures.world, ← c.stage.view_is) (invalid _ _ _ (λ valid.
+          may-not h c.stage.invariant c.is_whole.ensures c.args.owner.0 x c.in-Some-shared_of.ensures c.args.item.0 cannot valid.2));
+    }
+
+pub value_shown-entry-requires-clause-stays : goal.value_shown-entry-requires-clause-stays
+value_shown-entry-requires-clause-stays c =
+    let found = c.in-Some.ensures.found in
+    let can = rw (c.as_slice-slots.ensures.value, c.as_slice-names.ensures.value, c.as_slice-dates.ensures.value) at c.in-Some-slot_since.ensures.0 in
+    let slot = c.in-Some-slot_since.ensures.1 ∙ ap (λ slots. slice_index_or slots c.args.item.0 0) c.as_slice-slots.ensures.value in
+    rw (c.is_loose_beside.ensures.world, slot) (stays-here _ c.stage.invariant c.is_whole.ensures c.args.name _ found.0 c.args.guard.0 c.args.item.0 _ found.1
+    found.2 (points c.stage.inside.hand c.args.name.0 _ found.0 c.args.item.0 can))
+
+pub list_step_at-requires-clause-asked : goal.list_step_at-requires-clause-asked
+list_step_at-requires-clause-asked c =
+    let h = c.stage.inside.hand in
+    let found = c.in-Some.ensures.found in
+    let slot = c.in-Some-slot_since.ensures.1 ∙ ap (λ slots. slice_index_or slots c.args.item.0 0) c.as_slice-slots.ensures.value in
+    let can = points h c.args.name.0 _ found.0 c.args.item.0
+    (rw (c.as_slice-slots.ensures.value, c.as_slice-names.ensures.value, c.as_slice-dates.ensures.value) at c.in-Some-slot_since.ensures.0) in
+    let shown = rw (c.is_loose_beside.ensures.world, slot) at c.value_shown-entry.ensures.shown in
+    let taken = c.in-Some-take_shared.ensures.0 in
+    let loose = loose-taken h c.stage.invariant c.is_whole.ensures c.args.owner.0 c.in-Some-shared_of.owned.now c.in-Some-shared_of.ensures
+    c.in-Some-take_shared.last (slot_at (desk_of h) c.args.item.0) taken
+    (rw (c.slot_of_share.ensures, slot) at (c.is_loose_beside.ensures.loose.0 c.if-not-is_loose_beside.false)) in
+    rw (c.value_shown-entry.ensures.world, c.is_loose_beside.ensures.world) (
+      rw c.is_loose_beside.ensures.world at c.value_shown-entry.ensures.home,
+      owner-home h c.stage.invariant c.is_whole.ensures c.args.owner.0 (Share c.in-Some-take_shared.last) taken,
+      reader-is h c.stage.invariant c.args.guard.0 _ _ found.1 found.2,
+      may-come h c.stage.invariant c.is_whole.ensures c.args.name _ found.0 c.args.item c.value_shown-entry.result.now shown can c.args.owner
+          c.in-Some-take_shared.last taken loose.0 loose.1,
+    )
+
+put : (c : goal.In-None) → Does (desk_of c.stage.inside.hand)
+    (At c.args.name (call.Append c.args.item c.args.owner c.args.mark c.args.guard)) reply.Done
+    (record c.stage.inside.hand { world = c.list_step_at.new.world; owners = c.take_shared.new.owners })
+put c =
+    let h = c.stage.inside.hand in
+    let found = c.in-Some.ensures.found in
+    let slot = c.in-Some-slot_since.ensures.1 ∙ ap (λ slots. slice_index_or slots c.args.item.0 0) c.as_slice-slots.ensures.value in
+    let can = points h c.args.name.0 _ found.0 c.args.item.0
+    (rw (c.as_slice-slots.ensures.value, c.as_slice-names.ensures.value, c.as_slice-dates.ensures.value) at c.in-Some-slot_since.ensures.0) in
+    let shown = rw (c.is_loose_beside.ensures.world, slot) at c.value_shown-entry.ensures.shown in
+    let taken = c.in-Some-take_shared.ensures.0 in
+    let loose = loose-taken h c.stage.invariant c.is_whole.ensures c.args.owner.0 c.in-Some-shared_of.owned.now c.in-Some-shared_of.ensures
+    c.in-Some-take_shared.last (slot_at (desk_of h) c.args.item.0) taken
+    (rw (c.slot_of_share.ensures, slot) at (c.is_loose_beside.ensures.loose.0 c.if-not-is_loose_beside.false)) in
+    acts-appended h c.stage.invariant c.is_whole.ensures c.args.name _ found.0 c.args.item c.value_shown-entry.result.now shown can c.args.owner
+    c.in-Some-take_shared.last taken loose.0 loose.1 c.args.mark c.args.guard c.in-Some.ensures.valid c.list_step_at.new.world
+    c.take_shared.new.owners.entries (rw (c.value_shown-entry.ensures.world, c.is_loose_beside.ensures.world) at c.in-None.ensures.done)
+    c.in-Some-take_shared.ensures.1
+
+pub invariant_of-stage-in-None : goal.invariant_of-stage-in-None
+invariant_of-stage-in-None c = (put c).0
+
+pub returns-in-None : goal.returns-in-None
+returns-in-None c = record { acts = rw (← c.stage.view_is) (put c).1 }
+
+back : (c : goal.After-put_back) → Does (desk_of c.stage.inside.hand)
+    (At c.args.name (call.Append c.args.item c.args.owner c.args.mark c.args.guard)) reply.Deleted
+    (record c.stage.inside.hand { world = c.list_step_at.new.world; owners = c.put_back.new.self })
+back c =
+    let h = c.stage.inside.hand in
+    let found = c.in-Some.ensures.found in
+    let slot = c.in-Some-slot_since.ensures.1 ∙ ap (λ slots. slice_index_or slots c.args.item.0 0) c.as_slice-slots.ensures.value in
+    let can = points h c.args.name.0 _ found.0 c.args.item.0
+    (rw (c.as_slice-slots.ensures.value, c.as_slice-names.ensures.value, c.as_slice-dates.ensures.value) at c.in-Some-slot_since.ensures.0) in
+    let shown = rw (c.is_loose_beside.ensures.world, slot) at c.value_shown-entry.ensures.shown in
+    let taken = c.in-Some-take_shared.ensures.0 in
+    let loose = loose-taken h c.stage.invariant c.is_whole.ensures c.args.owner.0 c.in-Some-shared_of.owned.now c.in-Some-shared_of.ensures
+    c.in-Some-take_shared.last (slot_at (desk_of h) c.args.item.0) taken
+    (rw (c.slot_of_share.ensures, slot) at (c.is_loose_beside.ensures.loose.0 c.if-not-is_loose_beside.false)) in
+    acts-deleted h c.stage.invariant c.is_whole.ensures c.args.name _ found.0 c.args.item c.value_shown-entry.result.now shown can c.args.owner
+    c.in-Some-take_shared.last taken loose.0 loose.1 c.args.mark c.args.guard c.in-Some.ensures.valid c.list_step_at.new.world
+    c.take_shared.new.owners.entries c.put_back.new.self.entries c.in-Some-list_step_at.last
+    (rw (c.value_shown-entry.ensures.world, c.is_loose_beside.ensures.world) at c.in-Some-list_step_at.ensures.done)
+    c.in-Some-take_shared.ensures.1 c.put_back.ensures.back
+
+pub invariant_of-stage-in-Some-list_step_at : goal.invariant_of-stage-in-Some-list_step_at
+invariant_of-stage-in-Some-list_step_at c = (back c).0
+
+pub returns-in-Some-list_step_at : goal.returns-in-Some-list_step_at
+returns-in-Some-list_step_at c = record { acts = rw (← c.stage.view_is) (back c).1 }

@@ -1,0 +1,55 @@
+use Rattle.std.proofs.Common.{slice_index_or, ap, ◌∙◌}
+use Rattle.sdd_script_text.specs.declared.call.Call.TheVariants.{At}
+use Rattle.sdd_script_text.specs.declared.answer.Reply.TheVariants as reply
+use Rattle.sdd_interpreter.specs.Interpreter.{desk_of}
+use Rattle.sdd_interpreter.proofs.Acts.{Does, stays-here}
+use Rattle.sdd_interpreter.proofs.Missing.{invalid, points, points-not}
+use Rattle.sdd_script.specs.ItemLines.{changing}
+use Rattle.sdd_script.proofs.LinkActs.{acts-changed, valid-changing}
+use Rattle.sdd_script_model.proofs.Stocked.{name-given}
+use Rattle.sdd_script.proofs.commands.links.change_link.Goals as goal
+
+pub returns-in_default : goal.returns-in_default
+returns-in_default c = record {
+  acts = rw (← c.stage.view_is) (invalid _ _ _
+      (λ valid. (let under = (valid-changing (desk_of c.stage.inside.hand) c.args.name.0 c.args.change c.args.item valid).0 in
+      c.in_default.ensures under.0 under.1)));
+}
+
+pub slot_since-requires-clause-inside : goal.slot_since-requires-clause-inside
+slot_since-requires-clause-inside c s some =
+    rw (c.as_slice-slots.ensures.value, c.as_slice-names.ensures.value) (name-given _ c.stage.invariant.sound.stocked s some)
+
+pub returns-in_default-slot_since : goal.returns-in_default-slot_since
+returns-in_default-slot_since c =
+    let cannot = rw (c.as_slice-slots.ensures.value, c.as_slice-names.ensures.value, c.as_slice-dates.ensures.value) at c.in_default-slot_since.ensures in
+    record {
+      acts = rw (← c.stage.view_is) (invalid _ _ _ (λ valid. points-not c.stage.inside.hand c.args.name.0 _ c.in-Some.ensures.0 c.args.item.0 cannot
+          (valid-changing (desk_of c.stage.inside.hand) c.args.name.0 c.args.change c.args.item valid).1));
+    }
+
+pub value_shown-entry-requires-clause-stays : goal.value_shown-entry-requires-clause-stays
+value_shown-entry-requires-clause-stays c =
+    let found = c.in-Some.ensures in
+    let can = rw (c.as_slice-slots.ensures.value, c.as_slice-names.ensures.value, c.as_slice-dates.ensures.value) at c.in-Some-slot_since.ensures.0 in
+    let slot = c.in-Some-slot_since.ensures.1 ∙ ap (λ slots. slice_index_or slots c.args.item.0 0) c.as_slice-slots.ensures.value in
+    rw slot (stays-here _ c.stage.invariant c.is_whole.ensures c.args.name _ found.0 found.2.0 c.args.item.0 _ found.2.1 found.1
+    (points c.stage.inside.hand c.args.name.0 _ found.0 c.args.item.0 can))
+
+changed : (c : goal.After-cell_step_at) → Does (desk_of c.stage.inside.hand) (At c.args.name (changing c.args.change c.args.item))
+    (reply.Truth c.cell_step_at.result) (record c.stage.inside.hand { world = c.cell_step_at.new.world })
+changed c =
+    let found = c.in-Some.ensures in
+    let can = rw (c.as_slice-slots.ensures.value, c.as_slice-names.ensures.value, c.as_slice-dates.ensures.value) at c.in-Some-slot_since.ensures.0 in
+    let slot = c.in-Some-slot_since.ensures.1 ∙ ap (λ slots. slice_index_or slots c.args.item.0 0) c.as_slice-slots.ensures.value in
+    let shown = rw slot at c.value_shown-entry.ensures.shown in
+    let done = rw c.value_shown-entry.ensures.world at c.cell_step_at.ensures.done in
+    acts-changed c.stage.inside.hand c.stage.invariant c.args.item c.args.name c.value_shown-entry.result.now done.0
+    ((found.2.0, found.2.2), points c.stage.inside.hand c.args.name.0 _ found.0 c.args.item.0 can) shown done.1
+    c.is_whole.ensures _ found.0 c.args.change c.cell_step_at.result c.cell_step_at.new.world done.2 done.3
+
+pub invariant_of-stage : goal.invariant_of-stage
+invariant_of-stage c = (changed c).0
+
+pub returns : goal.returns
+returns c = record { acts = rw (← c.stage.view_is) (changed c).1 }

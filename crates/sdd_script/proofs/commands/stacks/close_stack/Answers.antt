@@ -1,0 +1,43 @@
+use Rattle.std.proofs.Common.{◌≡◌, length, sym, ◌∙◌, arith, rules}
+use Rattle.sdd_script_text.specs.declared.call.Call.TheVariants.{At}
+use Rattle.sdd_script_text.specs.declared.call.Action.TheVariants as call
+use Rattle.sdd_script_text.specs.declared.answer.Reply.TheVariants as reply
+use Rattle.sdd_interpreter.specs.Interpreter.{desk_of}
+use Rattle.sdd_interpreter.proofs.Acts.{Does}
+use Rattle.sdd_interpreter.proofs.Missing.{invalid}
+use Rattle.sdd_interpreter.proofs.Stacks.{no-stack, stack-home}
+use Rattle.sdd_script.proofs.StackActs.{AreTold, acts-closed}
+use Rattle.sdd_script.proofs.commands.stacks.close_stack.Goals as goal
+
+pub returns-in_default : goal.returns-in_default
+returns-in_default c = record {
+  acts = rw (← c.stage.view_is) (invalid _ _ _ (λ valid. c.in_default.ensures valid.0.0 valid.0.1));
+}
+
+pub returns-in_default-get : goal.returns-in_default-get
+returns-in_default-get c = record {
+  acts = rw (← c.stage.view_is) (invalid _ _ _ (λ valid. no-stack c.stage.inside.hand c.args.stack.0 c.in_default-get.ensures valid.1));
+}
+
+pub unreachable-requires : goal.unreachable-requires
+unreachable-requires c = absurd (let never = c.in_default-take.ensures.taken ∙ sym c.in-Some-get.ensures in cc)
+
+pub close_at-requires-clause-stack : goal.close_at-requires-clause-stack
+close_at-requires-clause-stack c = stack-home c.stage.inside.hand c.stage.invariant c.args.stack.0 _ c.in-Some-take.ensures.taken
+
+closed : (c : goal.After-drop-waited) → Does (desk_of c.stage.inside.hand) (At c.args.name (call.CloseStack c.args.stack)) reply.Done
+    (record c.stage.inside.hand { world = c.close_at.new.world; stacks = c.take.new.self; dates = c.date_new.new.dates })
+closed c =
+    let h = c.stage.inside.hand in
+    let found = c.in-Some.ensures in
+    let long : c.len-slots.result ≡ length c.stage.inside.hand.names.items = search rules in
+    let told_so : AreTold c.stage.inside.hand c.in_ok-waited.waited.items = λ s lt. c.in_ok-waited.ensures.each s (omega (arith, lt, long)) in
+    acts-closed h c.stage.invariant c.is_whole.ensures c.args.name _ found.0 c.args.stack _ c.in-Some-take.ensures.taken
+    c.in_ok-waited.waited.items told_so c.close_at.new.world c.take.new.self.entries c.date_new.new.dates (found.2.0, found.2.2)
+    c.close_at.ensures.closed c.in-Some-take.ensures.spent (rw c.as_slice.ensures.value at c.date_new.ensures.dated, c.date_new.ensures.long)
+
+pub invariant_of-stage : goal.invariant_of-stage
+invariant_of-stage c = (closed c).0
+
+pub returns : goal.returns
+returns c = record { acts = rw (← c.stage.view_is) (closed c).1 }

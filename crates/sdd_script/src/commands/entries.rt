@@ -1,0 +1,119 @@
+//! What participants put among the entries of containers, and take out of them.
+#![tactic(auto, using(sdd_interpreter::proofs::Taken::in_hand))]
+
+ghost use Rattle.std.specs.Prelude.{◌≡◌, MatchResult};
+ghost use Rattle.sdd_script_model.specs.Script.{Acts};
+ghost use Rattle.sdd_script.specs.ItemLines.{popping, pushing};
+
+use sdd_interpreter::Interpreter;
+use sdd_interpreter::containers::{list_named, number_owned};
+use sdd_interpreter::holding::{AnyOwner, slot_of_share};
+use sdd_interpreter::items::{date_new, waiting_by_slot};
+use sdd_interpreter::participants::under;
+use sdd_interpreter::turns::containers::{pop_at, push_at};
+use sdd_lists::Unpopped;
+use sdd_script_text::{Call, GuardName, ItemName, ListName, OwnerName, PlaceName, Reply};
+use std::alloc::AllocError;
+
+/// `P push L n G`: a number behind a queue's entries, or in front of a stack's; its item, and an owner of that, are named. What is deleted there is let go of.
+/// `P pushif L n m G`: the same, if the newest number that isn't deleted is m. `NoSlot` and `NoCell` are replies. Refused where memory is, for the names or to
+/// tell what begins to wait, and then nothing has changed.
+pub fn push(
+    stage: &mut Interpreter,
+    name: PlaceName,
+    list: ListName,
+    number: u64,
+    newest: Option<u64>,
+    guard: GuardName,
+) -> Result<Reply, AllocError>
+    ensures acts { MatchResult result
+        (λ reply. Acts stage.old (Call.At name (pushing list number newest guard)) reply stage.new)
+        (λ _. stage.new ≡ stage.old) }
+{
+    let Some((attending, held)) = under(&stage.hand.places, &stage.hand.guards, name, guard) else {
+        return Ok(Reply::Invalid);
+    };
+    let Some(list) = list_named(&stage.hand.queues, &stage.hand.stacks, list) else {
+        return Ok(Reply::Invalid);
+    };
+    stage.hand.owners.make_room()?;
+    stage.hand.slots.reserve(1)?;
+    stage.hand.world.is_whole();
+    let slots = stage.hand.names.len();
+    let waited = waiting_by_slot(stage.hand.alloc, &stage.hand.world, slots)?;
+    let place = &attending.place;
+    let owner = match push_at(
+        &mut stage.hand.world,
+        place,
+        list,
+        number,
+        newest,
+        &held.guard,
+    ) {
+        Ok(owner) => owner,
+        Err(Some(refused)) => return Ok(Reply::Refused(refused)),
+        Err(None) => return Ok(Reply::Kept(number)),
+    };
+    let slot = slot_of_share(&owner);
+    let item = stage.hand.slots.len() as u64;
+    stage.hand.names[slot as usize] = Some(item);
+    stage.hand.slots.push_reserved(slot);
+    let line = stage.hand.moment;
+    date_new(
+        &mut stage.hand.dates,
+        &stage.hand.world,
+        waited.as_slice(),
+        line,
+    );
+    let name = stage.hand.owners.give(AnyOwner::Share(owner));
+    Ok(Reply::Item(OwnerName(name), ItemName(item)))
+}
+
+/// `P pop L G`: the first number that isn't deleted is taken out, the oldest of a queue or the newest of a stack, and an owner of its item is named.
+/// `P popif L m G`: the same, if it is m; else it stays, and an owner more of it is named. `TooManyOwners` is a reply. Refused where memory is, for the name or
+/// to tell what begins to wait, and then nothing has changed.
+pub fn pop(
+    stage: &mut Interpreter,
+    name: PlaceName,
+    list: ListName,
+    first: Option<u64>,
+    guard: GuardName,
+) -> Result<Reply, AllocError>
+    ensures acts { MatchResult result
+        (λ reply. Acts stage.old (Call.At name (popping list first guard)) reply stage.new)
+        (λ _. stage.new ≡ stage.old) }
+{
+    let Some((attending, held)) = under(&stage.hand.places, &stage.hand.guards, name, guard) else {
+        return Ok(Reply::Invalid);
+    };
+    let Some(list) = list_named(&stage.hand.queues, &stage.hand.stacks, list) else {
+        return Ok(Reply::Invalid);
+    };
+    stage.hand.owners.make_room()?;
+    stage.hand.world.is_whole();
+    let slots = stage.hand.names.len();
+    let waited = waiting_by_slot(stage.hand.alloc, &stage.hand.world, slots)?;
+    let place = &attending.place;
+    let popped = match pop_at(&mut stage.hand.world, place, list, first, &held.guard) {
+        Ok(popped) => popped,
+        Err(Unpopped::Kept(owner)) => {
+            let number = number_owned(&owner, &stage.hand.world);
+            let name = stage.hand.owners.give(AnyOwner::Share(owner));
+            return Ok(Reply::KeptEntry(OwnerName(name), number));
+        }
+        Err(Unpopped::Refused(refused)) => return Ok(Reply::Refused(refused)),
+    };
+    let line = stage.hand.moment;
+    date_new(
+        &mut stage.hand.dates,
+        &stage.hand.world,
+        waited.as_slice(),
+        line,
+    );
+    let Some(owner) = popped else {
+        return Ok(Reply::Nothing);
+    };
+    let number = number_owned(&owner, &stage.hand.world);
+    let name = stage.hand.owners.give(AnyOwner::Share(owner));
+    Ok(Reply::Popped(OwnerName(name), number))
+}

@@ -1,3 +1,0 @@
-pub mod ItemLines
-pub mod GuardLines
-pub mod Leaving
