@@ -4,7 +4,8 @@
 //! The module `dialogue` says what an example looks like.
 //!
 //! And tests of scripts and schedules: their lines and answers, how plays end and what they write then, devices that fail,
-//! the words of the command line, worked examples of the machine, and the greatest sizes.
+//! the words of the command line, worked examples of the machine, and the greatest sizes. The module `machine` has
+//! tests of epochs, tags, refusals, and the machine's steps as values.
 #![tactic(auto)]
 
 #[cfg(test)]
@@ -12,6 +13,8 @@ mod devices;
 mod dialogue;
 #[cfg(test)]
 mod lines;
+#[cfg(test)]
+mod machine;
 mod played;
 #[cfg(test)]
 mod plays;
