@@ -1,7 +1,9 @@
 //! Worked examples, as tests: which epoch each guard of a world shows, at which of them an item is reclaimed, the greatest
-//! sizes of worlds, and the same calls over a turn and over a domain's only participant.
+//! sizes of worlds, and the same calls over a turn and over a domain's only participant; cells and the owners in them,
+//! lists, and bags.
 #![tactic(auto)]
 
+pub mod bags;
 pub mod cells;
 #[cfg(test)]
 mod ending;
@@ -13,6 +15,7 @@ mod guards;
 mod jobs;
 #[cfg(test)]
 mod limits_and_memory;
+pub mod lists;
 #[cfg(test)]
 mod openings;
 #[cfg(test)]
@@ -24,4 +27,6 @@ mod steps;
 #[cfg(test)]
 mod world_sizes;
 
+pub use bags::Cargo;
 pub use cells::Value;
+pub use lists::Station;

@@ -1,3 +1,0 @@
-pub mod Station
-pub mod LeavesTime
-pub mod Cargo

@@ -1,0 +1,12 @@
+use Rattle.std.proofs.Common.{◌≡◌}
+use Rattle.sdd_lists.specs.Walk.{IsWalkOf, steps_left}
+use Rattle.sdd_world_tests.proofs.lists.rounds.sum_walked.Given as goal
+
+abbrev pub invariant-loop-value : goal.invariant-loop-value
+invariant-loop-value g l = record {
+  seat : g.S.Caller.seat l.s ≡ g.S.Caller.seat l.fn.s;
+  walk : IsWalkOf (g.S.Caller.seat l.fn.s).home.cells l.walk;
+}
+
+abbrev pub decreases-loop-value : goal.decreases-loop-value
+decreases-loop-value g l = steps_left l.walk
