@@ -17,27 +17,26 @@ use Rattle.sdd_shared_values.specs.Bank.{Comes, Leaves, AllowsDeal}
 use Rattle.sdd_rights.specs.declared.views.EpochView.{EpochView}
 use Rattle.sdd_rights.specs.declared.views.View.{View}
 use Rattle.sdd_rights.specs.declared.views.Sizes.{Sizes}
-use Rattle.sdd_word_invariant.specs.Words.{global_word, lock_word, state_word, count_word, slot_word, IsEpochWord}
-use Rattle.sdd_word_invariant.specs.Codes.{free_word, owned_word, raw_word, waiting_word, alive, counted as counts_owners, held_word, most_owners, shared_word}
-use Rattle.sdd_word_invariant.proofs.Codes.{one_left}
-use Rattle.sdd_word_invariant.specs.Epoch.{HasPlace, IsClosed, IsOpen, Scans}
+use Rattle.sdd_domain_invariant.specs.Words.{global_word, lock_word, state_word, count_word, slot_word, IsEpochWord}
+use Rattle.sdd_domain_invariant.specs.Codes.{free_word, owned_word, raw_word, waiting_word, alive, counted as counts_owners, held_word, most_owners, shared_word}
+use Rattle.sdd_domain_invariant.proofs.Codes.{one_left}
+use Rattle.sdd_domain_invariant.specs.Epoch.{HasPlace, IsClosed, IsOpen, Scans}
 use Rattle.sdd_rights.specs.Views.{nobody, owner_of}
-use Rattle.sdd_word_invariant.specs.EpochSteps.{Keeps, passed_by, knowing, scanning, IsNext, Registers, Reads, Counts, Publishes, Ends, Locks, LooksAtLock, LooksAtState, LooksAtCount, Advances, Unlocks}
-use Rattle.sdd_word_invariant.specs.Slots.{Owns, Holds}
-use Rattle.sdd_word_invariant.specs.SlotSteps.{blank, changed, OnEpoch, PublishesAll, IsDue, LooksAtSlot, TakesHold, LetsGo, TriesHold, SharesAgain, LooksForGuard, AtSlot}
-use Rattle.sdd_word_invariant.specs.Barred.{IsNobodys, Bars, LooksForValue}
-use Rattle.sdd_word_invariant.proofs.Epoch as epochs
-use Rattle.sdd_word_invariant.proofs.EpochSteps as over
-use Rattle.sdd_word_invariant.proofs.Barred.{Spares}
-use Rattle.sdd_word_invariant.proofs.Sums.{is_same}
+use Rattle.sdd_domain_invariant.specs.EpochSteps.{Keeps, passed_by, knowing, scanning, IsNext, Registers, Reads, Counts, Publishes, Ends, Locks, LooksAtLock, LooksAtState, LooksAtCount, Advances, Unlocks}
+use Rattle.sdd_domain_invariant.specs.Slots.{Owns, Holds}
+use Rattle.sdd_domain_invariant.specs.SlotSteps.{blank, changed, OnEpoch, PublishesAll, IsDue, LooksAtSlot, TakesHold, LetsGo, TriesHold, SharesAgain, LooksForGuard, AtSlot}
+use Rattle.sdd_domain_invariant.specs.Barred.{IsNobodys, Bars, LooksForValue}
+use Rattle.sdd_domain_invariant.proofs.Epoch as epochs
+use Rattle.sdd_domain_invariant.proofs.EpochSteps as over
+use Rattle.sdd_domain_invariant.proofs.Barred.{Spares}
+use Rattle.sdd_domain_invariant.proofs.Sums.{is_same}
 use Rattle.sdd_domain_invariant.specs.FractionsAtHome.{CarriedFractions, Moves, spare}
 use Rattle.sdd_domain_invariant.specs.BankInvariant.{IsBank, banked, founder, one_where}
 use Rattle.sdd_domain_invariant.specs.FilledInvariant.{HasRecord}
 use Rattle.sdd_domain_invariant.specs.Records.{IsIn}
 use Rattle.sdd_domain_invariant.specs.KindsInvariant.{written}
 use Rattle.sdd_rights.specs.declared.views.ShownValue.{ShownValue}
-use Rattle.sdd_word_invariant.proofs.SlotSteps.{less_one}
-use Rattle.sdd_domain_invariant.specs.Records.{IsIn}
+use Rattle.sdd_domain_invariant.proofs.SlotSteps.{less_one}
 use Rattle.sdd_domain_invariant.specs.DomainInvariant.{DomainInvariant}
 use Rattle.sdd_domain_invariant.specs.FractionSteps.{SeatState, CarriesAll, IsValue, CarriesSeen, ClaimsAll, FillsSlot, EntersUnit, TakesOut, TakesHeld, IsDeposit, RetiresOne, ReleasesOne, LeavesOne, GivesAll, DiscardsAll, SeesOwned, LearnsOwned, ClosesHome, EndsAll, OfSlot, AddsSeen, IsStill}
 use Rattle.sdd_domain_invariant.proofs.Lift.{lift_epoch, lift_publish, lift_end}
@@ -45,7 +44,6 @@ use Rattle.sdd_domain_invariant.proofs.Steps.{own_place}
 use Rattle.sdd_domain_invariant.proofs.Steps as steps
 use Rattle.sdd_domain_invariant.proofs.RawSteps as raw
 use Rattle.sdd_domain_invariant.proofs.Upgrading as upgrading
-use Rattle.sdd_domain_invariant.specs.FilledInvariant.{HasRecord}
 use Rattle.sdd_domain_invariant.specs.RawSteps.{TurnsRawOne, RegainsOne, SeesRawOne}
 use Rattle.sdd_domain_invariant.proofs.Telling.{one_moved}
 use Rattle.sdd_domain_invariant.proofs.Tokens.{enters}

@@ -15,10 +15,10 @@ use Rattle.sdd_rights.specs.declared.views.View.{View}
 use Rattle.sdd_rights.specs.declared.views.Sizes.{Sizes}
 use Rattle.sdd_rights.specs.contracts.views.View.{the_row}
 use Rattle.sdd_rights.specs.Views.{right_to}
-use Rattle.sdd_word_invariant.specs.Words.{cell_word}
-use Rattle.sdd_word_invariant.specs.Codes.{held_slots}
-use Rattle.sdd_word_invariant.specs.CellSteps.{noting}
-use Rattle.sdd_word_invariant.specs.Epoch.{HasPlace, IsOpen}
+use Rattle.sdd_domain_invariant.specs.Words.{cell_word}
+use Rattle.sdd_domain_invariant.specs.Codes.{held_slots}
+use Rattle.sdd_domain_invariant.specs.CellWordSteps.{noting}
+use Rattle.sdd_domain_invariant.specs.Epoch.{HasPlace, IsOpen}
 use Rattle.sdd_domain_invariant.specs.DomainInvariant.{DomainInvariant}
 use Rattle.sdd_domain_invariant.specs.FilledInvariant.{HasRecord}
 use Rattle.sdd_domain_invariant.specs.PledgesInvariant.{pledging, freeing}
@@ -27,7 +27,7 @@ use Rattle.sdd_domain_invariant.specs.CellSteps.{put_in, brought_out, BringsOut,
 use Rattle.sdd_domain_invariant.proofs.Cells.{bare_open, owner_open}
 use Rattle.sdd_domain_invariant.proofs.CellSteps as cells
 use Rattle.sdd_domain_invariant.proofs.Fillings.{has_none}
-use Rattle.sdd_word_invariant.proofs.Codes.{held_which}
+use Rattle.sdd_domain_invariant.proofs.Codes.{held_which}
 use Rattle.atomic_table.specs.declared.shared.Seat.{Seat}
 use Rattle.sdd_shared_values.specs.declared.value_fraction.ValueFraction.{ValueFraction}
 use Rattle.sdd_atomics.specs.DomainSeat.{Moved}

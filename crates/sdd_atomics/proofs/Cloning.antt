@@ -12,12 +12,12 @@ use Rattle.sdd_rights.specs.declared.views.View.{View}
 use Rattle.sdd_rights.specs.declared.views.Sizes.{Sizes}
 use Rattle.sdd_rights.specs.contracts.views.View.{the_row}
 use Rattle.sdd_rights.specs.Views.{owner_of}
-use Rattle.sdd_word_invariant.specs.Words.{slot_word}
-use Rattle.sdd_word_invariant.specs.Codes.{alive, counted, shared_base}
-use Rattle.sdd_word_invariant.specs.Epoch.{HasPlace, IsLone}
-use Rattle.sdd_word_invariant.specs.Slots.{Holds}
-use Rattle.sdd_word_invariant.specs.SlotSteps.{one_more, taken_back, behind, noted}
-use Rattle.sdd_word_invariant.proofs.Codes.{shared, counted_is}
+use Rattle.sdd_domain_invariant.specs.Words.{slot_word}
+use Rattle.sdd_domain_invariant.specs.Codes.{alive, counted, shared_base}
+use Rattle.sdd_domain_invariant.specs.Epoch.{HasPlace, IsLone}
+use Rattle.sdd_domain_invariant.specs.Slots.{Holds}
+use Rattle.sdd_domain_invariant.specs.SlotSteps.{one_more, taken_back, behind, noted}
+use Rattle.sdd_domain_invariant.proofs.Codes.{shared, counted_is}
 use Rattle.sdd_domain_invariant.specs.BankInvariant.{IsBank, banked}
 use Rattle.sdd_domain_invariant.specs.DomainInvariant.{DomainInvariant}
 use Rattle.sdd_domain_invariant.specs.FilledInvariant.{HasRecord}

@@ -14,11 +14,11 @@ use Rattle.sdd_rights.specs.declared.views.View.{View}
 use Rattle.sdd_rights.specs.declared.views.Sizes.{Sizes}
 use Rattle.sdd_rights.specs.contracts.views.View.{the_row}
 use Rattle.sdd_rights.specs.Views.{right_to}
-use Rattle.sdd_word_invariant.specs.Words.{slot_word}
-use Rattle.sdd_word_invariant.specs.Codes.{free_word, private_word, emptying_word, left_word}
-use Rattle.sdd_word_invariant.specs.Collectors.{Closes, FoundEmptied}
-use Rattle.sdd_word_invariant.specs.CollectorSteps.{collected, WaitsFor, HasWaiting}
-use Rattle.sdd_word_invariant.specs.Epoch.{HasPlace}
+use Rattle.sdd_domain_invariant.specs.Words.{slot_word}
+use Rattle.sdd_domain_invariant.specs.Codes.{free_word, private_word, emptying_word, left_word}
+use Rattle.sdd_domain_invariant.specs.Collectors.{Closes, FoundEmptied}
+use Rattle.sdd_domain_invariant.specs.CollectorWordSteps.{collected, WaitsFor, HasWaiting}
+use Rattle.sdd_domain_invariant.specs.Epoch.{HasPlace}
 use Rattle.sdd_domain_invariant.specs.CollectorSteps.{CollectsOne, LeavesOneToClose, GivesOnePrivateBack, ClosesOne, ClosesNone, EmptiesOne, EmptiesOwnOne}
 use Rattle.sdd_domain_invariant.specs.DomainInvariant.{DomainInvariant}
 use Rattle.sdd_domain_invariant.specs.FractionSteps.{SeatState, forgetting, OfSlot}

@@ -9,12 +9,12 @@ use Rattle.sdd_shared_values.specs.declared.value_fraction.ValueFraction.{ValueF
 use Rattle.sdd_shared_values.specs.Bank.{Leaves, AllowsDeal}
 use Rattle.sdd_rights.specs.declared.views.View.{View}
 use Rattle.sdd_rights.specs.declared.views.Sizes.{Sizes}
-use Rattle.sdd_word_invariant.specs.Words.{slot_word}
-use Rattle.sdd_word_invariant.specs.Codes.{free_word, waiting_word, private_word, emptying_word, emptied_word}
-use Rattle.sdd_word_invariant.specs.Epoch.{HasPlace}
+use Rattle.sdd_domain_invariant.specs.Words.{slot_word}
+use Rattle.sdd_domain_invariant.specs.Codes.{free_word, waiting_word, private_word, emptying_word, emptied_word}
+use Rattle.sdd_domain_invariant.specs.Epoch.{HasPlace}
 use Rattle.sdd_rights.specs.declared.views.PrivateItem.{PrivateItem}
-use Rattle.sdd_word_invariant.specs.Collectors.{Empties, HasPrivate}
-use Rattle.sdd_word_invariant.specs.CollectorSteps.{WaitsFor}
+use Rattle.sdd_domain_invariant.specs.Collectors.{Empties, HasPrivate}
+use Rattle.sdd_domain_invariant.specs.CollectorWordSteps.{WaitsFor}
 use Rattle.sdd_domain_invariant.specs.BankInvariant.{IsBank, banked}
 use Rattle.sdd_domain_invariant.specs.FractionsAtHome.{CarriedFractions, Moves}
 use Rattle.sdd_domain_invariant.specs.DomainInvariant.{DomainInvariant}

@@ -4,10 +4,10 @@ use Rattle.std.specs.Prelude.{None}
 use prog.Atomic.{either}
 use Rattle.atomic_table.specs.Table.{Allows}
 use Rattle.sdd_rights.specs.declared.views.Sizes.{Sizes}
-use Rattle.sdd_word_invariant.specs.Words.{slot_word, most_waiting}
-use Rattle.sdd_word_invariant.specs.Codes.{free_word, waiting_word}
-use Rattle.sdd_word_invariant.specs.Epoch.{HasPlace}
-use Rattle.sdd_word_invariant.specs.SlotSteps.{IsDue, LooksAtSlot, AtSlot}
+use Rattle.sdd_domain_invariant.specs.Words.{slot_word, most_waiting}
+use Rattle.sdd_domain_invariant.specs.Codes.{free_word, waiting_word}
+use Rattle.sdd_domain_invariant.specs.Epoch.{HasPlace}
+use Rattle.sdd_domain_invariant.specs.SlotSteps.{IsDue, LooksAtSlot, AtSlot}
 use Rattle.sdd_domain_invariant.specs.DomainInvariant.{DomainInvariant}
 use Rattle.sdd_domain_invariant.specs.FractionSteps.{SeatState, DefersJob, GivesPlace, OfSlot}
 use Rattle.sdd_domain_invariant.proofs.JobSteps as steps

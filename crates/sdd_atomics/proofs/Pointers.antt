@@ -6,10 +6,10 @@ use Rattle.atomic_table.specs.declared.shared.Seat.{Seat}
 use Rattle.sdd_shared_values.specs.declared.value_fraction.ValueFraction.{ValueFraction}
 use Rattle.sdd_rights.specs.declared.views.View.{View}
 use Rattle.sdd_rights.specs.declared.views.Sizes.{Sizes}
-use Rattle.sdd_word_invariant.specs.Words.{pointer_word}
-use Rattle.sdd_word_invariant.specs.Codes.{pointers_end}
-use Rattle.sdd_word_invariant.specs.CellSteps.{LooksAtPointer, SwapsPointer, ExchangesPointer}
-use Rattle.sdd_word_invariant.specs.Epoch.{HasPlace}
+use Rattle.sdd_domain_invariant.specs.Words.{pointer_word}
+use Rattle.sdd_domain_invariant.specs.Codes.{pointers_end}
+use Rattle.sdd_domain_invariant.specs.CellWordSteps.{LooksAtPointer, SwapsPointer, ExchangesPointer}
+use Rattle.sdd_domain_invariant.specs.Epoch.{HasPlace}
 use Rattle.sdd_domain_invariant.specs.DomainInvariant.{DomainInvariant}
 use Rattle.sdd_domain_invariant.specs.FractionSteps.{SeatState}
 use Rattle.sdd_domain_invariant.specs.CellSteps.{FindsPointer, OfPointer}

@@ -8,8 +8,8 @@ use Rattle.sdd_rights.specs.declared.views.View.{View}
 use Rattle.sdd_rights.specs.contracts.views.View.{the_row}
 use Rattle.sdd_rights.specs.Views.{right_to}
 use Rattle.sdd_rights.specs.Owner.{cell_kind}
-use Rattle.sdd_word_invariant.specs.Words.{cell_word}
-use Rattle.sdd_word_invariant.specs.Codes.{held_slots}
+use Rattle.sdd_domain_invariant.specs.Words.{cell_word}
+use Rattle.sdd_domain_invariant.specs.Codes.{held_slots}
 use Rattle.sdd_domain_invariant.specs.FilledInvariant.{HasRecord}
 use Rattle.sdd_domain_invariant.specs.FractionSteps.{SeatState}
 use Rattle.sdd_domain_invariant.specs.CellSteps.{SwapsOne, ExchangesOne, FreesCell, FreesBare, LearnsCell, FindsCell}

@@ -1,8 +1,8 @@
 -- Steps of a collector's close, and of a bag on what waits for collectors
 use Rattle.std.specs.Prelude.{◌≡◌, ℕ, [], ◌∷◌}
 use Rattle.sdd_rights.specs.declared.views.CellKind.TheVariants.{Raw, Collector}
-use Rattle.sdd_word_invariant.specs.Words.{slot_word}
-use Rattle.sdd_word_invariant.specs.CollectorSteps.{WaitsFor}
+use Rattle.sdd_domain_invariant.specs.Words.{slot_word}
+use Rattle.sdd_domain_invariant.specs.CollectorWordSteps.{WaitsFor}
 use Rattle.sdd_domain_invariant.specs.FractionSteps.{SeatState, OfSlot}
 use Rattle.sdd_domain_invariant.specs.CollectorSteps.{CollectsOne, LeavesOneToClose, ClosesOne, ClosesNone}
 use Rattle.sdd_atomics.specs.Emptying.{collector_named}

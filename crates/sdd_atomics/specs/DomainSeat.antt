@@ -6,8 +6,8 @@ use Rattle.atomic_table.specs.declared.shared.Seat.{Seat}
 use Rattle.sdd_rights.specs.declared.views.EpochView.{EpochView}
 use Rattle.sdd_rights.specs.declared.views.SlotsView.{SlotsView}
 use Rattle.sdd_rights.specs.declared.views.View.{View}
-use Rattle.sdd_word_invariant.specs.EpochSteps.{Publishes}
-use Rattle.sdd_word_invariant.specs.SlotSteps.{changed}
+use Rattle.sdd_domain_invariant.specs.EpochSteps.{Publishes}
+use Rattle.sdd_domain_invariant.specs.SlotSteps.{changed}
 use Rattle.sdd_shared_values.specs.declared.value_fraction.ValueFraction.{ValueFraction}
 use Rattle.sdd_rights.specs.Views.{owner_of}
 use Rattle.sdd_domain_invariant.specs.FractionsAtHome.{CarriedFractions, Moves}

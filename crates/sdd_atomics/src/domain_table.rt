@@ -1,9 +1,9 @@
 //! The words of a domain and the stakes in its values, under their rule, and the token that a participant steps with.
 ghost use Rattle.std.specs.Prelude.{◌≡◌, ◌+◌, ◌<◌, ◌≤◌, ℕ, MatchResult};
-ghost use Rattle.sdd_word_invariant.specs.Words as words;
-ghost use Rattle.sdd_word_invariant.specs.Words.{all_words};
-ghost use Rattle.sdd_word_invariant.specs.Codes.{full};
-ghost use Rattle.sdd_word_invariant.specs.Slots.{slot_at};
+ghost use Rattle.sdd_domain_invariant.specs.Words as words;
+ghost use Rattle.sdd_domain_invariant.specs.Words.{all_words};
+ghost use Rattle.sdd_domain_invariant.specs.Codes.{full};
+ghost use Rattle.sdd_domain_invariant.specs.Slots.{slot_at};
 ghost use Rattle.core.specs.Mem.Slots.{slots_items, slots_len, IsFull};
 ghost use Rattle.sdd_domain_invariant.specs.FractionsAtHome.{AreLaid, AreHome};
 ghost use Rattle.sdd_domain_invariant.specs.Counts.{made_by, gone_by, over_by, full_slots};

@@ -1,13 +1,13 @@
 //! What each step tells.
 ghost use Rattle.std.specs.Prelude.{[], true, false};
-ghost use Rattle.sdd_word_invariant.specs.EpochSteps.{Registers, Reads, Counts, Locks, LooksAtLock, LooksAtState, LooksAtCount, Advances, Unlocks};
-ghost use Rattle.sdd_word_invariant.specs.SlotSteps.{OnEpoch, PublishesAll, LooksAtSlot, TakesHold, LetsGo, TriesHold, SharesAgain, LooksForGuard, AtSlot};
-ghost use Rattle.sdd_word_invariant.specs.CellSteps.{LooksAtPointer, SwapsPointer, ExchangesPointer};
-ghost use Rattle.sdd_word_invariant.specs.Barred.{Bars, LooksForValue};
+ghost use Rattle.sdd_domain_invariant.specs.EpochSteps.{Registers, Reads, Counts, Locks, LooksAtLock, LooksAtState, LooksAtCount, Advances, Unlocks};
+ghost use Rattle.sdd_domain_invariant.specs.SlotSteps.{OnEpoch, PublishesAll, LooksAtSlot, TakesHold, LetsGo, TriesHold, SharesAgain, LooksForGuard, AtSlot};
+ghost use Rattle.sdd_domain_invariant.specs.CellWordSteps.{LooksAtPointer, SwapsPointer, ExchangesPointer};
+ghost use Rattle.sdd_domain_invariant.specs.Barred.{Bars, LooksForValue};
 ghost use Rattle.sdd_rights.specs.Views.{owner_token};
 ghost use Rattle.sdd_domain_invariant.specs.BankInvariant.{founded, bank_of, with_ledger, ledger_of};
 ghost use Rattle.sdd_domain_invariant.specs.FractionSteps.{ClaimsAll, TakesOut, TakesHeld, IsDeposit, RetiresOne, GivesAll, DefersJob, GivesPlace, DiscardsAll, ClosesHome, EndsAll, EntersUnit, OfSlot, parting, departing, regained, uncounting, counts_of, counting, ReleasesOne, LeavesOne, TakesOneBack, DrawsUnit, AddsSeen};
-ghost use Rattle.sdd_word_invariant.specs.Codes.{raw_word};
+ghost use Rattle.sdd_domain_invariant.specs.Codes.{raw_word};
 ghost use Rattle.sdd_domain_invariant.specs.CollectorSteps.{ReclaimsOne, TakesPrivate, EmptiedOne, GivesOneEmptyBack, GivesOneOwnBack, EmptiesOne, EmptiesOwnOne, GivesOnePrivateBack};
 ghost use Rattle.sdd_domain_invariant.specs.RawSteps.{TurnsRawOne, RegainsOne, SeesRawOne};
 ghost use Rattle.sdd_rights.specs.declared.views.CellKind.TheVariants.{Owned as for_owned, Shared as for_shared, Raw as for_raw};

@@ -1,13 +1,13 @@
 //! The atomic steps of the epoch, one function each. With those on slots nothing else changes a word of a domain.
 ghost use Rattle.std.specs.Prelude.{◌≡◌, ◌+◌, ◌^◌, ◌<◌, [], None};
-ghost use Rattle.sdd_word_invariant.specs.Words as words;
-ghost use Rattle.sdd_word_invariant.specs.Epoch.{IsClosed, IsOpen, Scans};
+ghost use Rattle.sdd_domain_invariant.specs.Words as words;
+ghost use Rattle.sdd_domain_invariant.specs.Epoch.{IsClosed, IsOpen, Scans};
 ghost use Rattle.sdd_rights.specs.Views.{nobody};
-ghost use Rattle.sdd_word_invariant.specs.EpochSteps.{IsNext, Registers, Reads, Counts, Locks, LooksAtLock, LooksAtState, LooksAtCount, Advances, Unlocks};
-ghost use Rattle.sdd_word_invariant.specs.WordInvariant.{idle};
+ghost use Rattle.sdd_domain_invariant.specs.EpochSteps.{IsNext, Registers, Reads, Counts, Locks, LooksAtLock, LooksAtState, LooksAtCount, Advances, Unlocks};
+ghost use Rattle.sdd_domain_invariant.specs.WordInvariant.{idle};
 ghost use Rattle.sdd_atomics.specs.DomainTable.{id_of, sizes_of, book_of, places_of};
-ghost use Rattle.sdd_word_invariant.specs.SlotSteps.{blank};
-ghost use Rattle.sdd_word_invariant.specs.Barred.{IsNobodys, Bars};
+ghost use Rattle.sdd_domain_invariant.specs.SlotSteps.{blank};
+ghost use Rattle.sdd_domain_invariant.specs.Barred.{IsNobodys, Bars};
 ghost use Rattle.sdd_domain_invariant.specs.FractionSteps.{CarriesSeen, EndsAll};
 ghost use Rattle.sdd_atomics.specs.DomainSeat.{view, epoch, words_known, Stepped, Taught, HasPublished, HasClosed, Knows, slots};
 

@@ -1,6 +1,6 @@
 //! Where the words of a domain are.
 ghost use Rattle.std.specs.Prelude.{◌≡◌, ◌^◌, ◌<◌, ◌≤◌};
-ghost use Rattle.sdd_word_invariant.specs.Words as words;
+ghost use Rattle.sdd_domain_invariant.specs.Words as words;
 
 use sdd_rights::views::Sizes;
 

@@ -7,8 +7,8 @@ use Rattle.sdd_core.specs.declared.refused.Refused.TheVariants.{TooManyOwners}
 use Rattle.sdd_participants.specs.declared.standing.Standing.TheVariants.{Shared}
 use Rattle.sdd_rights.specs.declared.right.Right.{Right}
 use Rattle.sdd_standings.specs.Slots.{IsSharedBy}
-use Rattle.sdd_word_invariant.specs.Codes.{alive, counted}
-use Rattle.sdd_word_invariant.proofs.Codes.{some_left}
+use Rattle.sdd_domain_invariant.specs.Codes.{alive, counted}
+use Rattle.sdd_domain_invariant.proofs.Codes.{some_left}
 use Rattle.sdd_space.specs.OwnerOrCell.{OwnerOrCell}
 use Rattle.sdd_space.specs.Out.{is_out}
 use Rattle.sdd_space.specs.Ptr.{KeepsShown}

@@ -8,8 +8,8 @@ use Rattle.sdd_participants.specs.declared.standing.CellContents.{CellContents}
 use Rattle.sdd_participants.specs.declared.standing.RawCellContents.{RawCellContents}
 use Rattle.sdd_participants.specs.declared.tally.Tally.{Tally}
 use Rattle.sdd_rights.specs.declared.views.Sizes.{Sizes}
-use Rattle.sdd_word_invariant.specs.SlotSteps.{behind}
-use Rattle.sdd_word_invariant.specs.CellSteps.{pointer_behind}
+use Rattle.sdd_domain_invariant.specs.SlotSteps.{behind}
+use Rattle.sdd_domain_invariant.specs.CellWordSteps.{pointer_behind}
 use Rattle.sdd_participants.specs.Jobs.{places_of}
 use Rattle.sdd_space.specs.World.{World}
 use Rattle.sdd_domain_slots.specs.SpaceIds.{home_in}

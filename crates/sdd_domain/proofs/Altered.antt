@@ -16,7 +16,7 @@ use Rattle.sdd_rights.specs.Owner.{one-shown}
 use Rattle.sdd_rights.specs.StandingKind.{is_shared}
 use Rattle.sdd_rights.specs.Right.{number_of, kind_of}
 use Rattle.sdd_shared_values.specs.SharedValues.{showing}
-use Rattle.sdd_word_invariant.specs.Codes.{alive}
+use Rattle.sdd_domain_invariant.specs.Codes.{alive}
 use Rattle.sdd_standings.specs.Slots.{IsOwnedBy, has_others}
 use Rattle.sdd_space.specs.InPlace.{IsAlone, MayInPlace, RefusedInPlace}
 use Rattle.sdd_space.specs.OwnerOrCell.{OwnerOrCell, AreOf}

@@ -14,7 +14,7 @@ use Rattle.sdd_rights.specs.Right.{number_of}
 use Rattle.sdd_standings.specs.Cells.{cell_with, slot_held}
 use Rattle.sdd_standings.specs.Slots.{IsSharedBy}
 use Rattle.sdd_rights.specs.declared.views.Sizes.{Sizes}
-use Rattle.sdd_word_invariant.specs.Codes.{alive, counted, most_owners}
+use Rattle.sdd_domain_invariant.specs.Codes.{alive, counted, most_owners}
 use Rattle.sdd_space.specs.OwnerOrCell.{OwnerOrCell}
 use Rattle.sdd_space.specs.Undisturbed.{Undisturbed}
 use Rattle.sdd_space.specs.World.{World, standing_at}

@@ -11,7 +11,7 @@ use Rattle.sdd_participants.specs.declared.standing.Standing.TheVariants.{Shared
 use Rattle.sdd_rights.specs.declared.right.Right.{Right}
 use Rattle.sdd_standings.specs.Cells.{slot_held}
 use Rattle.sdd_standings.specs.Slots.{IsSharedBy}
-use Rattle.sdd_word_invariant.specs.Codes.{alive, counted, most_owners}
+use Rattle.sdd_domain_invariant.specs.Codes.{alive, counted, most_owners}
 use Rattle.sdd_space.specs.OwnerOrCell.{OwnerOrCell}
 use Rattle.sdd_space.specs.Undisturbed.{Undisturbed}
 use Rattle.sdd_space.specs.World.{standing_at}

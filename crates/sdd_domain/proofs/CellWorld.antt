@@ -6,10 +6,10 @@ use base.Stored.{Gv}
 use Rattle.sdd_participants.specs.Slab.{entry_at, IsEmptyAt, IsFull}
 use Rattle.sdd_participants.specs.declared.standing.CellContents.{CellContents}
 use Rattle.sdd_participants.specs.declared.standing.RawCellContents.{RawCellContents}
-use Rattle.sdd_word_invariant.specs.Codes.{held_slots}
-use Rattle.sdd_word_invariant.specs.SlotSteps.{behind}
-use Rattle.sdd_word_invariant.specs.CellSteps.{pointer_behind}
-use Rattle.sdd_word_invariant.specs.Words.{words_behind}
+use Rattle.sdd_domain_invariant.specs.Codes.{held_slots}
+use Rattle.sdd_domain_invariant.specs.SlotSteps.{behind}
+use Rattle.sdd_domain_invariant.specs.CellWordSteps.{pointer_behind}
+use Rattle.sdd_domain_invariant.specs.Words.{words_behind}
 use Rattle.sdd_space.specs.OwnerOrCell.{OwnerOrCell}
 use Rattle.sdd_space.specs.Ptr.{KeepsShown}
 use Rattle.sdd_space.specs.Undisturbed.{Undisturbed}

@@ -14,11 +14,11 @@ use Rattle.sdd_rights.specs.declared.views.ShownValue.{ShownValue}
 use Rattle.sdd_rights.specs.declared.views.View.{View}
 use Rattle.sdd_rights.specs.contracts.views.View.{the_row}
 use Rattle.sdd_rights.specs.Views.{owner_token, at_rest}
-use Rattle.sdd_word_invariant.specs.Codes.{alive, counted, most_owners, shared_base}
-use Rattle.sdd_word_invariant.specs.Epoch.{HasPlace, IsLone}
-use Rattle.sdd_word_invariant.specs.Slots.{Holds}
-use Rattle.sdd_word_invariant.specs.SlotSteps.{noted, one_more}
-use Rattle.sdd_word_invariant.proofs.Codes.{counted_is, shared}
+use Rattle.sdd_domain_invariant.specs.Codes.{alive, counted, most_owners, shared_base}
+use Rattle.sdd_domain_invariant.specs.Epoch.{HasPlace, IsLone}
+use Rattle.sdd_domain_invariant.specs.Slots.{Holds}
+use Rattle.sdd_domain_invariant.specs.SlotSteps.{noted, one_more}
+use Rattle.sdd_domain_invariant.proofs.Codes.{counted_is, shared}
 use Rattle.sdd_domain_invariant.specs.FilledInvariant.{HasRecord}
 use Rattle.sdd_domain_invariant.specs.FractionSteps.{SeatState, DrawsUnit, departing, drawing, owning_more, parting}
 use Rattle.sdd_atomics.specs.declared.domain_table.DomainTable.{DomainTable}

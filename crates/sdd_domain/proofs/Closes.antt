@@ -11,8 +11,8 @@ use Rattle.sdd_participants.specs.declared.participant.Participant.{Participant}
 use Rattle.sdd_participants.specs.declared.standing.Standing.TheVariants.{Owned, Raw, Shared, Retired, Private}
 use Rattle.sdd_participants.specs.declared.waiting.LimboEntry.{LimboEntry}
 use Rattle.sdd_participants.specs.declared.waiting.LimboEntry.TheVariants.{Item, Job}
-use Rattle.sdd_word_invariant.specs.Codes.{alive, counted, waiting, waits_for as word_waits_for}
-use Rattle.sdd_word_invariant.proofs.Codes.{waits_privately}
+use Rattle.sdd_domain_invariant.specs.Codes.{alive, counted, waiting, waits_for as word_waits_for}
+use Rattle.sdd_domain_invariant.proofs.Codes.{waits_privately}
 use Rattle.sdd_space.specs.World.{World, standing_at}
 use Rattle.sdd_space.specs.Collecting.{is_for, waiting_for}
 use Rattle.sdd_domain.specs.Collectors.{takes_for, waits_for}

@@ -19,13 +19,13 @@ use Rattle.sdd_rights.specs.Right.{number_of, kind_of}
 use Rattle.sdd_standings.specs.Slots.{IsOwnedBy, has_others}
 use Rattle.sdd_rights.specs.declared.views.PrivateItem.{PrivateItem}
 use Rattle.sdd_rights.specs.declared.views.WaitingItem.{WaitingItem}
-use Rattle.sdd_word_invariant.specs.Codes.{alive, waiting, waits_for, full, private, private_word}
-use Rattle.sdd_word_invariant.specs.CollectorSteps.{for_collector}
-use Rattle.sdd_word_invariant.specs.SlotSteps.{behind, retired_now}
-use Rattle.sdd_word_invariant.specs.Sums.{total}
-use Rattle.sdd_word_invariant.specs.Slots.{waits_in}
-use Rattle.sdd_word_invariant.proofs.Codes.{sound, private_is, waits_privately}
-use Rattle.sdd_word_invariant.proofs.Sums.{total_snoc}
+use Rattle.sdd_domain_invariant.specs.Codes.{alive, waiting, waits_for, full, private, private_word}
+use Rattle.sdd_domain_invariant.specs.CollectorWordSteps.{for_collector}
+use Rattle.sdd_domain_invariant.specs.SlotSteps.{behind, retired_now}
+use Rattle.sdd_domain_invariant.specs.Sums.{total}
+use Rattle.sdd_domain_invariant.specs.Slots.{waits_in}
+use Rattle.sdd_domain_invariant.proofs.Codes.{sound, private_is, waits_privately}
+use Rattle.sdd_domain_invariant.proofs.Sums.{total_snoc}
 use Rattle.sdd_core.specs.declared.limits.Limits.{Limits}
 use Rattle.sdd_space.specs.Collecting.{collected, owner_collected}
 use Rattle.sdd_space.specs.KnownEpochs.{KnowsOn}

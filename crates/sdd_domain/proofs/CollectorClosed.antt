@@ -11,9 +11,9 @@ use Rattle.sdd_participants.specs.Waiting.{Waiting}
 use Rattle.sdd_participants.specs.declared.waiting.LimboEntry.TheVariants.{Item}
 use Rattle.sdd_rights.specs.declared.views.PrivateItem.{PrivateItem}
 use Rattle.sdd_rights.specs.declared.views.WaitingItem.{WaitingItem}
-use Rattle.sdd_word_invariant.specs.Codes.{waits_for as word_waits_for}
-use Rattle.sdd_word_invariant.specs.Slots.{waits_in}
-use Rattle.sdd_word_invariant.proofs.Sums.{is_same, total_has}
+use Rattle.sdd_domain_invariant.specs.Codes.{waits_for as word_waits_for}
+use Rattle.sdd_domain_invariant.specs.Slots.{waits_in}
+use Rattle.sdd_domain_invariant.proofs.Sums.{is_same, total_has}
 use Rattle.sdd_space.specs.Collecting.{is_for, waiting_for}
 use Rattle.sdd_space.specs.OwnerOrCell.{OwnerOrCell}
 use Rattle.sdd_space.specs.WorldChanges.{all_reclaimed}

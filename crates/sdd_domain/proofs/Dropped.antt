@@ -9,9 +9,9 @@ use Rattle.sdd_participants.specs.Slab.{entry_at}
 use Rattle.sdd_participants.specs.Tally.{one_in_place}
 use Rattle.sdd_shared_values.specs.SharedValues.{showing}
 use Rattle.sdd_rights.specs.declared.views.Sizes.{Sizes}
-use Rattle.sdd_word_invariant.specs.Codes.{waiting, waits_for, full}
-use Rattle.sdd_word_invariant.specs.SlotSteps.{behind}
-use Rattle.sdd_word_invariant.proofs.Codes.{free_is, sound}
+use Rattle.sdd_domain_invariant.specs.Codes.{waiting, waits_for, full}
+use Rattle.sdd_domain_invariant.specs.SlotSteps.{behind}
+use Rattle.sdd_domain_invariant.proofs.Codes.{free_is, sound}
 use Rattle.sdd_space.specs.OwnerOrCell.{OwnerOrCell}
 use Rattle.sdd_space.specs.World.{World, value_at}
 use Rattle.sdd_space.specs.WorldChanges.{dropped, dropped_out, given_all, vacated}

@@ -17,11 +17,11 @@ use Rattle.sdd_participants.specs.declared.waiting.LimboEntry.{LimboEntry}
 use Rattle.sdd_participants.specs.declared.waiting.LimboEntry.TheVariants.{Item, Job}
 use Rattle.sdd_rights.specs.declared.views.PrivateItem.{PrivateItem}
 use Rattle.sdd_rights.specs.declared.views.WaitingItem.{WaitingItem}
-use Rattle.sdd_word_invariant.specs.Codes.{waits_for as word_waits_for}
-use Rattle.sdd_word_invariant.specs.Slots.{waits_in}
-use Rattle.sdd_word_invariant.specs.Sums.{total}
-use Rattle.sdd_word_invariant.proofs.Codes.{private_is}
-use Rattle.sdd_word_invariant.proofs.Sums.{is_same}
+use Rattle.sdd_domain_invariant.specs.Codes.{waits_for as word_waits_for}
+use Rattle.sdd_domain_invariant.specs.Slots.{waits_in}
+use Rattle.sdd_domain_invariant.specs.Sums.{total}
+use Rattle.sdd_domain_invariant.proofs.Codes.{private_is}
+use Rattle.sdd_domain_invariant.proofs.Sums.{is_same}
 use Rattle.sdd_space.specs.ParticipantChanges.{KeepsMoreWaiting}
 use Rattle.sdd_domain.specs.Collectors.{AllWaitFor, EmptiesAt, IsClosing, waits_for}
 use Rattle.sdd_domain_slots.specs.InBags.{AreInBags, Kept, KnownWaiting, Plainly, Privately, TellsCollectors, is_closed, is_out, item_of, out_of, private_for, private_of}

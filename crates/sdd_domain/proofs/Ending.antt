@@ -1,11 +1,11 @@
 -- The number of homes, and what lies in slots once all are free.
 use Rattle.std.proofs.Common.{◌≡◌, ℕ, zero, suc, ◌+◌, ◌*◌, ◌<◌, List, slice_index, refl, ap, arith}
 use Rattle.sdd_rights.specs.declared.views.Sizes.{Sizes}
-use Rattle.sdd_word_invariant.specs.Codes.{full, valued}
-use Rattle.sdd_word_invariant.specs.Sums.{span}
-use Rattle.sdd_word_invariant.specs.Words.{first_slot}
-use Rattle.sdd_word_invariant.specs.Slots.{slot_at}
-use Rattle.sdd_word_invariant.proofs.Codes.{sound}
+use Rattle.sdd_domain_invariant.specs.Codes.{full, valued}
+use Rattle.sdd_domain_invariant.specs.Sums.{span}
+use Rattle.sdd_domain_invariant.specs.Words.{first_slot}
+use Rattle.sdd_domain_invariant.specs.Slots.{slot_at}
+use Rattle.sdd_domain_invariant.proofs.Codes.{sound}
 use Rattle.sdd_domain_invariant.specs.Counts.{full_slots}
 use Rattle.sdd_domain_invariant.specs.FractionsAtHome.{homes_for}
 

@@ -6,7 +6,7 @@ use Rattle.std.specs.Prelude.{◌↔◌, ◌==◌, IsTrue, IsSome, option_map}
 use Rattle.sdd_participants.specs.declared.standing.Standing.{Standing}
 use Rattle.sdd_participants.specs.declared.standing.Standing.TheVariants.{Raw, Retired}
 use Rattle.sdd_participants.specs.Slab.{IsFull}
-use Rattle.sdd_word_invariant.specs.Codes.{free_word, raw_word, waiting}
+use Rattle.sdd_domain_invariant.specs.Codes.{free_word, raw_word, waiting}
 use Rattle.sdd_space.specs.World.{standing_at, value_at}
 use Rattle.sdd_domain_slots.specs.LocalState.{IsFree, IsLone, IsUsedUp, word_of}
 use Rattle.sdd_domain_slots.specs.Local.{LocalModel, world_of, standing_in, value_in}

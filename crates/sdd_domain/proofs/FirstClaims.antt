@@ -12,13 +12,13 @@ use Rattle.sdd_participants.specs.Waiting.{Waiting}
 use Rattle.sdd_shared_values.specs.declared.value_fraction.ValueFraction.{ValueFraction}
 use Rattle.sdd_rights.specs.declared.views.WaitingItem.{WaitingItem}
 use Rattle.sdd_rights.specs.declared.views.View.{View}
-use Rattle.sdd_word_invariant.specs.Codes.{free_word, waiting_word}
-use Rattle.sdd_word_invariant.specs.Collectors.{private_in}
-use Rattle.sdd_word_invariant.specs.CollectorSteps.{without_private}
-use Rattle.sdd_word_invariant.specs.SlotSteps.{behind, noted, without_item}
-use Rattle.sdd_word_invariant.specs.Sums.{total}
-use Rattle.sdd_word_invariant.specs.Slots.{waits_in}
-use Rattle.sdd_word_invariant.proofs.Sums.{is_same, is_other, total_has, total_snoc}
+use Rattle.sdd_domain_invariant.specs.Codes.{free_word, waiting_word}
+use Rattle.sdd_domain_invariant.specs.Collectors.{private_in}
+use Rattle.sdd_domain_invariant.specs.CollectorWordSteps.{without_private}
+use Rattle.sdd_domain_invariant.specs.SlotSteps.{behind, noted, without_item}
+use Rattle.sdd_domain_invariant.specs.Sums.{total}
+use Rattle.sdd_domain_invariant.specs.Slots.{waits_in}
+use Rattle.sdd_domain_invariant.proofs.Sums.{is_same, is_other, total_has, total_snoc}
 use Rattle.sdd_atomics.specs.declared.domain_table.DomainTable.{DomainTable}
 use Rattle.sdd_atomics.specs.DomainTable.{slots_of}
 use Rattle.sdd_domain_slots.specs.BetweenCalls.{IsBetweenCalls}

@@ -11,14 +11,14 @@ use Rattle.sdd_participants.specs.declared.standing.Standing.{Standing}
 use Rattle.sdd_shared_values.specs.SharedValues.{showing}
 use Rattle.sdd_rights.specs.declared.views.ShownValue.{ShownValue}
 use Rattle.sdd_rights.specs.declared.views.Sizes.{Sizes}
-use Rattle.sdd_word_invariant.specs.Codes.{waiting, waits_for, full, private_word, shared_base}
-use Rattle.sdd_word_invariant.specs.Collectors.{private_in}
-use Rattle.sdd_word_invariant.specs.CollectorSteps.{without_private}
-use Rattle.sdd_word_invariant.specs.SlotSteps.{behind, without_item}
-use Rattle.sdd_word_invariant.specs.Sums.{total}
-use Rattle.sdd_word_invariant.specs.Slots.{waits_in}
-use Rattle.sdd_word_invariant.proofs.Codes.{sound, free_is, private_is, waits_privately}
-use Rattle.sdd_word_invariant.proofs.Owning.{item_gone, item_kept}
+use Rattle.sdd_domain_invariant.specs.Codes.{waiting, waits_for, full, private_word, shared_base}
+use Rattle.sdd_domain_invariant.specs.Collectors.{private_in}
+use Rattle.sdd_domain_invariant.specs.CollectorWordSteps.{without_private}
+use Rattle.sdd_domain_invariant.specs.SlotSteps.{behind, without_item}
+use Rattle.sdd_domain_invariant.specs.Sums.{total}
+use Rattle.sdd_domain_invariant.specs.Slots.{waits_in}
+use Rattle.sdd_domain_invariant.proofs.Codes.{sound, free_is, private_is, waits_privately}
+use Rattle.sdd_domain_invariant.proofs.Owning.{item_gone, item_kept}
 use Rattle.sdd_domain_invariant.specs.FilledInvariant.{newest}
 use Rattle.sdd_space.specs.OwnerOrCell.{OwnerOrCell}
 use Rattle.sdd_space.specs.World.{World, standing_at, value_at}

@@ -15,13 +15,13 @@ use Rattle.sdd_participants.specs.Waiting.{Waiting}
 use Rattle.sdd_shared_values.specs.declared.value_fraction.ValueFraction.{ValueFraction}
 use Rattle.sdd_rights.specs.declared.views.WaitingItem.{WaitingItem}
 use Rattle.sdd_rights.specs.declared.views.View.{View}
-use Rattle.sdd_word_invariant.specs.Codes.{private_word, retired_word, shared_base}
-use Rattle.sdd_word_invariant.specs.Collectors.{private_in}
-use Rattle.sdd_word_invariant.specs.CollectorSteps.{HasWaiting, for_collector}
-use Rattle.sdd_word_invariant.specs.SlotSteps.{behind, noted, retired_now, without_item}
-use Rattle.sdd_word_invariant.specs.Sums.{total}
-use Rattle.sdd_word_invariant.specs.Slots.{waits_in}
-use Rattle.sdd_word_invariant.proofs.Sums.{is_other, is_same, total_has, total_snoc}
+use Rattle.sdd_domain_invariant.specs.Codes.{private_word, retired_word, shared_base}
+use Rattle.sdd_domain_invariant.specs.Collectors.{private_in}
+use Rattle.sdd_domain_invariant.specs.CollectorWordSteps.{HasWaiting, for_collector}
+use Rattle.sdd_domain_invariant.specs.SlotSteps.{behind, noted, retired_now, without_item}
+use Rattle.sdd_domain_invariant.specs.Sums.{total}
+use Rattle.sdd_domain_invariant.specs.Slots.{waits_in}
+use Rattle.sdd_domain_invariant.proofs.Sums.{is_other, is_same, total_has, total_snoc}
 use Rattle.sdd_domain_invariant.specs.CollectorSteps.{CollectsOne}
 use Rattle.sdd_domain_invariant.specs.FractionSteps.{forgetting, without_record}
 use Rattle.sdd_atomics.specs.declared.domain_table.DomainTable.{DomainTable}

@@ -7,11 +7,11 @@ use Rattle.std.proofs.lemmas.Bool.{true≢false}
 use Rattle.sdd_participants.specs.declared.waiting.LimboEntry.{LimboEntry}
 use Rattle.sdd_participants.specs.Slab.{with_entry, without_entry}
 use Rattle.sdd_rights.specs.declared.views.WaitingItem.{WaitingItem}
-use Rattle.sdd_word_invariant.specs.Sums.{total}
-use Rattle.sdd_word_invariant.specs.Slots.{waits_in}
-use Rattle.sdd_word_invariant.specs.SlotSteps.{retired_now, without_item}
-use Rattle.sdd_word_invariant.proofs.Sums.{is_same, is_other, total_snoc}
-use Rattle.sdd_word_invariant.proofs.Owning.{item_gone, item_kept}
+use Rattle.sdd_domain_invariant.specs.Sums.{total}
+use Rattle.sdd_domain_invariant.specs.Slots.{waits_in}
+use Rattle.sdd_domain_invariant.specs.SlotSteps.{retired_now, without_item}
+use Rattle.sdd_domain_invariant.proofs.Sums.{is_same, is_other, total_snoc}
+use Rattle.sdd_domain_invariant.proofs.Owning.{item_gone, item_kept}
 use Rattle.std.proofs.Common.{true, false, ◌≤◌, ⊎_elim}
 use Rattle.std.proofs.lemmas.Bool.{cases_lt}
 use Rattle.std.proofs.lemmas.List.{get_or_past}

@@ -9,12 +9,12 @@ use Rattle.sdd_participants.specs.declared.participant.Participant.{Participant}
 use Rattle.sdd_rights.specs.declared.views.SlotsView.{SlotsView}
 use Rattle.sdd_participants.specs.Slab.{entry_at, with_entry, without_entry, IsEmptyAt, IsFull}
 use Rattle.sdd_participants.specs.EpochState as time
-use Rattle.sdd_word_invariant.specs.Codes.{waiting, waits_for, full}
-use Rattle.sdd_word_invariant.specs.SlotSteps.{behind, retired_now, without_item}
-use Rattle.sdd_word_invariant.specs.Sums.{total}
-use Rattle.sdd_word_invariant.specs.Slots.{waits_in}
-use Rattle.sdd_word_invariant.proofs.Sums.{is_other, total_snoc}
-use Rattle.sdd_word_invariant.proofs.Owning.{item_kept}
+use Rattle.sdd_domain_invariant.specs.Codes.{waiting, waits_for, full}
+use Rattle.sdd_domain_invariant.specs.SlotSteps.{behind, retired_now, without_item}
+use Rattle.sdd_domain_invariant.specs.Sums.{total}
+use Rattle.sdd_domain_invariant.specs.Slots.{waits_in}
+use Rattle.sdd_domain_invariant.proofs.Sums.{is_other, total_snoc}
+use Rattle.sdd_domain_invariant.proofs.Owning.{item_kept}
 use Rattle.sdd_space.specs.World.{World}
 use Rattle.sdd_space.specs.WorldChanges.{deferred, ran}
 use Rattle.sdd_participants.proofs.Places.{empty-places, places-full, places-put, places-taken}

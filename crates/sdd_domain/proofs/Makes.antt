@@ -18,9 +18,9 @@ use Rattle.sdd_rights.specs.StandingKind.{is_shared}
 use Rattle.sdd_rights.specs.Right.{number_of}
 use Rattle.sdd_standings.specs.Slots.{first_standing}
 use Rattle.sdd_rights.specs.declared.views.ShownValue.{ShownValue}
-use Rattle.sdd_word_invariant.specs.Codes.{claimed_word, waiting, waits_for, full}
-use Rattle.sdd_word_invariant.specs.SlotSteps.{behind}
-use Rattle.sdd_word_invariant.proofs.Codes.{sound, free_is, claimed_is}
+use Rattle.sdd_domain_invariant.specs.Codes.{claimed_word, waiting, waits_for, full}
+use Rattle.sdd_domain_invariant.specs.SlotSteps.{behind}
+use Rattle.sdd_domain_invariant.proofs.Codes.{sound, free_is, claimed_is}
 use Rattle.sdd_domain_invariant.specs.FilledInvariant.{newest}
 use Rattle.sdd_domain_invariant.proofs.Fillings.{newest_now, newest_before}
 use Rattle.sdd_space.specs.OwnerOrCell.{OwnerOrCell}

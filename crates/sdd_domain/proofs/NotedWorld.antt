@@ -3,8 +3,8 @@ use Rattle.std.proofs.Common.{◌≡◌, ℕ, Bool, true, false, IsTrue, List, N
 use Rattle.std.specs.Prelude.{Option}
 use base.Stored.{Gv}
 use Rattle.sdd_participants.specs.Slab.{entry_at}
-use Rattle.sdd_word_invariant.specs.Codes.{waiting, waits_for, full}
-use Rattle.sdd_word_invariant.specs.SlotSteps.{behind}
+use Rattle.sdd_domain_invariant.specs.Codes.{waiting, waits_for, full}
+use Rattle.sdd_domain_invariant.specs.SlotSteps.{behind}
 use Rattle.sdd_space.specs.OwnerOrCell.{OwnerOrCell}
 use Rattle.sdd_space.specs.Ptr.{KeepsShown}
 use Rattle.sdd_space.specs.Undisturbed.{Undisturbed}

@@ -3,7 +3,7 @@ use Rattle.std.proofs.Common.{◌≡◌, ℕ, ◌==◌, Bool, true, false, [], m
 use Rattle.std.specs.Prelude.{Result, Ok, Err, MatchResult, if◌then◌else◌}
 use Rattle.sdd_core.specs.declared.refused.Refused.{Refused}
 use Rattle.sdd_participants.specs.EpochState as time
-use Rattle.sdd_word_invariant.specs.SlotSteps.{older_private}
+use Rattle.sdd_domain_invariant.specs.SlotSteps.{older_private}
 use Rattle.sdd_domain_slots.specs.LocalState.{LocalState, CanNest, HasOpenGuard, IsEntered, IsLone, GoesOn}
 use Rattle.sdd_domain.specs.OpeningTally.{CountsGone, CountsReclaimed}
 use Rattle.sdd_domain_slots.specs.Receipt.{with_reclaimed}

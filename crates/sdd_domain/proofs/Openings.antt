@@ -5,8 +5,8 @@ use mathlib.Core.Logic.{dite}
 use native.Mathlib.Decide.{ℕ_discrete}
 use Rattle.sdd_participants.specs.EpochState.{due_next}
 use Rattle.sdd_participants.specs.EpochState as time
-use Rattle.sdd_word_invariant.specs.SlotSteps.{older, older_private, aged as aged_slots}
-use Rattle.sdd_word_invariant.proofs.Sums.{total_map}
+use Rattle.sdd_domain_invariant.specs.SlotSteps.{older, older_private, aged as aged_slots}
+use Rattle.sdd_domain_invariant.proofs.Sums.{total_map}
 use Rattle.sdd_space.specs.WorldChanges.{nested, rotated}
 use Rattle.sdd_domain_slots.specs.LocalState.{LocalState, IsLone, IsEntered}
 use Rattle.sdd_domain_slots.specs.InBags.{AreInBags, known_waiting, private_for}

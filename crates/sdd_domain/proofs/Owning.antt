@@ -20,12 +20,12 @@ use Rattle.sdd_rights.specs.Right.{number_of, kind_of}
 use Rattle.sdd_standings.specs.Slots.{IsOwnedBy, has_others}
 use Rattle.sdd_rights.specs.declared.views.ShownValue.{ShownValue}
 use Rattle.sdd_rights.specs.declared.views.SlotsView.{SlotsView}
-use Rattle.sdd_word_invariant.specs.Codes.{alive, waiting, waits_for, full, claimed_word, counted, retired_word}
-use Rattle.sdd_word_invariant.specs.SlotSteps.{behind, retired_now}
-use Rattle.sdd_word_invariant.specs.Sums.{times}
-use Rattle.sdd_word_invariant.specs.Slots.{waits_in}
-use Rattle.sdd_word_invariant.proofs.Codes.{some_left, claimed_is, retired_is, sound}
-use Rattle.sdd_word_invariant.proofs.Sums.{is_same, is_other, total_snoc}
+use Rattle.sdd_domain_invariant.specs.Codes.{alive, waiting, waits_for, full, claimed_word, counted, retired_word}
+use Rattle.sdd_domain_invariant.specs.SlotSteps.{behind, retired_now}
+use Rattle.sdd_domain_invariant.specs.Sums.{times}
+use Rattle.sdd_domain_invariant.specs.Slots.{waits_in}
+use Rattle.sdd_domain_invariant.proofs.Codes.{some_left, claimed_is, retired_is, sound}
+use Rattle.sdd_domain_invariant.proofs.Sums.{is_same, is_other, total_snoc}
 use Rattle.sdd_core.specs.declared.limits.Limits.{Limits}
 use Rattle.sdd_domain_invariant.specs.BankInvariant.{one_where}
 use Rattle.sdd_domain_invariant.specs.FilledInvariant.{newest}

@@ -9,7 +9,7 @@ use Rattle.sdd_rights.specs.declared.right.StandingKind.{StandingKind}
 use Rattle.sdd_rights.specs.StandingKind.{is_shared}
 use Rattle.sdd_shared_values.specs.SharedValues.{showing}
 use Rattle.sdd_standings.specs.Slots.{IsOwnedBy}
-use Rattle.sdd_word_invariant.specs.Codes.{alive}
+use Rattle.sdd_domain_invariant.specs.Codes.{alive}
 use Rattle.sdd_space.specs.OwnerOrCell.{OwnerOrCell}
 use Rattle.sdd_space.specs.Ptr.{KeepsShown, PtrIsShown, shown_by, slot_named}
 use Rattle.sdd_space.specs.declared.ptr.Ptr.{Ptr}

@@ -7,10 +7,10 @@ use native.Mathlib.Decide.{ℕ_discrete}
 use lib.ListN.{get_elem?}
 use Rattle.sdd_participants.specs.declared.standing.Standing.TheVariants.{Private}
 use Rattle.sdd_rights.specs.declared.views.PrivateItem.{PrivateItem}
-use Rattle.sdd_word_invariant.specs.Codes.{private_word, shared_base, waits_for}
-use Rattle.sdd_word_invariant.specs.Sums.{is}
-use Rattle.sdd_word_invariant.proofs.Codes.{private_is, waits_privately}
-use Rattle.sdd_word_invariant.proofs.Sums.{is_other, is_same, total_has, total_some}
+use Rattle.sdd_domain_invariant.specs.Codes.{private_word, shared_base, waits_for}
+use Rattle.sdd_domain_invariant.specs.Sums.{is}
+use Rattle.sdd_domain_invariant.proofs.Codes.{private_is, waits_privately}
+use Rattle.sdd_domain_invariant.proofs.Sums.{is_other, is_same, total_has, total_some}
 use Rattle.sdd_space.specs.World.{standing_at}
 use Rattle.sdd_domain_slots.specs.InBags.{private_for}
 use Rattle.sdd_domain_slots.specs.Local.{LocalModel, standing_by, standing_in, world_of}

@@ -9,7 +9,7 @@ use Rattle.sdd_participants.specs.Slab.{IsEmptyAt, IsFull}
 use Rattle.sdd_participants.specs.declared.standing.RawCellContents.{RawCellContents}
 use Rattle.sdd_rights.specs.declared.right.RawRight.{RawRight}
 use Rattle.sdd_rights.specs.Right.{raw_number_of}
-use Rattle.sdd_word_invariant.specs.Codes.{held_slots}
+use Rattle.sdd_domain_invariant.specs.Codes.{held_slots}
 use Rattle.sdd_space.specs.declared.raw_ptr.RawPtr.{RawPtr}
 use Rattle.sdd_space.specs.RawPtr.{pointer_of}
 use Rattle.sdd_space.specs.OwnerOrCell.{OwnerOrCell}

@@ -4,9 +4,9 @@ use base.Stored.{Gv}
 use Rattle.sdd_core.specs.declared.tag.Tag.TheVariants.{None as no_tag}
 use Rattle.sdd_participants.specs.Slab.{IsEmptyAt}
 use Rattle.sdd_participants.specs.declared.standing.RawCellContents.{RawCellContents}
-use Rattle.sdd_word_invariant.specs.Codes.{null_word}
-use Rattle.sdd_word_invariant.specs.CellSteps.{pointer_behind}
-use Rattle.sdd_word_invariant.specs.SlotSteps.{behind}
+use Rattle.sdd_domain_invariant.specs.Codes.{null_word}
+use Rattle.sdd_domain_invariant.specs.CellWordSteps.{pointer_behind}
+use Rattle.sdd_domain_invariant.specs.SlotSteps.{behind}
 use Rattle.sdd_space.specs.OwnerOrCell.{OwnerOrCell}
 use Rattle.sdd_space.specs.Undisturbed.{Undisturbed}
 use Rattle.sdd_space.specs.World.{World, pointer_at}

@@ -8,7 +8,7 @@ use Rattle.sdd_participants.specs.declared.participant.Participant.{Participant}
 use Rattle.sdd_shared_values.specs.declared.value_fraction.ValueFraction.{ValueFraction}
 use Rattle.sdd_rights.specs.declared.views.View.{View}
 use Rattle.sdd_rights.specs.Views.{owner_of}
-use Rattle.sdd_word_invariant.specs.SlotSteps.{noted, without, turned_raw}
+use Rattle.sdd_domain_invariant.specs.SlotSteps.{noted, without, turned_raw}
 use Rattle.sdd_domain_invariant.specs.FractionsAtHome.{CarriedFractions}
 use Rattle.sdd_domain_invariant.specs.FractionSteps.{regained, undrawing, untold}
 use Rattle.sdd_atomics.specs.declared.domain_table.DomainTable.{DomainTable}

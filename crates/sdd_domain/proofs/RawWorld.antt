@@ -8,9 +8,9 @@ use denote.RattleType.{RattleType}
 use Rattle.sdd_participants.specs.declared.standing.Standing.{Standing}
 use Rattle.sdd_participants.specs.declared.standing.Standing.TheVariants.{Owned, Private, Raw, Retired, Shared}
 use Rattle.sdd_shared_values.specs.SharedValues.{showing}
-use Rattle.sdd_word_invariant.specs.Codes.{alive, waiting, waits_for, full, counted, private, shared_base}
-use Rattle.sdd_word_invariant.specs.SlotSteps.{behind}
-use Rattle.sdd_word_invariant.proofs.Codes.{none_left, owned_is, raw_is, raw_plain, some_left, sound, waiting_is}
+use Rattle.sdd_domain_invariant.specs.Codes.{alive, waiting, waits_for, full, counted, private, shared_base}
+use Rattle.sdd_domain_invariant.specs.SlotSteps.{behind}
+use Rattle.sdd_domain_invariant.proofs.Codes.{none_left, owned_is, raw_is, raw_plain, some_left, sound, waiting_is}
 use Rattle.sdd_domain_invariant.specs.BankInvariant.{one_where}
 use Rattle.sdd_domain_invariant.specs.FilledInvariant.{newest}
 use Rattle.sdd_space.specs.OwnerOrCell.{OwnerOrCell, AreOf}

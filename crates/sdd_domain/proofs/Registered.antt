@@ -9,14 +9,14 @@ use Rattle.sdd_participants.specs.declared.place_states.PlaceState.TheVariants.{
 use Rattle.sdd_participants.specs.declared.waiting.LimboEntry.{LimboEntry}
 use Rattle.sdd_core.specs.declared.limits.Limits.{Limits}
 use Rattle.sdd_rights.specs.declared.views.SlotsView.{SlotsView}
-use Rattle.sdd_word_invariant.specs.Codes.{waiting, waits_for, full}
-use Rattle.sdd_word_invariant.specs.Words.{words_behind}
-use Rattle.sdd_word_invariant.specs.SlotSteps.{behind}
-use Rattle.sdd_word_invariant.specs.CellSteps.{pointer_behind}
+use Rattle.sdd_domain_invariant.specs.Codes.{waiting, waits_for, full}
+use Rattle.sdd_domain_invariant.specs.Words.{words_behind}
+use Rattle.sdd_domain_invariant.specs.SlotSteps.{behind}
+use Rattle.sdd_domain_invariant.specs.CellWordSteps.{pointer_behind}
 use Rattle.sdd_standings.specs.Cells.{null_pointer}
-use Rattle.sdd_word_invariant.specs.Sums.{total}
-use Rattle.sdd_word_invariant.specs.Slots.{waits_in}
-use Rattle.sdd_word_invariant.proofs.Codes.{free_is}
+use Rattle.sdd_domain_invariant.specs.Sums.{total}
+use Rattle.sdd_domain_invariant.specs.Slots.{waits_in}
+use Rattle.sdd_domain_invariant.proofs.Codes.{free_is}
 use Rattle.sdd_participants.specs.Jobs.{places_of}
 use Rattle.sdd_participants.proofs.Places.{places-none}
 use Rattle.sdd_domain_slots.specs.LocalState.{LocalState, IsLone, IsNew, word_of, cell_word_of, pointer_word_of, place_number}

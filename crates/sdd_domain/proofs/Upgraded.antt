@@ -13,8 +13,8 @@ use Rattle.sdd_rights.specs.declared.right.Right.{Right}
 use Rattle.sdd_rights.specs.declared.right.StandingKind.TheVariants as kinds
 use Rattle.sdd_shared_values.specs.SharedValues.{showing}
 use Rattle.sdd_standings.specs.Slots.{IsSharedBy, owners_of}
-use Rattle.sdd_word_invariant.specs.Codes.{alive, counted, held_word, most_owners, shared_base, waiting}
-use Rattle.sdd_word_invariant.proofs.Codes.{none_left, owned_is, shared, waiting_is}
+use Rattle.sdd_domain_invariant.specs.Codes.{alive, counted, held_word, most_owners, shared_base, waiting}
+use Rattle.sdd_domain_invariant.proofs.Codes.{none_left, owned_is, shared, waiting_is}
 use Rattle.sdd_space.specs.OwnerOrCell.{OwnerOrCell}
 use Rattle.sdd_space.specs.Refusals.{IsRefusedBy}
 use Rattle.sdd_space.specs.Undisturbed.{Undisturbed}

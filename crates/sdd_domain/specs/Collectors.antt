@@ -7,12 +7,12 @@ use Rattle.sdd_participants.specs.EpochState.{awaiting}
 use Rattle.sdd_participants.specs.Tally.{one_reclaimed}
 use Rattle.sdd_participants.specs.declared.waiting.LimboEntry.{LimboEntry}
 use Rattle.sdd_participants.specs.declared.waiting.LimboEntry.TheVariants.{Item}
-use Rattle.sdd_word_invariant.specs.Codes.{claimed_word, free_word, private_word, shared_base}
-use Rattle.sdd_word_invariant.specs.SlotSteps.{behind, retired_now, without_item}
-use Rattle.sdd_word_invariant.specs.Slots.{waits_in}
-use Rattle.sdd_word_invariant.specs.Sums.{total}
-use Rattle.sdd_word_invariant.specs.Collectors.{private_in}
-use Rattle.sdd_word_invariant.specs.CollectorSteps.{for_collector, without_private}
+use Rattle.sdd_domain_invariant.specs.Codes.{claimed_word, free_word, private_word, shared_base}
+use Rattle.sdd_domain_invariant.specs.SlotSteps.{behind, retired_now, without_item}
+use Rattle.sdd_domain_invariant.specs.Slots.{waits_in}
+use Rattle.sdd_domain_invariant.specs.Sums.{total}
+use Rattle.sdd_domain_invariant.specs.Collectors.{private_in}
+use Rattle.sdd_domain_invariant.specs.CollectorWordSteps.{for_collector, without_private}
 use Rattle.sdd_domain_slots.specs.PrivateTable.{standings_of}
 use Rattle.sdd_domain_slots.specs.LocalState.{LocalState, IsLone, HasOpenGuard, LeavesAt, Reclaims, word_of}
 

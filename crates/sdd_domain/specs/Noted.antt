@@ -1,7 +1,7 @@
 -- What a participant has noted of its domain, as each guard needs it
 use Rattle.std.specs.Prelude.{◌≡◌, ℕ}
 use Rattle.sdd_core.specs.declared.limits.Limits.{Limits}
-use Rattle.sdd_word_invariant.specs.Words.{state_word}
+use Rattle.sdd_domain_invariant.specs.Words.{state_word}
 use Rattle.sdd_atomics.specs.declared.domain_table.DomainTable.{DomainTable}
 use Rattle.sdd_atomics.specs.DomainTable.{sizes_of}
 

@@ -2,8 +2,8 @@
 ghost use Rattle.std.specs.Prelude.{◌≡◌, ◌-◌, ◌≤◌, ◌<◌, ◌↔◌, ℕ, [], ◌∷◌, true, false, All, IfSome, IsTrue, slice_index_or};
 ghost use Rattle.core.specs.Mem.Slots.{slots_items, slots_filled, slots_len};
 ghost use Rattle.sdd_shared_values.specs.SharedValues.{AreVacant};
-ghost use Rattle.sdd_word_invariant.specs.Codes as codes;
-ghost use Rattle.sdd_word_invariant.specs.Slots.{slot_at};
+ghost use Rattle.sdd_domain_invariant.specs.Codes as codes;
+ghost use Rattle.sdd_domain_invariant.specs.Slots.{slot_at};
 ghost use Rattle.sdd_rights.specs.Views.{no_counts};
 ghost use Rattle.sdd_domain_invariant.specs.FractionsAtHome.{AreHome};
 ghost use Rattle.sdd_atomics.specs.DomainTable.{id_of, places_of, most_waiting_of};

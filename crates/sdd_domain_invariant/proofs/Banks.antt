@@ -13,11 +13,11 @@ use Rattle.sdd_rights.specs.declared.views.Deposit.{Deposit}
 use Rattle.sdd_rights.specs.declared.views.FractionsView.{FractionsView}
 use Rattle.sdd_rights.specs.declared.views.View.{View}
 use Rattle.sdd_rights.specs.declared.views.Sizes.{Sizes}
-use Rattle.sdd_word_invariant.specs.Sums.{total, times}
-use Rattle.sdd_word_invariant.specs.Slots.{owners_at}
-use Rattle.sdd_word_invariant.proofs.Epoch.{at_length}
-use Rattle.sdd_word_invariant.proofs.Frame.{each_set, each_snoc}
-use Rattle.sdd_word_invariant.proofs.Sums.{is_same, is_other, total_set, total_snoc, total_has, total_two}
+use Rattle.sdd_domain_invariant.specs.Sums.{total, times}
+use Rattle.sdd_domain_invariant.specs.Slots.{owners_at}
+use Rattle.sdd_domain_invariant.proofs.Epoch.{at_length}
+use Rattle.sdd_domain_invariant.proofs.Frame.{each_set, each_snoc}
+use Rattle.sdd_domain_invariant.proofs.Sums.{is_same, is_other, total_set, total_snoc, total_has, total_two}
 use Rattle.sdd_domain_invariant.specs.FractionsAtHome.{spare, full_at, Moves}
 use Rattle.sdd_domain_invariant.proofs.Records.{IsAlike}
 use Rattle.sdd_domain_invariant.specs.BankInvariant.{founded, bank_of, drawn_at, moved_in, moves_at, one_where, offices, deposited, banked, IsBank, outside, Balances, BankInvariant}

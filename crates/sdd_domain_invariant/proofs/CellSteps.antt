@@ -11,7 +11,7 @@ use base.Stored.{Gv}
 use Rattle.atomic_table.specs.Table.{State, keeps, takes}
 use Rattle.atomic_table.proofs.Lists.{at_map, at_set, set_again, exchanged}
 use Rattle.sdd_witness.specs.Steps.{AllowsBeside}
-use Rattle.sdd_word_invariant.proofs.Lone.{finds, finds_word}
+use Rattle.sdd_domain_invariant.proofs.Lone.{finds, finds_word}
 use Rattle.sdd_witness.specs.Ledger.{Pledge}
 use Rattle.sdd_rights.specs.Owner.{cell_kind}
 use Rattle.sdd_shared_values.specs.SharedValues.{IsValueCode}
@@ -25,17 +25,17 @@ use Rattle.sdd_rights.specs.contracts.views.View.{the_row}
 use Rattle.sdd_rights.specs.declared.views.View.{View}
 use Rattle.sdd_rights.specs.declared.views.Sizes.{Sizes}
 use Rattle.sdd_rights.specs.Views.{no_rights, owner_of, right_to}
-use Rattle.sdd_word_invariant.specs.Words.{cell_word, slot_word, words_behind}
-use Rattle.sdd_word_invariant.specs.Codes.{codes, alive, valued, counted, names, held_slots}
-use Rattle.sdd_word_invariant.specs.Epoch.{HasPlace, IsOpen}
-use Rattle.sdd_word_invariant.specs.Sums.{times, total}
-use Rattle.sdd_word_invariant.specs.Slots.{slot_at, items_at, Owns}
-use Rattle.sdd_word_invariant.specs.CellSteps.{coming, noting, cell_noted, SwapsCell, ExchangesCell, RetagsCell, LooksAtCell, SeesCell, AtCell}
-use Rattle.sdd_word_invariant.specs.WordInvariant.{epoch_of}
-use Rattle.sdd_word_invariant.proofs.Codes.{sound, counts_or_not, held_in, held_which, holds_none}
-use Rattle.sdd_word_invariant.proofs.CellSteps as words
-use Rattle.sdd_word_invariant.proofs.Frame.{each_set}
-use Rattle.sdd_word_invariant.proofs.Sums.{is_same, is_other, total_set, total_has, total_two}
+use Rattle.sdd_domain_invariant.specs.Words.{cell_word, slot_word, words_behind}
+use Rattle.sdd_domain_invariant.specs.Codes.{codes, alive, valued, counted, names, held_slots}
+use Rattle.sdd_domain_invariant.specs.Epoch.{HasPlace, IsOpen}
+use Rattle.sdd_domain_invariant.specs.Sums.{times, total}
+use Rattle.sdd_domain_invariant.specs.Slots.{slot_at, items_at, Owns}
+use Rattle.sdd_domain_invariant.specs.CellWordSteps.{coming, noting, cell_noted, SwapsCell, ExchangesCell, RetagsCell, LooksAtCell, SeesCell, AtCell}
+use Rattle.sdd_domain_invariant.specs.WordInvariant.{epoch_of}
+use Rattle.sdd_domain_invariant.proofs.Codes.{sound, counts_or_not, held_in, held_which, holds_none}
+use Rattle.sdd_domain_invariant.proofs.CellWordSteps as words
+use Rattle.sdd_domain_invariant.proofs.Frame.{each_set}
+use Rattle.sdd_domain_invariant.proofs.Sums.{is_same, is_other, total_set, total_has, total_two}
 use Rattle.sdd_domain_invariant.specs.FractionsAtHome.{stake_at, full_at, Has, Moves, FractionsInvariant}
 use Rattle.sdd_domain_invariant.specs.BankInvariant.{one_where}
 use Rattle.sdd_domain_invariant.specs.CellsInvariant.{cell_at, IsInCell, is_right, rights_at, HasRight, IsWordOf, IsTaken, HavePointers, closes_by, is_closing_right, CellsInvariant}
@@ -63,8 +63,8 @@ use Rattle.sdd_domain_invariant.proofs.KindSteps as kind_steps
 use Rattle.sdd_domain_invariant.proofs.RawSteps as raws
 use Rattle.sdd_domain_invariant.proofs.Steps.{not_emptied}
 use Rattle.sdd_domain_invariant.proofs.Steps as steps
-use Rattle.sdd_word_invariant.specs.Collectors.{one_in, Empties}
-use Rattle.sdd_word_invariant.proofs.Collectors.{plain_alive}
+use Rattle.sdd_domain_invariant.specs.Collectors.{one_in, Empties}
+use Rattle.sdd_domain_invariant.proofs.Collectors.{plain_alive}
 
 -- whether a word counts its slot's owners
 flag_of : (x : ℕ) → (shared : Bool) × (counted x ≡ one_where shared)

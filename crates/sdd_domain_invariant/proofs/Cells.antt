@@ -12,15 +12,15 @@ use Rattle.sdd_rights.specs.declared.views.CellRight.{CellRight}
 use Rattle.sdd_rights.specs.declared.views.CellsView.{CellsView}
 use Rattle.sdd_rights.specs.declared.views.View.{View}
 use Rattle.sdd_rights.specs.declared.views.Sizes.{Sizes}
-use Rattle.sdd_word_invariant.specs.Words.{IsEpochWord, after_cells, first_cell, cell_word, pointer_word, slot_word}
-use Rattle.sdd_word_invariant.specs.Codes.{codes, alive, counted, names, pointers_end}
-use Rattle.sdd_word_invariant.specs.Slots.{slot_at, owners_at, SlotsInvariant}
-use Rattle.sdd_word_invariant.specs.Collectors.{one_in, Closes}
-use Rattle.sdd_word_invariant.specs.Sums.{total}
-use Rattle.sdd_word_invariant.proofs.Codes.{sound}
-use Rattle.sdd_word_invariant.proofs.Frame.{each_snoc}
-use Rattle.sdd_word_invariant.proofs.SlotWords.{named_in}
-use Rattle.sdd_word_invariant.proofs.Sums.{is_same, is_other, total_set, total_snoc, total_has, total_two, total_some, span_has}
+use Rattle.sdd_domain_invariant.specs.Words.{IsEpochWord, after_cells, first_cell, cell_word, pointer_word, slot_word}
+use Rattle.sdd_domain_invariant.specs.Codes.{codes, alive, counted, names, pointers_end}
+use Rattle.sdd_domain_invariant.specs.Slots.{slot_at, owners_at, SlotsInvariant}
+use Rattle.sdd_domain_invariant.specs.Collectors.{one_in, Closes}
+use Rattle.sdd_domain_invariant.specs.Sums.{total}
+use Rattle.sdd_domain_invariant.proofs.Codes.{sound}
+use Rattle.sdd_domain_invariant.proofs.Frame.{each_snoc}
+use Rattle.sdd_domain_invariant.proofs.SlotWords.{named_in}
+use Rattle.sdd_domain_invariant.proofs.Sums.{is_same, is_other, total_set, total_snoc, total_has, total_two, total_some, span_has}
 use Rattle.atomic_table.proofs.Lists.{at_set}
 use Rattle.sdd_domain_invariant.specs.BankInvariant.{one_where}
 use Rattle.sdd_domain_invariant.specs.CellSteps.{IsBare}

@@ -23,23 +23,23 @@ use Rattle.sdd_shared_values.specs.Deposits.{units_at}
 use Rattle.sdd_shared_values.specs.Bank.{Leaves, AllowsDeal}
 use Rattle.sdd_shared_values.specs.declared.value_fraction.ValueFraction.{ValueFraction}
 use Rattle.sdd_shared_values.proofs.Deposits.{draws}
-use Rattle.sdd_word_invariant.specs.Words.{slot_word}
-use Rattle.sdd_word_invariant.specs.Codes.{codes, alive, valued, counted as kind_of, shared_base, most_owners}
-use Rattle.sdd_word_invariant.specs.Epoch.{HasPlace}
-use Rattle.sdd_word_invariant.specs.Sums.{total, times}
-use Rattle.sdd_word_invariant.specs.Slots.{slot_at, owners_at, Owns, Holds}
-use Rattle.sdd_word_invariant.specs.SlotSteps.{others as tail, one_more, taken_back, Adds, TakesBack, AtSlot, Knew}
-use Rattle.sdd_word_invariant.specs.WordInvariant.{epoch_of, Parts, WordInvariant}
-use Rattle.sdd_word_invariant.proofs.Codes.{sound, shared, counted_is, some_left}
-use Rattle.sdd_word_invariant.proofs.Epoch.{at_length}
-use Rattle.sdd_word_invariant.proofs.Frame.{each_set}
-use Rattle.sdd_word_invariant.proofs.Lift.{blind_tokens, blind_units}
-use Rattle.sdd_word_invariant.proofs.Lift as kept
-use Rattle.sdd_word_invariant.proofs.Pigeons.{few}
-use Rattle.sdd_word_invariant.proofs.SlotWords.{owner_in, owners_in, alone_is}
-use Rattle.sdd_word_invariant.proofs.SlotSteps.{more_one, less_one}
-use Rattle.sdd_word_invariant.proofs.SlotSteps as words
-use Rattle.sdd_word_invariant.proofs.Sums.{is_same, is_other, total_set, total_has, total_two, total_zero}
+use Rattle.sdd_domain_invariant.specs.Words.{slot_word}
+use Rattle.sdd_domain_invariant.specs.Codes.{codes, alive, valued, counted as kind_of, shared_base, most_owners}
+use Rattle.sdd_domain_invariant.specs.Epoch.{HasPlace}
+use Rattle.sdd_domain_invariant.specs.Sums.{total, times}
+use Rattle.sdd_domain_invariant.specs.Slots.{slot_at, owners_at, Owns, Holds}
+use Rattle.sdd_domain_invariant.specs.SlotSteps.{others as tail, one_more, taken_back, Adds, TakesBack, AtSlot, Knew}
+use Rattle.sdd_domain_invariant.specs.WordInvariant.{epoch_of, Parts, WordInvariant}
+use Rattle.sdd_domain_invariant.proofs.Codes.{sound, shared, counted_is, some_left}
+use Rattle.sdd_domain_invariant.proofs.Epoch.{at_length}
+use Rattle.sdd_domain_invariant.proofs.Frame.{each_set}
+use Rattle.sdd_domain_invariant.proofs.WordLift.{blind_tokens, blind_units}
+use Rattle.sdd_domain_invariant.proofs.WordLift as kept
+use Rattle.sdd_domain_invariant.proofs.Pigeons.{few}
+use Rattle.sdd_domain_invariant.proofs.SlotWords.{owner_in, owners_in, alone_is}
+use Rattle.sdd_domain_invariant.proofs.SlotSteps.{more_one, less_one}
+use Rattle.sdd_domain_invariant.proofs.SlotSteps as words
+use Rattle.sdd_domain_invariant.proofs.Sums.{is_same, is_other, total_set, total_has, total_two, total_zero}
 use Rattle.sdd_domain_invariant.specs.FractionsAtHome.{Moves, full_at}
 use Rattle.sdd_domain_invariant.specs.BankInvariant.{one_where, moved_in, moves_at, drawn_at, banked, IsBank, with_ledger, ledger_of}
 use Rattle.sdd_domain_invariant.specs.BoundInvariant.{over_at, BoundInvariant}

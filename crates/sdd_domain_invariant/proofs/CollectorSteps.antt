@@ -24,25 +24,25 @@ use Rattle.sdd_rights.specs.declared.views.View.{View}
 use Rattle.sdd_rights.specs.declared.views.Sizes.{Sizes}
 use Rattle.sdd_rights.specs.contracts.views.View.{the_row}
 use Rattle.sdd_rights.specs.Views.{no_rights, right_to}
-use Rattle.sdd_word_invariant.specs.Words.{slot_word, words_behind}
-use Rattle.sdd_word_invariant.specs.Codes.{codes, alive, waiting, valued, private, emptying, shared_base, free_word, private_word, emptying_word, emptied_word, left_word, raw_word}
-use Rattle.sdd_word_invariant.specs.Collectors.{private_in, one_in, Closes, FoundEmptied}
-use Rattle.sdd_word_invariant.specs.CollectorSteps.{closing, closed_none, collected, left_to_close, private_given_back, found_emptied, orphan, orphaned, empties_now, WaitsFor, HasWaiting, Collects, LeavesToClose, GivesPrivateBack, EmptiesSlot, EmptiesOwn}
-use Rattle.sdd_word_invariant.specs.Epoch.{HasPlace}
-use Rattle.sdd_word_invariant.specs.Slots.{slot_at, waits_in, items_at, Owns}
-use Rattle.sdd_word_invariant.specs.SlotSteps.{noted, AtSlot}
-use Rattle.sdd_word_invariant.specs.WordInvariant.{epoch_of, Parts}
-use Rattle.sdd_word_invariant.proofs.Codes.{sound, private_is, emptied_is, emptying_is, left_is, free_is}
-use Rattle.sdd_word_invariant.proofs.Collectors.{privates_in}
-use Rattle.sdd_word_invariant.proofs.CollectorSteps as words
-use Rattle.sdd_word_invariant.proofs.Epoch.{at_length}
-use Rattle.sdd_word_invariant.proofs.Frame.{each_set}
-use Rattle.sdd_word_invariant.proofs.Lift.{blind_tokens}
-use Rattle.sdd_word_invariant.proofs.Owning.{item_gone, item_kept}
-use Rattle.sdd_word_invariant.proofs.PrivateSlots.{with_privates}
-use Rattle.sdd_word_invariant.proofs.SlotWords.{owner_in, waiter_in}
-use Rattle.sdd_word_invariant.proofs.Sums.{is_same, total_set, total_has, total_two}
-use Rattle.sdd_word_invariant.specs.Sums.{total}
+use Rattle.sdd_domain_invariant.specs.Words.{slot_word, words_behind}
+use Rattle.sdd_domain_invariant.specs.Codes.{codes, alive, waiting, valued, private, emptying, shared_base, free_word, private_word, emptying_word, emptied_word, left_word, raw_word}
+use Rattle.sdd_domain_invariant.specs.Collectors.{private_in, one_in, Closes, FoundEmptied}
+use Rattle.sdd_domain_invariant.specs.CollectorWordSteps.{closing, closed_none, collected, left_to_close, private_given_back, found_emptied, orphan, orphaned, empties_now, WaitsFor, HasWaiting, Collects, LeavesToClose, GivesPrivateBack, EmptiesSlot, EmptiesOwn}
+use Rattle.sdd_domain_invariant.specs.Epoch.{HasPlace}
+use Rattle.sdd_domain_invariant.specs.Slots.{slot_at, waits_in, items_at, Owns}
+use Rattle.sdd_domain_invariant.specs.SlotSteps.{noted, AtSlot}
+use Rattle.sdd_domain_invariant.specs.WordInvariant.{epoch_of, Parts}
+use Rattle.sdd_domain_invariant.proofs.Codes.{sound, private_is, emptied_is, emptying_is, left_is, free_is}
+use Rattle.sdd_domain_invariant.proofs.Collectors.{privates_in}
+use Rattle.sdd_domain_invariant.proofs.CollectorWordSteps as words
+use Rattle.sdd_domain_invariant.proofs.Epoch.{at_length}
+use Rattle.sdd_domain_invariant.proofs.Frame.{each_set}
+use Rattle.sdd_domain_invariant.proofs.WordLift.{blind_tokens}
+use Rattle.sdd_domain_invariant.proofs.Owning.{item_gone, item_kept}
+use Rattle.sdd_domain_invariant.proofs.PrivateSlots.{with_privates}
+use Rattle.sdd_domain_invariant.proofs.SlotWords.{owner_in, waiter_in}
+use Rattle.sdd_domain_invariant.proofs.Sums.{is_same, total_set, total_has, total_two}
+use Rattle.sdd_domain_invariant.specs.Sums.{total}
 use Rattle.sdd_domain_invariant.specs.CellsInvariant.{is_right, rights_at, IsTaken, is_closing_right}
 use Rattle.sdd_domain_invariant.specs.CellSteps.{IsBare}
 use Rattle.sdd_domain_invariant.specs.CollectorSteps.{with_right, CollectsOne, LeavesOneToClose, GivesOnePrivateBack, ClosesOne, ClosesNone, EmptiesOne, EmptiesOwnOne}

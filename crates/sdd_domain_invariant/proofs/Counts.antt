@@ -11,13 +11,13 @@ use prog.Atomic.{either}
 use Rattle.sdd_rights.specs.declared.views.CountsView.{CountsView}
 use Rattle.sdd_rights.specs.declared.views.View.{View}
 use Rattle.sdd_rights.specs.declared.views.Sizes.{Sizes}
-use Rattle.sdd_word_invariant.specs.Words.{first_slot, state_word, slot_word, all_words}
-use Rattle.sdd_word_invariant.specs.Codes.{valued}
-use Rattle.sdd_word_invariant.specs.Epoch.{HasPlace}
-use Rattle.sdd_word_invariant.specs.Slots.{slot_at}
-use Rattle.sdd_word_invariant.proofs.Barred.{Spares}
-use Rattle.sdd_word_invariant.proofs.Frame.{each_set, each_snoc}
-use Rattle.sdd_word_invariant.proofs.Sums.{total_set, total_snoc, span_same, span_set}
+use Rattle.sdd_domain_invariant.specs.Words.{first_slot, state_word, slot_word, all_words}
+use Rattle.sdd_domain_invariant.specs.Codes.{valued}
+use Rattle.sdd_domain_invariant.specs.Epoch.{HasPlace}
+use Rattle.sdd_domain_invariant.specs.Slots.{slot_at}
+use Rattle.sdd_domain_invariant.proofs.Barred.{Spares}
+use Rattle.sdd_domain_invariant.proofs.Frame.{each_set, each_snoc}
+use Rattle.sdd_domain_invariant.proofs.Sums.{total_set, total_snoc, span_same, span_set}
 use Rattle.sdd_domain_invariant.specs.Counts.{made_by, gone_by, over_by, over, ended_places, full_slots, CountsByPlace, CountsInvariant}
 
 -- ---- places that have ended, or are barred

@@ -17,20 +17,20 @@ use Rattle.sdd_rights.specs.declared.views.WaitingItem.{WaitingItem}
 use Rattle.sdd_rights.specs.declared.views.ShownValue.{ShownValue}
 use Rattle.sdd_rights.specs.declared.views.View.{View}
 use Rattle.sdd_rights.specs.declared.views.Sizes.{Sizes}
-use Rattle.sdd_word_invariant.specs.Words.{slot_word, words_behind}
-use Rattle.sdd_word_invariant.specs.Codes.{codes, alive, waiting, valued, emptying, shared_base, raw_word, free_word, waiting_word, private_word, emptying_word, emptied_word, left_word}
-use Rattle.sdd_word_invariant.specs.Epoch.{HasPlace}
-use Rattle.sdd_word_invariant.specs.Sums.{total}
-use Rattle.sdd_word_invariant.specs.Slots.{slot_at, waits_in, owners_at, items_at, Owns, Sees}
-use Rattle.sdd_word_invariant.specs.Collectors.{one_in, empties_at, Empties, HasPrivate}
-use Rattle.sdd_word_invariant.specs.SlotSteps.{noted, AtSlot}
-use Rattle.sdd_word_invariant.specs.CollectorSteps.{without_private, reclaimed, found_emptied, orphaned, emptied_now, finds_left, empty_given_back, own_given_back, WaitsFor, Reclaims, HasEmptied, GivesEmptyBack, GivesOwnBack}
-use Rattle.sdd_word_invariant.specs.WordInvariant.{epoch_of}
-use Rattle.sdd_word_invariant.proofs.Codes.{sound, private_is, emptied_is, emptying_is, free_is, waiting_is}
-use Rattle.sdd_word_invariant.proofs.Collectors.{emptying_at}
-use Rattle.sdd_word_invariant.proofs.CollectorSteps as words
-use Rattle.sdd_word_invariant.proofs.SlotWords.{owner_in}
-use Rattle.sdd_word_invariant.proofs.Sums.{is_same, is_other, total_snoc, total_has, total_two}
+use Rattle.sdd_domain_invariant.specs.Words.{slot_word, words_behind}
+use Rattle.sdd_domain_invariant.specs.Codes.{codes, alive, waiting, valued, emptying, shared_base, raw_word, free_word, waiting_word, private_word, emptying_word, emptied_word, left_word}
+use Rattle.sdd_domain_invariant.specs.Epoch.{HasPlace}
+use Rattle.sdd_domain_invariant.specs.Sums.{total}
+use Rattle.sdd_domain_invariant.specs.Slots.{slot_at, waits_in, owners_at, items_at, Owns, Sees}
+use Rattle.sdd_domain_invariant.specs.Collectors.{one_in, empties_at, Empties, HasPrivate}
+use Rattle.sdd_domain_invariant.specs.SlotSteps.{noted, AtSlot}
+use Rattle.sdd_domain_invariant.specs.CollectorWordSteps.{without_private, reclaimed, found_emptied, orphaned, emptied_now, finds_left, empty_given_back, own_given_back, WaitsFor, Reclaims, HasEmptied, GivesEmptyBack, GivesOwnBack}
+use Rattle.sdd_domain_invariant.specs.WordInvariant.{epoch_of}
+use Rattle.sdd_domain_invariant.proofs.Codes.{sound, private_is, emptied_is, emptying_is, free_is, waiting_is}
+use Rattle.sdd_domain_invariant.proofs.Collectors.{emptying_at}
+use Rattle.sdd_domain_invariant.proofs.CollectorWordSteps as words
+use Rattle.sdd_domain_invariant.proofs.SlotWords.{owner_in}
+use Rattle.sdd_domain_invariant.proofs.Sums.{is_same, is_other, total_snoc, total_has, total_two}
 use Rattle.sdd_domain_invariant.specs.FractionsAtHome.{CarriedFractions, away, full_at, Moves, SeesFrom}
 use Rattle.sdd_domain_invariant.specs.Records.{IsIn, IsTelling}
 use Rattle.sdd_domain_invariant.specs.FilledInvariant.{newest, HasRecord}

@@ -9,10 +9,10 @@ use Rattle.sdd_rights.specs.declared.views.ShownValue.{ShownValue}
 use Rattle.sdd_rights.specs.declared.views.FractionsView.{FractionsView}
 use Rattle.sdd_rights.specs.declared.views.View.{View}
 use Rattle.sdd_rights.specs.declared.views.Sizes.{Sizes}
-use Rattle.sdd_word_invariant.specs.Epoch.{HasPlace, EpochInvariant}
-use Rattle.sdd_word_invariant.specs.WordInvariant.{epoch_of}
-use Rattle.sdd_word_invariant.proofs.Epoch.{no_other}
-use Rattle.sdd_word_invariant.proofs.Sums.{at_filter}
+use Rattle.sdd_domain_invariant.specs.Epoch.{HasPlace, EpochInvariant}
+use Rattle.sdd_domain_invariant.specs.WordInvariant.{epoch_of}
+use Rattle.sdd_domain_invariant.proofs.Epoch.{no_other}
+use Rattle.sdd_domain_invariant.proofs.Sums.{at_filter}
 use Rattle.sdd_domain_invariant.specs.FilledInvariant.{newest, HasRecord, Tells, FilledInvariant}
 use Rattle.sdd_domain_invariant.specs.FractionSteps.{without_record}
 use Rattle.sdd_domain_invariant.proofs.Records.{IsAlike}

@@ -14,17 +14,17 @@ use Rattle.sdd_rights.specs.declared.views.EpochView.{EpochView}
 use Rattle.sdd_rights.specs.declared.views.WaitingItem.{WaitingItem}
 use Rattle.sdd_rights.specs.declared.views.View.{View}
 use Rattle.sdd_rights.specs.declared.views.Sizes.{Sizes}
-use Rattle.sdd_word_invariant.specs.Words.{slot_word, most_waiting}
-use Rattle.sdd_word_invariant.specs.Codes.{codes, alive, counted, free_word, waiting_word}
-use Rattle.sdd_word_invariant.proofs.Codes.{sound, free_is, waiting_is}
-use Rattle.sdd_word_invariant.proofs.SlotWords.{owner_in}
-use Rattle.sdd_word_invariant.specs.Epoch.{HasPlace}
-use Rattle.sdd_word_invariant.specs.Slots.{slot_at, Owns, items_at, waits_in}
-use Rattle.sdd_word_invariant.specs.SlotSteps.{behind, deferred, retired_now, given_back, AtSlot, LooksAtSlot, Defers, GivesBack, IsDue}
-use Rattle.sdd_word_invariant.specs.Sums.{total}
-use Rattle.sdd_word_invariant.proofs.Sums.{total_snoc, is_other}
-use Rattle.sdd_word_invariant.proofs.SlotSteps as steps
-use Rattle.sdd_word_invariant.proofs.Owning.{item_kept}
+use Rattle.sdd_domain_invariant.specs.Words.{slot_word, most_waiting}
+use Rattle.sdd_domain_invariant.specs.Codes.{codes, alive, counted, free_word, waiting_word}
+use Rattle.sdd_domain_invariant.proofs.Codes.{sound, free_is, waiting_is}
+use Rattle.sdd_domain_invariant.proofs.SlotWords.{owner_in}
+use Rattle.sdd_domain_invariant.specs.Epoch.{HasPlace}
+use Rattle.sdd_domain_invariant.specs.Slots.{slot_at, Owns, items_at, waits_in}
+use Rattle.sdd_domain_invariant.specs.SlotSteps.{behind, deferred, retired_now, given_back, AtSlot, LooksAtSlot, Defers, GivesBack, IsDue}
+use Rattle.sdd_domain_invariant.specs.Sums.{total}
+use Rattle.sdd_domain_invariant.proofs.Sums.{total_snoc, is_other}
+use Rattle.sdd_domain_invariant.proofs.SlotSteps as steps
+use Rattle.sdd_domain_invariant.proofs.Owning.{item_kept}
 use Rattle.sdd_domain_invariant.specs.FractionsAtHome.{full_at}
 use Rattle.sdd_domain_invariant.specs.DomainInvariant.{DomainInvariant}
 use Rattle.sdd_domain_invariant.specs.FractionSteps.{SeatState, DefersJob, GivesPlace, OfSlot}

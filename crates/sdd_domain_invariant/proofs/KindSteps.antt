@@ -12,15 +12,15 @@ use Rattle.sdd_rights.specs.declared.views.FractionsView.{FractionsView}
 use Rattle.sdd_rights.specs.declared.views.PledgesView.{PledgesView}
 use Rattle.sdd_rights.specs.declared.views.View.{View}
 use Rattle.sdd_rights.specs.declared.views.Sizes.{Sizes}
-use Rattle.sdd_word_invariant.specs.Words.{slot_word, words_behind}
-use Rattle.sdd_word_invariant.specs.Sums.{times}
-use Rattle.sdd_word_invariant.specs.Codes.{alive, counted, most_owners}
-use Rattle.sdd_word_invariant.specs.Slots.{slot_at, Owns, Holds}
-use Rattle.sdd_word_invariant.specs.SlotSteps.{behind, noted}
-use Rattle.sdd_word_invariant.specs.Epoch.{HasPlace}
-use Rattle.sdd_word_invariant.proofs.Sums.{total_set, total_snoc}
-use Rattle.sdd_word_invariant.proofs.Epoch.{at_length}
-use Rattle.sdd_word_invariant.proofs.Frame.{each_set, each_snoc}
+use Rattle.sdd_domain_invariant.specs.Words.{slot_word, words_behind}
+use Rattle.sdd_domain_invariant.specs.Sums.{times}
+use Rattle.sdd_domain_invariant.specs.Codes.{alive, counted, most_owners}
+use Rattle.sdd_domain_invariant.specs.Slots.{slot_at, Owns, Holds}
+use Rattle.sdd_domain_invariant.specs.SlotSteps.{behind, noted}
+use Rattle.sdd_domain_invariant.specs.Epoch.{HasPlace}
+use Rattle.sdd_domain_invariant.proofs.Sums.{total_set, total_snoc}
+use Rattle.sdd_domain_invariant.proofs.Epoch.{at_length}
+use Rattle.sdd_domain_invariant.proofs.Frame.{each_set, each_snoc}
 use Rattle.sdd_witness.specs.Ledger.{Pledge}
 use Rattle.atomic_table.proofs.Lists.{at_set, at_snoc, at_longer, set_else, set_here}
 use Rattle.sdd_domain_invariant.specs.FractionsAtHome.{Moves}

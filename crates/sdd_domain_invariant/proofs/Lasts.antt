@@ -16,14 +16,14 @@ use Rattle.sdd_shared_values.specs.declared.value_fraction.ValueFraction.{ValueF
 use Rattle.sdd_rights.specs.declared.views.FractionsView.{FractionsView}
 use Rattle.sdd_rights.specs.declared.views.View.{View}
 use Rattle.sdd_rights.specs.declared.views.Sizes.{Sizes}
-use Rattle.sdd_word_invariant.specs.Words.{IsEpochWord, slot_word, cell_word}
-use Rattle.sdd_word_invariant.specs.Codes.{codes, alive, waiting, full, valued, counted, names, raw_word}
-use Rattle.sdd_word_invariant.specs.Epoch.{HasPlace}
-use Rattle.sdd_word_invariant.specs.Slots.{slot_at}
-use Rattle.sdd_word_invariant.proofs.Codes.{sound}
-use Rattle.sdd_word_invariant.proofs.Collectors.{IsPlain, plain_alive, plain_waiting}
-use Rattle.sdd_word_invariant.proofs.Frame.{each_set, each_snoc}
-use Rattle.sdd_word_invariant.proofs.Sums.{total_two}
+use Rattle.sdd_domain_invariant.specs.Words.{IsEpochWord, slot_word, cell_word}
+use Rattle.sdd_domain_invariant.specs.Codes.{codes, alive, waiting, full, valued, counted, names, raw_word}
+use Rattle.sdd_domain_invariant.specs.Epoch.{HasPlace}
+use Rattle.sdd_domain_invariant.specs.Slots.{slot_at}
+use Rattle.sdd_domain_invariant.proofs.Codes.{sound}
+use Rattle.sdd_domain_invariant.proofs.Collectors.{IsPlain, plain_alive, plain_waiting}
+use Rattle.sdd_domain_invariant.proofs.Frame.{each_set, each_snoc}
+use Rattle.sdd_domain_invariant.proofs.Sums.{total_two}
 use Rattle.sdd_domain_invariant.specs.FractionsAtHome.{FractionsAtHome, CarriedFractions, LiesAt, share, Has}
 use Rattle.sdd_domain_invariant.specs.FilledInvariant.{newest}
 use Rattle.sdd_domain_invariant.specs.BankInvariant.{one_where, offices, deposited, banked, IsBank, BankInvariant}

@@ -15,18 +15,18 @@ use Rattle.sdd_rights.specs.declared.views.SlotsView.{SlotsView}
 use Rattle.sdd_rights.specs.declared.views.FractionsView.{FractionsView}
 use Rattle.sdd_rights.specs.declared.views.View.{View}
 use Rattle.sdd_rights.specs.declared.views.Sizes.{Sizes}
-use Rattle.sdd_word_invariant.specs.Words.{IsEpochWord, state_word}
-use Rattle.sdd_word_invariant.specs.Epoch.{HasPlace, IsClosed, IsOpen}
-use Rattle.sdd_word_invariant.specs.EpochSteps.{Steps, Publishes, Ends}
-use Rattle.sdd_word_invariant.specs.Slots.{waits_in}
-use Rattle.sdd_word_invariant.specs.SlotSteps.{older, aged as aged_slots, changed, OnEpoch, PublishesAll}
-use Rattle.sdd_word_invariant.specs.WordInvariant.{epoch_of, Parts, WordInvariant}
+use Rattle.sdd_domain_invariant.specs.Words.{IsEpochWord, state_word}
+use Rattle.sdd_domain_invariant.specs.Epoch.{HasPlace, IsClosed, IsOpen}
+use Rattle.sdd_domain_invariant.specs.EpochSteps.{Steps, Publishes, Ends}
+use Rattle.sdd_domain_invariant.specs.Slots.{waits_in}
+use Rattle.sdd_domain_invariant.specs.SlotSteps.{older, aged as aged_slots, changed, OnEpoch, PublishesAll}
+use Rattle.sdd_domain_invariant.specs.WordInvariant.{epoch_of, Parts, WordInvariant}
 use Rattle.atomic_table.proofs.Lists.{at_map, set_again, set_else}
-use Rattle.sdd_word_invariant.proofs.Frame.{each_set}
-use Rattle.sdd_word_invariant.proofs.Sums.{total_map}
-use Rattle.sdd_word_invariant.proofs.Lift.{blind}
-use Rattle.sdd_word_invariant.specs.Barred.{AreBarred, AreQuiet}
-use Rattle.sdd_word_invariant.proofs.Barred.{Spares, one_spared, all_spared, NoneQuiet, none_quiet, Hushes, one_hushed, all_hushed}
+use Rattle.sdd_domain_invariant.proofs.Frame.{each_set}
+use Rattle.sdd_domain_invariant.proofs.Sums.{total_map}
+use Rattle.sdd_domain_invariant.proofs.WordLift.{blind}
+use Rattle.sdd_domain_invariant.specs.Barred.{AreBarred, AreQuiet}
+use Rattle.sdd_domain_invariant.proofs.Barred.{Spares, one_spared, all_spared, NoneQuiet, none_quiet, Hushes, one_hushed, all_hushed}
 use Rattle.sdd_domain_invariant.specs.FractionsAtHome.{FractionsAtHome, full_at, Moves, SeesFrom, FractionIsTaken, IsMover, FractionsInvariant}
 use Rattle.sdd_domain_invariant.specs.BankInvariant.{banked, BankInvariant}
 use Rattle.sdd_domain_invariant.proofs.Banks.{with_deposits}
@@ -266,7 +266,7 @@ module _ (γ : ℕ) (sizes : Sizes) (slots : ℕ) where
       (λ s w h at t. let now : View = leaving v in let fits = h.kept.parts.epoch.each id v.epoch (at_map epoch_of s.views id v at) in
       let was = fits.state (omega arith) in let same = λ (j : ℕ) (_ : j < sizes.slots). before_slots sizes s.words i 3 j (omega arith) in
       let wide = h.kept.parts.epoch.wide in
-      let is : w ≡ record v { epoch = Rattle.sdd_word_invariant.specs.EpochSteps.ended v.epoch } = t.1 ∙ ap (λ (e : EpochView). record v { epoch = e }) t.2 in
+      let is : w ≡ record v { epoch = Rattle.sdd_domain_invariant.specs.EpochSteps.ended v.epoch } = t.1 ∙ ap (λ (e : EpochView). record v { epoch = e }) t.2 in
       subst (Follows γ sizes id i me (λ _. told) s 3) (sym is) record {
         stakes = now.stakes;
         act = keeps;

@@ -11,14 +11,14 @@ use Rattle.atomic_table.specs.Table.{homes_after}
 use Rattle.sdd_shared_values.specs.declared.value_fraction.ValueFraction.{ValueFraction}
 use Rattle.sdd_rights.specs.declared.views.View.{View}
 use Rattle.sdd_rights.specs.declared.views.Sizes.{Sizes}
-use Rattle.sdd_word_invariant.specs.Words.{slot_word, first_slot}
-use Rattle.sdd_word_invariant.specs.Codes.{valued}
-use Rattle.sdd_word_invariant.specs.Collectors.{Empties}
-use Rattle.sdd_word_invariant.specs.Epoch.{HasPlace}
-use Rattle.sdd_word_invariant.specs.Slots.{items_at, Owns, Sees}
-use Rattle.sdd_word_invariant.specs.Sums.{times}
-use Rattle.sdd_word_invariant.proofs.Frame.{each_set, each_snoc}
-use Rattle.sdd_word_invariant.proofs.Epoch.{at_length}
+use Rattle.sdd_domain_invariant.specs.Words.{slot_word, first_slot}
+use Rattle.sdd_domain_invariant.specs.Codes.{valued}
+use Rattle.sdd_domain_invariant.specs.Collectors.{Empties}
+use Rattle.sdd_domain_invariant.specs.Epoch.{HasPlace}
+use Rattle.sdd_domain_invariant.specs.Slots.{items_at, Owns, Sees}
+use Rattle.sdd_domain_invariant.specs.Sums.{times}
+use Rattle.sdd_domain_invariant.proofs.Frame.{each_set, each_snoc}
+use Rattle.sdd_domain_invariant.proofs.Epoch.{at_length}
 use Rattle.sdd_domain_invariant.specs.FractionsAtHome.{FractionsAtHome, CarriedFractions, stake_at, share, away, full_at, Has, MatchesSlotWord, Moves, SeesFrom, FractionIsTaken, NoneOut, LiesAt, IsAtHome, IsMover, FractionsInvariant}
 use Rattle.sdd_domain_invariant.specs.Records.{slot_shown, IsIn}
 use Rattle.sdd_domain_invariant.specs.FractionSteps.{IsValue}

@@ -11,13 +11,13 @@ use Rattle.atomic_table.proofs.Lists.{exchanged}
 use Rattle.sdd_shared_values.specs.declared.value_fraction.ValueFraction.{ValueFraction}
 use Rattle.sdd_rights.specs.declared.views.View.{View}
 use Rattle.sdd_rights.specs.declared.views.Sizes.{Sizes}
-use Rattle.sdd_word_invariant.specs.Words.{pointer_word}
-use Rattle.sdd_word_invariant.specs.Codes.{valued, pointers_end}
-use Rattle.sdd_word_invariant.specs.Epoch.{HasPlace}
-use Rattle.sdd_word_invariant.specs.EpochSteps.{Steps}
-use Rattle.sdd_word_invariant.specs.CellSteps.{pointer_behind, noting_pointer, LooksAtPointer, SwapsPointer, ExchangesPointer, AtPointer}
-use Rattle.sdd_word_invariant.specs.WordInvariant.{Parts}
-use Rattle.sdd_word_invariant.proofs.PointerSteps as words
+use Rattle.sdd_domain_invariant.specs.Words.{pointer_word}
+use Rattle.sdd_domain_invariant.specs.Codes.{valued, pointers_end}
+use Rattle.sdd_domain_invariant.specs.Epoch.{HasPlace}
+use Rattle.sdd_domain_invariant.specs.EpochSteps.{Steps}
+use Rattle.sdd_domain_invariant.specs.CellWordSteps.{pointer_behind, noting_pointer, LooksAtPointer, SwapsPointer, ExchangesPointer, AtPointer}
+use Rattle.sdd_domain_invariant.specs.WordInvariant.{Parts}
+use Rattle.sdd_domain_invariant.proofs.PointerWordSteps as words
 use Rattle.sdd_domain_invariant.specs.CellSteps.{FindsPointer, OfPointer}
 use Rattle.sdd_domain_invariant.specs.DomainInvariant.{DomainInvariant}
 use Rattle.sdd_domain_invariant.specs.FractionSteps.{SeatState}

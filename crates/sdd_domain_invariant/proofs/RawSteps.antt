@@ -14,17 +14,17 @@ use Rattle.sdd_shared_values.specs.declared.value_fraction.ValueFraction.{ValueF
 use Rattle.sdd_rights.specs.declared.views.ShownValue.{ShownValue}
 use Rattle.sdd_rights.specs.declared.views.View.{View}
 use Rattle.sdd_rights.specs.declared.views.Sizes.{Sizes}
-use Rattle.sdd_word_invariant.specs.Words.{slot_word}
-use Rattle.sdd_word_invariant.specs.Codes.{codes, alive, waiting, valued, owned_word, raw_word}
-use Rattle.sdd_word_invariant.specs.Epoch.{HasPlace, IsOpen, IsLone}
-use Rattle.sdd_word_invariant.specs.Sums.{times}
-use Rattle.sdd_word_invariant.specs.Slots.{slot_at, Owns, Sees, Holds}
-use Rattle.sdd_word_invariant.specs.SlotSteps.{without, turned_raw, AtSlot, TurnsRaw, Regains, SeesRaw}
-use Rattle.sdd_word_invariant.specs.WordInvariant.{epoch_of}
-use Rattle.sdd_word_invariant.proofs.Codes.{sound, owned_is, raw_is, raw_plain}
-use Rattle.sdd_word_invariant.proofs.RawSteps as words
-use Rattle.sdd_word_invariant.proofs.SlotWords.{owner_in, owners_in}
-use Rattle.sdd_word_invariant.proofs.Sums.{is_same, is_other, without_same, without_other}
+use Rattle.sdd_domain_invariant.specs.Words.{slot_word}
+use Rattle.sdd_domain_invariant.specs.Codes.{codes, alive, waiting, valued, owned_word, raw_word}
+use Rattle.sdd_domain_invariant.specs.Epoch.{HasPlace, IsOpen, IsLone}
+use Rattle.sdd_domain_invariant.specs.Sums.{times}
+use Rattle.sdd_domain_invariant.specs.Slots.{slot_at, Owns, Sees, Holds}
+use Rattle.sdd_domain_invariant.specs.SlotSteps.{without, turned_raw, AtSlot, TurnsRaw, Regains, SeesRaw}
+use Rattle.sdd_domain_invariant.specs.WordInvariant.{epoch_of}
+use Rattle.sdd_domain_invariant.proofs.Codes.{sound, owned_is, raw_is, raw_plain}
+use Rattle.sdd_domain_invariant.proofs.RawWordSteps as words
+use Rattle.sdd_domain_invariant.proofs.SlotWords.{owner_in, owners_in}
+use Rattle.sdd_domain_invariant.proofs.Sums.{is_same, is_other, without_same, without_other}
 use Rattle.sdd_domain_invariant.specs.FractionsAtHome.{stake_at, away, full_at, Has, Moves, SeesFrom, LiesAt, FractionsInvariant}
 use Rattle.sdd_domain_invariant.specs.Records.{IsIn, IsKnown, IsTelling}
 use Rattle.sdd_domain_invariant.specs.FilledInvariant.{newest, HasRecord}

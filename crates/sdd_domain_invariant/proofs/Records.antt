@@ -12,10 +12,10 @@ use Rattle.sdd_rights.specs.declared.views.ShownValue.{ShownValue}
 use Rattle.sdd_rights.specs.declared.views.FractionsView.{FractionsView}
 use Rattle.sdd_rights.specs.declared.views.View.{View}
 use Rattle.sdd_rights.specs.declared.views.Sizes.{Sizes}
-use Rattle.sdd_word_invariant.specs.Slots.{waits_in, items_at, Owns, Sees}
-use Rattle.sdd_word_invariant.specs.Sums.{total, is, times}
-use Rattle.sdd_word_invariant.proofs.Frame.{each_set, each_snoc}
-use Rattle.sdd_word_invariant.proofs.Sums.{is_same, is_other, both_set, total_has, total_kept, total_gone, total_some, at_filter}
+use Rattle.sdd_domain_invariant.specs.Slots.{waits_in, items_at, Owns, Sees}
+use Rattle.sdd_domain_invariant.specs.Sums.{total, is, times}
+use Rattle.sdd_domain_invariant.proofs.Frame.{each_set, each_snoc}
+use Rattle.sdd_domain_invariant.proofs.Sums.{is_same, is_other, both_set, total_has, total_kept, total_gone, total_some, at_filter}
 use Rattle.sdd_domain_invariant.specs.FractionsAtHome.{FractionsAtHome, LiesAt, Moves}
 use Rattle.sdd_domain_invariant.specs.BankInvariant.{deposited, banked, IsBank}
 use Rattle.sdd_domain_invariant.specs.Records.{slot_shown, IsIn, KnowsShown, IsKnown, IsTelling, ShowsKnown, AllShowKnown, RecordsInvariant}

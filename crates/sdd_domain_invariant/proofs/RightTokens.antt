@@ -14,12 +14,12 @@ use Rattle.sdd_rights.specs.declared.views.CellsView.{CellsView}
 use Rattle.sdd_rights.specs.declared.views.View.{View}
 use Rattle.sdd_rights.specs.declared.views.Sizes.{Sizes}
 use Rattle.sdd_rights.specs.Views.{owner_token, no_rights, right_to}
-use Rattle.sdd_word_invariant.specs.Epoch.{HasPlace}
-use Rattle.sdd_word_invariant.specs.Sums.{total}
-use Rattle.sdd_word_invariant.specs.WordInvariant.{epoch_of, WordInvariant}
-use Rattle.sdd_word_invariant.proofs.Frame.{each_set}
-use Rattle.sdd_word_invariant.proofs.Lift.{blind_tokens}
-use Rattle.sdd_word_invariant.proofs.Sums.{total_set, total_append}
+use Rattle.sdd_domain_invariant.specs.Epoch.{HasPlace}
+use Rattle.sdd_domain_invariant.specs.Sums.{total}
+use Rattle.sdd_domain_invariant.specs.WordInvariant.{epoch_of, WordInvariant}
+use Rattle.sdd_domain_invariant.proofs.Frame.{each_set}
+use Rattle.sdd_domain_invariant.proofs.WordLift.{blind_tokens}
+use Rattle.sdd_domain_invariant.proofs.Sums.{total_set, total_append}
 use Rattle.sdd_domain_invariant.specs.CellsInvariant.{is_right, rights_at, HasRight, IsTaken, is_closing_right, closing_rights_at, closes_at, CellsInvariant}
 use Rattle.sdd_domain_invariant.specs.CellSteps.{rightless, rights_of, righted}
 use Rattle.sdd_domain_invariant.specs.DomainInvariant.{DomainInvariant}

@@ -9,8 +9,8 @@ use Rattle.atomic_table.proofs.Lists.{at_set, set_else, set_here}
 use Rattle.atomic_table.specs.Table.{Act, keeps, takes, gives, chain, homes_after, carried_after, Valid}
 use Rattle.sdd_shared_values.specs.declared.value_fraction.ValueFraction.{ValueFraction}
 use Rattle.sdd_rights.specs.declared.views.ShownValue.{ShownValue}
-use Rattle.sdd_word_invariant.specs.Sums.{times}
-use Rattle.sdd_word_invariant.proofs.Sums.{is_same, is_other}
+use Rattle.sdd_domain_invariant.specs.Sums.{times}
+use Rattle.sdd_domain_invariant.proofs.Sums.{is_same, is_other}
 use Rattle.sdd_domain_invariant.specs.FractionsAtHome.{FractionsAtHome, CarriedFractions, stake_at, homes_for, share, Has, LiesAt, IsAtHome}
 use Rattle.sdd_domain_invariant.specs.FractionSteps.{CarriesFirst, IsValue, CarriesSeen}
 use Rattle.sdd_domain_invariant.specs.Records.{slot_shown, IsIn}

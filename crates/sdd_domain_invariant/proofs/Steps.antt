@@ -19,36 +19,35 @@ use Rattle.sdd_rights.specs.declared.views.WaitingItem.{WaitingItem}
 use Rattle.sdd_rights.specs.declared.views.Deposit.{Deposit}
 use Rattle.sdd_rights.specs.declared.views.View.{View}
 use Rattle.sdd_rights.specs.declared.views.Sizes.{Sizes}
-use Rattle.sdd_word_invariant.specs.Words.{slot_word, state_word, words_behind}
-use Rattle.sdd_word_invariant.specs.Codes.{codes, alive, waiting, full, valued, emptying, counted as kind_of, shared_base, held_word, shared_word, free_word, waiting_word}
-use Rattle.sdd_word_invariant.specs.Epoch.{HasPlace, IsOpen, Scans, IsLone}
-use Rattle.sdd_word_invariant.specs.EpochSteps.{Steps}
-use Rattle.sdd_word_invariant.specs.Sums.{total, times, is as is_at}
-use Rattle.sdd_word_invariant.specs.Slots.{slot_at, owners_at, items_at, Owns, Sees, Holds}
-use Rattle.sdd_word_invariant.specs.SlotSteps.{others as tail, behind, noted, Knew, without, retired, one_less, given_back, held, held_by, shared_again, looked_past, release_hold, discarded, seeing, AtSlot, Claims, Retires, Releases, LeavesBeside, GivesBack, LooksAtSlot, TakesHold, LetsGo, TriesHold, SharesAgain, Discards, LooksForGuard, ClosesAll, IsDue}
-use Rattle.sdd_word_invariant.specs.WordInvariant.{epoch_of}
-use Rattle.sdd_word_invariant.specs.Barred.{IsNobodys, IsBarred, AreBarred, AreQuiet, past, past_quiet, Bars, LooksForValue}
-use Rattle.sdd_word_invariant.proofs.Barred.{Spares, one_spared, Hushes, one_hushed}
-use Rattle.sdd_word_invariant.proofs.Barred as barring
-use Rattle.sdd_word_invariant.proofs.Codes.{sound, free_is, raw_is, waiting_is, shared, counted_is, none_left, some_left, one_left, only_held}
-use Rattle.sdd_word_invariant.proofs.EpochSteps as over
-use Rattle.sdd_word_invariant.proofs.SlotSteps as steps
-use Rattle.sdd_word_invariant.specs.Collectors.{Empties}
-use Rattle.sdd_word_invariant.proofs.Collectors.{plain_alive, plain_waiting, plain_free, emptying_at}
-use Rattle.sdd_word_invariant.proofs.Owning.{item_gone, item_kept}
-use Rattle.sdd_word_invariant.proofs.Owning as owning
-use Rattle.sdd_word_invariant.proofs.Holding as holding
-use Rattle.sdd_word_invariant.proofs.Lift.{blind, blind_units}
-use Rattle.sdd_word_invariant.specs.WordInvariant.{Parts}
-use Rattle.sdd_word_invariant.proofs.Lone.{finds}
-use Rattle.sdd_word_invariant.proofs.Epoch.{at_length}
-use Rattle.sdd_word_invariant.proofs.SlotWords.{owner_in, owners_in, alone_is, held_is}
+use Rattle.sdd_domain_invariant.specs.Words.{slot_word, state_word, words_behind}
+use Rattle.sdd_domain_invariant.specs.Codes.{codes, alive, waiting, full, valued, emptying, counted as kind_of, shared_base, held_word, shared_word, free_word, waiting_word}
+use Rattle.sdd_domain_invariant.specs.Epoch.{HasPlace, IsOpen, Scans, IsLone}
+use Rattle.sdd_domain_invariant.specs.EpochSteps.{Steps}
+use Rattle.sdd_domain_invariant.specs.Sums.{total, times, is as is_at}
+use Rattle.sdd_domain_invariant.specs.Slots.{slot_at, owners_at, items_at, Owns, Sees, Holds}
+use Rattle.sdd_domain_invariant.specs.SlotSteps.{others as tail, behind, noted, Knew, without, retired, one_less, given_back, held, held_by, shared_again, looked_past, release_hold, discarded, seeing, AtSlot, Claims, Retires, Releases, LeavesBeside, GivesBack, LooksAtSlot, TakesHold, LetsGo, TriesHold, SharesAgain, Discards, LooksForGuard, ClosesAll, IsDue}
+use Rattle.sdd_domain_invariant.specs.WordInvariant.{epoch_of, Parts}
+use Rattle.sdd_domain_invariant.specs.Barred.{IsNobodys, IsBarred, AreBarred, AreQuiet, past, past_quiet, Bars, LooksForValue}
+use Rattle.sdd_domain_invariant.proofs.Barred.{Spares, one_spared, Hushes, one_hushed}
+use Rattle.sdd_domain_invariant.proofs.Barred as barring
+use Rattle.sdd_domain_invariant.proofs.Codes.{sound, free_is, raw_is, waiting_is, shared, counted_is, none_left, some_left, one_left, only_held}
+use Rattle.sdd_domain_invariant.proofs.EpochSteps as over
+use Rattle.sdd_domain_invariant.proofs.SlotSteps as steps
+use Rattle.sdd_domain_invariant.specs.Collectors.{Empties}
+use Rattle.sdd_domain_invariant.proofs.Collectors.{plain_alive, plain_waiting, plain_free, emptying_at}
+use Rattle.sdd_domain_invariant.proofs.Owning.{item_gone, item_kept}
+use Rattle.sdd_domain_invariant.proofs.Owning as owning
+use Rattle.sdd_domain_invariant.proofs.Holding as holding
+use Rattle.sdd_domain_invariant.proofs.WordLift.{blind, blind_units}
+use Rattle.sdd_domain_invariant.proofs.Lone.{finds}
+use Rattle.sdd_domain_invariant.proofs.Epoch.{at_length}
+use Rattle.sdd_domain_invariant.proofs.SlotWords.{owner_in, owners_in, alone_is, held_is}
 use Rattle.sdd_shared_values.specs.ValueFractions.{FractionContent}
 use Rattle.sdd_shared_values.specs.Deposits.{units_at}
 use Rattle.sdd_shared_values.specs.Bank.{Leaves, Comes, Deal, AllowsDeal}
 use Rattle.sdd_shared_values.proofs.Deposits.{draws_all, brings}
-use Rattle.sdd_word_invariant.proofs.Sums.{is_same, is_other, without_same, without_other, total_has, total_two, total_zero, total_only}
-use Rattle.sdd_word_invariant.proofs.Waits.{waits_once}
+use Rattle.sdd_domain_invariant.proofs.Sums.{is_same, is_other, without_same, without_other, total_has, total_two, total_zero, total_only}
+use Rattle.sdd_domain_invariant.proofs.Waits.{waits_once}
 use Rattle.sdd_witness.specs.Steps.{AllowsAlone, AllowsBeside}
 use Rattle.sdd_domain_invariant.specs.FractionsAtHome.{CarriedFractions, stake_at, share, spare, away, full_at, Has, MatchesSlotWord, Moves, SeesFrom, NoneOut, FractionIsTaken, LiesAt}
 use Rattle.sdd_domain_invariant.specs.DomainInvariant.{DomainInvariant}
@@ -1254,8 +1253,8 @@ module _ (slots id : ℕ) (me : SeatState) (live : HasPlace me.0.epoch) where
       let g = gives_purse γ n q sizes.slots le v.stakes.sees (λ k a. low k (subst (λ (l : List ℕ). 0 < times k l) told.sees a))
       s.homes me.1 h.homes.deep purse in
       let now : View = record v {
-        epoch = Rattle.sdd_word_invariant.specs.EpochSteps.closed v.epoch;
-        slots = Rattle.sdd_word_invariant.specs.SlotSteps.unseeing
+        epoch = Rattle.sdd_domain_invariant.specs.EpochSteps.closed v.epoch;
+        slots = Rattle.sdd_domain_invariant.specs.SlotSteps.unseeing
             v;
       } in
       let same = λ (k : ℕ). before_slots sizes s.words j 1 k (omega arith) in

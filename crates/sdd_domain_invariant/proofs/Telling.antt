@@ -12,14 +12,14 @@ use Rattle.sdd_rights.specs.declared.views.ShownValue.{ShownValue}
 use Rattle.sdd_rights.specs.declared.views.FractionsView.{FractionsView}
 use Rattle.sdd_rights.specs.declared.views.View.{View}
 use Rattle.sdd_rights.specs.declared.views.Sizes.{Sizes}
-use Rattle.sdd_word_invariant.specs.Words.{slot_word}
-use Rattle.sdd_word_invariant.specs.Codes.{codes, alive, waiting}
-use Rattle.sdd_word_invariant.specs.Sums.{is, times}
-use Rattle.sdd_word_invariant.specs.Slots.{slot_at, waits_in, items_at, Owns}
-use Rattle.sdd_word_invariant.specs.SlotSteps.{without, retired, retired_now}
-use Rattle.sdd_word_invariant.proofs.Codes.{sound}
-use Rattle.sdd_word_invariant.proofs.SlotWords.{owner_in, owners_in}
-use Rattle.sdd_word_invariant.proofs.Sums.{is_same, is_other, without_same, without_other, total_has, total_two, total_snoc}
+use Rattle.sdd_domain_invariant.specs.Words.{slot_word}
+use Rattle.sdd_domain_invariant.specs.Codes.{codes, alive, waiting}
+use Rattle.sdd_domain_invariant.specs.Sums.{is, times}
+use Rattle.sdd_domain_invariant.specs.Slots.{slot_at, waits_in, items_at, Owns}
+use Rattle.sdd_domain_invariant.specs.SlotSteps.{without, retired, retired_now}
+use Rattle.sdd_domain_invariant.proofs.Codes.{sound}
+use Rattle.sdd_domain_invariant.proofs.SlotWords.{owner_in, owners_in}
+use Rattle.sdd_domain_invariant.proofs.Sums.{is_same, is_other, without_same, without_other, total_has, total_two, total_snoc}
 use Rattle.sdd_domain_invariant.specs.FractionsAtHome.{CarriedFractions, share, Has, Moves, LiesAt}
 use Rattle.sdd_domain_invariant.specs.DomainInvariant.{DomainInvariant}
 use Rattle.sdd_domain_invariant.specs.FractionSteps.{moving, making, resting, telling, untold, remembering, forgetting}

@@ -15,19 +15,19 @@ use Rattle.sdd_rights.specs.declared.views.ShownValue.{ShownValue}
 use Rattle.sdd_rights.specs.declared.views.CountsView.{CountsView}
 use Rattle.sdd_rights.specs.declared.views.View.{View}
 use Rattle.sdd_rights.specs.declared.views.Sizes.{Sizes}
-use Rattle.sdd_word_invariant.specs.Words.{first_slot, words_behind, all_words}
-use Rattle.sdd_word_invariant.specs.Codes.{codes, alive, waiting, full, valued, names, counted as counts_owners}
-use Rattle.sdd_word_invariant.specs.Sums.{is, times}
-use Rattle.sdd_word_invariant.specs.Slots.{slot_at, Owns}
-use Rattle.sdd_word_invariant.specs.SlotSteps.{first, others}
-use Rattle.sdd_word_invariant.specs.Epoch.{HasPlace}
+use Rattle.sdd_domain_invariant.specs.Words.{first_slot, words_behind, all_words}
+use Rattle.sdd_domain_invariant.specs.Codes.{codes, alive, waiting, full, valued, names, counted as counts_owners}
+use Rattle.sdd_domain_invariant.specs.Sums.{is, times}
+use Rattle.sdd_domain_invariant.specs.Slots.{slot_at, Owns}
+use Rattle.sdd_domain_invariant.specs.SlotSteps.{first, others}
+use Rattle.sdd_domain_invariant.specs.Epoch.{HasPlace}
 use Rattle.sdd_rights.specs.Views.{owner_token, owner_of}
-use Rattle.sdd_word_invariant.specs.WordInvariant.{epoch_of, idle}
-use Rattle.sdd_word_invariant.proofs.Codes.{sound, none_counted}
-use Rattle.sdd_word_invariant.proofs.Collectors.{plain_free}
-use Rattle.sdd_word_invariant.proofs.Lift as kept
-use Rattle.sdd_word_invariant.proofs.Frame.{each_set, each_snoc}
-use Rattle.sdd_word_invariant.proofs.Sums.{is_same, is_other, total_set, total_snoc, total_has, total_two, total_only, total_append, span_zero}
+use Rattle.sdd_domain_invariant.specs.WordInvariant.{epoch_of, idle}
+use Rattle.sdd_domain_invariant.proofs.Codes.{sound, none_counted}
+use Rattle.sdd_domain_invariant.proofs.Collectors.{plain_free}
+use Rattle.sdd_domain_invariant.proofs.WordLift as kept
+use Rattle.sdd_domain_invariant.proofs.Frame.{each_set, each_snoc}
+use Rattle.sdd_domain_invariant.proofs.Sums.{is_same, is_other, total_set, total_snoc, total_has, total_two, total_only, total_append, span_zero}
 use Rattle.sdd_domain_invariant.specs.FractionsAtHome.{stake_at, share, away, full_at, Has, MatchesSlotWord, Moves, SeesFrom, FractionIsTaken, LiesAt, AreLaid, FractionsInvariant}
 use Rattle.sdd_domain_invariant.specs.BankInvariant.{BankInvariant, founder, founded, bank_of}
 use Rattle.sdd_domain_invariant.proofs.Banks.{HasUnits, outside_free}
@@ -109,7 +109,7 @@ module _ (γ : ℕ) (sizes : Sizes) where
       deep = length-map xs some ∙ laid.long;
       home = λ i p y low near lies. let l = laid.each i p near (inside n sizes.slots i p low near) in
           let same : l.0 ≡ y = some-injective l.0 y (some-injective (some l.0) (some y) (sym (at_map some xs (stake_at n i p) l.0 l.1) ∙ lies)) in
-          let has = subst (Has γ i (share n 0 p) IsNoValueCode) same l.2 in let word = none (Rattle.sdd_word_invariant.specs.Words.slot_word sizes i) in
+          let has = subst (Has γ i (share n 0 p) IsNoValueCode) same l.2 in let word = none (Rattle.sdd_domain_invariant.specs.Words.slot_word sizes i) in
           let empty : full_at sizes ws i ≡ 0 = ap valued word ∙ sound.empty 0 sound.free.2 in
           subst (λ (k : ℕ). Has γ i (share n k p) (MatchesSlotWord (full_at sizes ws i)) y) (sym (ap (away n) empty))
           (has.0, (λ e. absurd (omega arith), λ _. has.1));
@@ -136,7 +136,7 @@ module _ (γ : ℕ) (sizes : Sizes) where
       low = λ j v e. subst HasUnits (only j v e) (λ i. omega arith);
       quiet = λ i near z. refl;
       founds = λ j v e is i near. outside_free sizes ws (founder sizes γ ∷ []) i
-          (ap valued (none (Rattle.sdd_word_invariant.specs.Words.slot_word sizes i)) ∙ sound.empty 0 sound.free.2);
+          (ap valued (none (Rattle.sdd_domain_invariant.specs.Words.slot_word sizes i)) ∙ sound.empty 0 sound.free.2);
       banks = λ j v e is. let f : false ≡ true = ap (λ (u : View). u.stakes.bank) (only j v e) ∙ is in absurd cc;
     };
     lasts = record {
@@ -148,7 +148,7 @@ module _ (γ : ℕ) (sizes : Sizes) where
     kinds = record {
       each = λ j v e. subst (KnowsKinds sizes ws) (only j v e) (knows_no_kind sizes ws (founder sizes γ) (length-replicate (words_behind sizes) 0) refl refl);
       bound = record {
-        bound = λ i c. absurd (let z = ap counts_owners (none (Rattle.sdd_word_invariant.specs.Words.slot_word sizes i)) in
+        bound = λ i c. absurd (let z = ap counts_owners (none (Rattle.sdd_domain_invariant.specs.Words.slot_word sizes i)) in
             let f = none_counted in omega arith);
         once = λ j v e i more. absurd (let o = ap (over_at i) (only j v e) in omega arith);
       };
@@ -157,12 +157,12 @@ module _ (γ : ℕ) (sizes : Sizes) where
         backed = λ i v q e m. absurd (no_pledge (founder sizes γ) q refl (ap (λ (u : View). u.pledges.own) (only i v e) ∙ m));
       };
       cells = record {
-        inside = λ i c. absurd (let e = ap (names i) (none (Rattle.sdd_word_invariant.specs.Words.cell_word c.0)) ∙ sound.null i in let n = c.2 in
+        inside = λ i c. absurd (let e = ap (names i) (none (Rattle.sdd_domain_invariant.specs.Words.cell_word c.0)) ∙ sound.null i in let n = c.2 in
             omega arith);
         single = λ d. omega arith;
         taken = λ j v r e has. absurd (no_right v (ap (λ (u : View). u.cells.rights) (sym (only j v e))) r has);
         closing = λ k. omega arith;
-        pointers = λ d _. let z = none (Rattle.sdd_word_invariant.specs.Words.pointer_word sizes d) in omega arith;
+        pointers = λ d _. let z = none (Rattle.sdd_domain_invariant.specs.Words.pointer_word sizes d) in omega arith;
       };
     };
   }

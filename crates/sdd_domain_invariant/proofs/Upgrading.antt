@@ -13,17 +13,17 @@ use Rattle.sdd_shared_values.specs.declared.value_fraction.ValueFraction.{ValueF
 use Rattle.sdd_rights.specs.declared.views.ShownValue.{ShownValue}
 use Rattle.sdd_rights.specs.declared.views.View.{View}
 use Rattle.sdd_rights.specs.declared.views.Sizes.{Sizes}
-use Rattle.sdd_word_invariant.specs.Words.{first_cell, slot_word}
-use Rattle.sdd_word_invariant.specs.Codes.{alive, valued, names, counted as kind_of, shared_base, most_owners}
-use Rattle.sdd_word_invariant.specs.Epoch.{HasPlace, IsLone}
-use Rattle.sdd_word_invariant.specs.Sums.{total}
-use Rattle.sdd_word_invariant.specs.Slots.{slot_at, owners_at, Owns}
-use Rattle.sdd_word_invariant.specs.SlotSteps.{one_more, AddsBeside, AtSlot}
-use Rattle.sdd_word_invariant.specs.WordInvariant.{epoch_of}
-use Rattle.sdd_word_invariant.proofs.Codes.{shared, counted_is, some_left}
-use Rattle.sdd_word_invariant.proofs.SlotSteps.{more_one}
-use Rattle.sdd_word_invariant.proofs.SlotSteps as words
-use Rattle.sdd_word_invariant.proofs.Sums.{is_same, is_other, total_some, span_some}
+use Rattle.sdd_domain_invariant.specs.Words.{first_cell, slot_word}
+use Rattle.sdd_domain_invariant.specs.Codes.{alive, valued, names, counted as kind_of, shared_base, most_owners}
+use Rattle.sdd_domain_invariant.specs.Epoch.{HasPlace, IsLone}
+use Rattle.sdd_domain_invariant.specs.Sums.{total}
+use Rattle.sdd_domain_invariant.specs.Slots.{slot_at, owners_at, Owns}
+use Rattle.sdd_domain_invariant.specs.SlotSteps.{one_more, AddsBeside, AtSlot}
+use Rattle.sdd_domain_invariant.specs.WordInvariant.{epoch_of}
+use Rattle.sdd_domain_invariant.proofs.Codes.{shared, counted_is, some_left}
+use Rattle.sdd_domain_invariant.proofs.SlotSteps.{more_one}
+use Rattle.sdd_domain_invariant.proofs.SlotSteps as words
+use Rattle.sdd_domain_invariant.proofs.Sums.{is_same, is_other, total_some, span_some}
 use Rattle.sdd_domain_invariant.specs.FractionsAtHome.{Moves, full_at}
 use Rattle.sdd_domain_invariant.specs.BankInvariant.{one_where}
 use Rattle.sdd_domain_invariant.specs.Records.{IsIn, IsKnown}

@@ -10,10 +10,10 @@ use Rattle.sdd_shared_values.specs.Deposits.{units_at, AreDeposits}
 use Rattle.sdd_rights.specs.declared.views.Deposit.{Deposit}
 use Rattle.sdd_rights.specs.declared.views.View.{View}
 use Rattle.sdd_rights.specs.declared.views.Sizes.{Sizes}
-use Rattle.sdd_word_invariant.specs.Sums.{total, is, times}
-use Rattle.sdd_word_invariant.specs.Slots.{owners_at}
+use Rattle.sdd_domain_invariant.specs.Sums.{total, is, times}
+use Rattle.sdd_domain_invariant.specs.Slots.{owners_at}
 use Rattle.sdd_rights.specs.Views.{at_rest, owner_token, no_pledges}
-use Rattle.sdd_word_invariant.specs.WordInvariant.{idle}
+use Rattle.sdd_domain_invariant.specs.WordInvariant.{idle}
 use Rattle.sdd_domain_invariant.specs.FractionsAtHome.{spare, full_at}
 
 -- how many of its owners of the slot i have their unit

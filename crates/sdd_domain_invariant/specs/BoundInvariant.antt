@@ -4,10 +4,10 @@ use mathlib.Core.Option.{some}
 use lib.ListN.{get_elem?}
 use Rattle.sdd_rights.specs.declared.views.View.{View}
 use Rattle.sdd_rights.specs.declared.views.Sizes.{Sizes}
-use Rattle.sdd_word_invariant.specs.Codes.{alive, counted, most_owners}
-use Rattle.sdd_word_invariant.specs.Epoch.{HasPlace}
-use Rattle.sdd_word_invariant.specs.Slots.{slot_at}
-use Rattle.sdd_word_invariant.specs.Sums.{total}
+use Rattle.sdd_domain_invariant.specs.Codes.{alive, counted, most_owners}
+use Rattle.sdd_domain_invariant.specs.Epoch.{HasPlace}
+use Rattle.sdd_domain_invariant.specs.Slots.{slot_at}
+use Rattle.sdd_domain_invariant.specs.Sums.{total}
 use Rattle.sdd_domain_invariant.specs.BankInvariant.{moved_in}
 
 -- 1 where it has raised the count of the slot i past the bound, and not yet taken that back

@@ -7,10 +7,10 @@ use Rattle.sdd_rights.specs.declared.views.CellKind.TheVariants.{Owned, Shared, 
 use Rattle.sdd_rights.specs.declared.views.View.{View}
 use Rattle.sdd_rights.specs.Owner.{cell_kind}
 use Rattle.sdd_rights.specs.Views.{owner_token, no_rights}
-use Rattle.sdd_word_invariant.specs.Words.{cell_word, pointer_word}
-use Rattle.sdd_word_invariant.specs.Codes.{alive, counted, held_slots, pointers_end}
-use Rattle.sdd_word_invariant.specs.Epoch.{IsLone}
-use Rattle.sdd_word_invariant.specs.CellSteps.{cell_noted, noting, KnewCell}
+use Rattle.sdd_domain_invariant.specs.Words.{cell_word, pointer_word}
+use Rattle.sdd_domain_invariant.specs.Codes.{alive, counted, held_slots, pointers_end}
+use Rattle.sdd_domain_invariant.specs.Epoch.{IsLone}
+use Rattle.sdd_domain_invariant.specs.CellWordSteps.{cell_noted, noting, KnewCell}
 use Rattle.sdd_domain_invariant.specs.BankInvariant.{one_where}
 use Rattle.sdd_domain_invariant.specs.KindsInvariant.{written}
 use Rattle.sdd_domain_invariant.specs.FractionSteps.{SeatState, IsRecalled, SeesOwned}

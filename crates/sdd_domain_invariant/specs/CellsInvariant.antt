@@ -7,11 +7,11 @@ use Rattle.sdd_rights.specs.declared.views.CellKind.TheVariants.{Owned, Shared, 
 use Rattle.sdd_rights.specs.declared.views.CellRight.{CellRight}
 use Rattle.sdd_rights.specs.declared.views.View.{View}
 use Rattle.sdd_rights.specs.declared.views.Sizes.{Sizes}
-use Rattle.sdd_word_invariant.specs.Words.{cell_word}
-use Rattle.sdd_word_invariant.specs.Codes.{counted, names, pointers_end}
-use Rattle.sdd_word_invariant.specs.Collectors.{one_in}
-use Rattle.sdd_word_invariant.specs.Slots.{slot_at}
-use Rattle.sdd_word_invariant.specs.Sums.{total, is}
+use Rattle.sdd_domain_invariant.specs.Words.{cell_word}
+use Rattle.sdd_domain_invariant.specs.Codes.{counted, names, pointers_end}
+use Rattle.sdd_domain_invariant.specs.Collectors.{one_in}
+use Rattle.sdd_domain_invariant.specs.Slots.{slot_at}
+use Rattle.sdd_domain_invariant.specs.Sums.{total, is}
 
 abbrev pub cell_at : Sizes → List ℕ → ℕ → ℕ
 cell_at sizes ws d = slice_index ws (cell_word d)

@@ -6,10 +6,10 @@ use Rattle.sdd_rights.specs.declared.views.CellKind.{CellKind}
 use Rattle.sdd_rights.specs.declared.views.CellKind.TheVariants.{Raw, Collector}
 use Rattle.sdd_rights.specs.declared.views.ShownValue.{ShownValue}
 use Rattle.sdd_rights.specs.declared.views.View.{View}
-use Rattle.sdd_word_invariant.specs.Codes.{private_word, emptying_word, emptied_word, left_word}
-use Rattle.sdd_word_invariant.specs.Epoch.{IsLone}
-use Rattle.sdd_word_invariant.specs.SlotSteps.{Knew}
-use Rattle.sdd_word_invariant.specs.CollectorSteps.{Collects, Reclaims, LeavesToClose, GivesPrivateBack, EmptiesSlot, EmptiesOwn, emptied_now, finds_left, empty_given_back, own_given_back, closing, closed_none}
+use Rattle.sdd_domain_invariant.specs.Codes.{private_word, emptying_word, emptied_word, left_word}
+use Rattle.sdd_domain_invariant.specs.Epoch.{IsLone}
+use Rattle.sdd_domain_invariant.specs.SlotSteps.{Knew}
+use Rattle.sdd_domain_invariant.specs.CollectorWordSteps.{Collects, Reclaims, LeavesToClose, GivesPrivateBack, EmptiesSlot, EmptiesOwn, emptied_now, finds_left, empty_given_back, own_given_back, closing, closed_none}
 use Rattle.sdd_domain_invariant.specs.FractionsAtHome.{spare}
 use Rattle.sdd_domain_invariant.specs.FilledInvariant.{newest}
 use Rattle.sdd_domain_invariant.specs.FractionSteps.{SeatState, CarriesAll, IsValue, IsNewest, book_of, places_of, moving, giving, forgetting}

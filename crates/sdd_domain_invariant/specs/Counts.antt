@@ -5,9 +5,9 @@ use lib.ListN.{get_elem?}
 use prog.Atomic.{either}
 use Rattle.sdd_rights.specs.declared.views.View.{View}
 use Rattle.sdd_rights.specs.declared.views.Sizes.{Sizes}
-use Rattle.sdd_word_invariant.specs.Words.{first_slot, state_word}
-use Rattle.sdd_word_invariant.specs.Sums.{total, span}
-use Rattle.sdd_word_invariant.specs.Codes.{valued}
+use Rattle.sdd_domain_invariant.specs.Words.{first_slot, state_word}
+use Rattle.sdd_domain_invariant.specs.Sums.{total, span}
+use Rattle.sdd_domain_invariant.specs.Codes.{valued}
 
 -- how many items it made, how many it gave back, and how many places it counts for that have ended
 abbrev pub made_by : View → ℕ

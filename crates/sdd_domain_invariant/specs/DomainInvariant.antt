@@ -4,7 +4,7 @@ use Rattle.atomic_table.specs.Table.{State}
 use Rattle.sdd_shared_values.specs.declared.value_fraction.ValueFraction.{ValueFraction}
 use Rattle.sdd_rights.specs.declared.views.View.{View}
 use Rattle.sdd_rights.specs.declared.views.Sizes.{Sizes}
-use Rattle.sdd_word_invariant.specs.WordInvariant.{WordInvariant}
+use Rattle.sdd_domain_invariant.specs.WordInvariant.{WordInvariant}
 use Rattle.sdd_domain_invariant.specs.FractionsAtHome.{FractionsInvariant}
 use Rattle.sdd_domain_invariant.specs.Records.{RecordsInvariant}
 use Rattle.sdd_domain_invariant.specs.Counts.{CountsInvariant}

@@ -5,7 +5,7 @@ use lib.ListN.{get_elem?}
 use Rattle.sdd_rights.specs.declared.views.ShownValue.{ShownValue}
 use Rattle.sdd_rights.specs.declared.views.View.{View}
 use Rattle.sdd_rights.specs.declared.views.Sizes.{Sizes}
-use Rattle.sdd_word_invariant.specs.Epoch.{HasPlace}
+use Rattle.sdd_domain_invariant.specs.Epoch.{HasPlace}
 
 -- the newest of these records of a slot
 abbrev pub newest : ℕ → List ShownValue → Option ShownValue

@@ -9,13 +9,13 @@ use Rattle.sdd_shared_values.specs.declared.value_fraction.ValueFraction.{ValueF
 use Rattle.sdd_rights.specs.declared.views.ShownValue.{ShownValue}
 use Rattle.sdd_rights.specs.declared.views.CountsView.{CountsView}
 use Rattle.sdd_rights.specs.declared.views.View.{View}
-use Rattle.sdd_word_invariant.specs.SlotSteps.{Knew, claimed, discarded, seeing, first, others, parted, joined, Retires, Defers, ClosesAll, GivesBack, one_less, one_more, taken_back}
+use Rattle.sdd_domain_invariant.specs.SlotSteps.{Knew, claimed, discarded, seeing, first, others, parted, joined, Retires, Defers, ClosesAll, GivesBack, one_less, one_more, taken_back}
 use Rattle.sdd_rights.specs.Views.{owner_token, at_rest, no_counts}
-use Rattle.sdd_word_invariant.specs.EpochSteps.{ended}
-use Rattle.sdd_word_invariant.specs.Words.{slot_word}
-use Rattle.sdd_word_invariant.specs.Codes.{alive, counted, most_owners}
-use Rattle.sdd_word_invariant.specs.Epoch.{IsLone}
-use Rattle.sdd_word_invariant.specs.Slots.{Sees}
+use Rattle.sdd_domain_invariant.specs.EpochSteps.{ended}
+use Rattle.sdd_domain_invariant.specs.Words.{slot_word}
+use Rattle.sdd_domain_invariant.specs.Codes.{alive, counted, most_owners}
+use Rattle.sdd_domain_invariant.specs.Epoch.{IsLone}
+use Rattle.sdd_domain_invariant.specs.Slots.{Sees}
 use Rattle.sdd_domain_invariant.specs.FractionsAtHome.{CarriedFractions, stake_at, share, spare, Has}
 use Rattle.sdd_domain_invariant.specs.Records.{IsIn}
 use Rattle.sdd_domain_invariant.specs.FilledInvariant.{newest}

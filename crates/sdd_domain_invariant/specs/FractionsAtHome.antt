@@ -12,10 +12,10 @@ use Rattle.sdd_shared_values.specs.SharedValues.{IsValueCode, IsNoValueCode, mos
 use Rattle.sdd_shared_values.specs.declared.value_fraction.ValueFraction.{ValueFraction}
 use Rattle.sdd_rights.specs.declared.views.View.{View}
 use Rattle.sdd_rights.specs.declared.views.Sizes.{Sizes}
-use Rattle.sdd_word_invariant.specs.Codes.{valued}
-use Rattle.sdd_word_invariant.specs.Epoch.{HasPlace}
-use Rattle.sdd_word_invariant.specs.Slots.{slot_at, items_at, Owns, Sees}
-use Rattle.sdd_word_invariant.specs.Collectors.{Empties}
+use Rattle.sdd_domain_invariant.specs.Codes.{valued}
+use Rattle.sdd_domain_invariant.specs.Epoch.{HasPlace}
+use Rattle.sdd_domain_invariant.specs.Slots.{slot_at, items_at, Owns, Sees}
+use Rattle.sdd_domain_invariant.specs.Collectors.{Empties}
 
 -- what lies in the table's slots, where it is at home
 abbrev pub FractionsAtHome : Type 0

@@ -5,10 +5,10 @@ use lib.ListN.{get_elem?}
 use Rattle.sdd_rights.specs.declared.views.ShownValue.{ShownValue}
 use Rattle.sdd_rights.specs.declared.views.View.{View}
 use Rattle.sdd_rights.specs.declared.views.Sizes.{Sizes}
-use Rattle.sdd_word_invariant.specs.Words.{words_behind}
-use Rattle.sdd_word_invariant.specs.Codes.{alive, counted}
-use Rattle.sdd_word_invariant.specs.Slots.{slot_at, Owns, Holds}
-use Rattle.sdd_word_invariant.specs.SlotSteps.{behind}
+use Rattle.sdd_domain_invariant.specs.Words.{words_behind}
+use Rattle.sdd_domain_invariant.specs.Codes.{alive, counted}
+use Rattle.sdd_domain_invariant.specs.Slots.{slot_at, Owns, Holds}
+use Rattle.sdd_domain_invariant.specs.SlotSteps.{behind}
 use Rattle.sdd_domain_invariant.specs.FractionsAtHome.{Moves}
 use Rattle.sdd_domain_invariant.specs.BankInvariant.{one_where}
 use Rattle.sdd_domain_invariant.specs.FilledInvariant.{HasRecord}

@@ -7,9 +7,9 @@ use Rattle.sdd_shared_values.specs.ValueFractions.{FractionContent}
 use Rattle.sdd_shared_values.specs.declared.value_fraction.ValueFraction.{ValueFraction}
 use Rattle.sdd_rights.specs.declared.views.View.{View}
 use Rattle.sdd_rights.specs.declared.views.Sizes.{Sizes}
-use Rattle.sdd_word_invariant.specs.Codes.{valued, private, emptying, counted, raw_word}
-use Rattle.sdd_word_invariant.specs.Epoch.{HasPlace}
-use Rattle.sdd_word_invariant.specs.Slots.{slot_at}
+use Rattle.sdd_domain_invariant.specs.Codes.{valued, private, emptying, counted, raw_word}
+use Rattle.sdd_domain_invariant.specs.Epoch.{HasPlace}
+use Rattle.sdd_domain_invariant.specs.Slots.{slot_at}
 use Rattle.sdd_domain_invariant.specs.FractionsAtHome.{FractionsAtHome, LiesAt}
 use Rattle.sdd_domain_invariant.specs.FilledInvariant.{newest}
 use Rattle.sdd_domain_invariant.specs.BankInvariant.{one_where, banked, IsBank}

@@ -1,3 +1,15 @@
+pub mod Words
+pub mod Sums
+pub mod Codes
+pub mod Epoch
+pub mod Slots
+pub mod Collectors
+pub mod EpochSteps
+pub mod SlotSteps
+pub mod CollectorWordSteps
+pub mod CellWordSteps
+pub mod Barred
+pub mod WordInvariant
 pub mod FractionsAtHome
 pub mod Records
 pub mod Counts

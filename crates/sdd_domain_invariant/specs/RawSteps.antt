@@ -3,8 +3,8 @@ use Rattle.std.specs.Prelude.{◌≡◌, ◌≢◌, ℕ, false, ◌∷◌}
 use base.Stored.{Gv}
 use Rattle.sdd_shared_values.specs.SharedValues.{IsValueCode}
 use Rattle.sdd_rights.specs.declared.views.View.{View}
-use Rattle.sdd_word_invariant.specs.Epoch.{IsLone}
-use Rattle.sdd_word_invariant.specs.SlotSteps.{Knew, claimed, turned_raw}
+use Rattle.sdd_domain_invariant.specs.Epoch.{IsLone}
+use Rattle.sdd_domain_invariant.specs.SlotSteps.{Knew, claimed, turned_raw}
 use Rattle.sdd_domain_invariant.specs.FractionSteps.{SeatState, IsNewest, SeesOwned, untold}
 
 -- the item of its only owner is out as raw, and it knows no more what the slot shows

@@ -6,7 +6,7 @@ use base.Stored.{Gv}
 use Rattle.sdd_rights.specs.declared.views.ShownValue.{ShownValue}
 use Rattle.sdd_rights.specs.declared.views.View.{View}
 use Rattle.sdd_rights.specs.declared.views.Sizes.{Sizes}
-use Rattle.sdd_word_invariant.specs.Slots.{items_at, Owns, Sees}
+use Rattle.sdd_domain_invariant.specs.Slots.{items_at, Owns, Sees}
 use Rattle.sdd_shared_values.specs.declared.value_fraction.ValueFraction.{ValueFraction}
 use Rattle.sdd_shared_values.specs.ValueFractions.{FractionContent}
 use Rattle.sdd_domain_invariant.specs.BankInvariant.{IsBank, banked}

@@ -4,8 +4,8 @@ ghost use mathlib.Core.Option.{some};
 ghost use lib.ListN.{get_elem?};
 ghost use Rattle.core.specs.Mem.Slots.{slots_items};
 ghost use Rattle.sdd_shared_values.specs.SharedValues.{most, HasAllUnits, IsNoValueCode, AreVacant};
-ghost use Rattle.sdd_word_invariant.specs.Codes.{full};
-ghost use Rattle.sdd_word_invariant.specs.Slots.{slot_at};
+ghost use Rattle.sdd_domain_invariant.specs.Codes.{full};
+ghost use Rattle.sdd_domain_invariant.specs.Slots.{slot_at};
 ghost use Rattle.sdd_domain_invariant.specs.FractionsAtHome.{stake_at, none_away, all_vacant, AreLaidTo, AreLaid, AreHome};
 
 use atomic_table::Closed;

@@ -1,4 +1,5 @@
-//! Where the stakes in the values of a domain's slots lie: the homes' part of its rule. All stakes are laid into their homes, and gathered again.
+//! The rule of a domain, in two halves: what its words keep, part by part, with what is known of them by the views of `sdd_rights`; and where the stakes in
+//! the values of its slots lie, and who has them out. Both are definitions and lemmas alone, but that all stakes are laid into their homes, and gathered again.
 #![tactic(auto)]
 
 mod gather;

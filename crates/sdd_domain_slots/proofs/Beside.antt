@@ -14,9 +14,9 @@ use Rattle.sdd_rights.specs.declared.views.ShownValue.{ShownValue}
 use Rattle.sdd_rights.specs.declared.views.View.{View}
 use Rattle.sdd_rights.specs.contracts.views.View.{the_row}
 use Rattle.sdd_rights.specs.Views.{owner_of, owner_token, at_rest}
-use Rattle.sdd_word_invariant.specs.Epoch.{HasPlace, IsLone}
-use Rattle.sdd_word_invariant.specs.Slots.{Holds}
-use Rattle.sdd_word_invariant.specs.SlotSteps.{Knew, noted, one_less}
+use Rattle.sdd_domain_invariant.specs.Epoch.{HasPlace, IsLone}
+use Rattle.sdd_domain_invariant.specs.Slots.{Holds}
+use Rattle.sdd_domain_invariant.specs.SlotSteps.{Knew, noted, one_less}
 use Rattle.sdd_domain_invariant.specs.FilledInvariant.{HasRecord}
 use Rattle.sdd_domain_invariant.specs.Records.{IsIn}
 use Rattle.sdd_domain_invariant.specs.FractionSteps.{SeatState, DrawsUnit, EntersUnit, LeavesOne, departing, drawing, parting, regained, undrawing, untold}

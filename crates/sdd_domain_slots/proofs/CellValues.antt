@@ -10,9 +10,9 @@ use Rattle.sdd_rights.specs.declared.views.Sizes.{Sizes}
 use Rattle.sdd_rights.specs.declared.views.CellsView.{CellsView}
 use Rattle.sdd_rights.specs.Views.{right_to, no_rights}
 use Rattle.sdd_rights.specs.Owner.{cell_kind}
-use Rattle.sdd_word_invariant.specs.Codes.{held_slots}
-use Rattle.sdd_word_invariant.specs.CellSteps.{noting}
-use Rattle.sdd_word_invariant.proofs.Codes.{held_which}
+use Rattle.sdd_domain_invariant.specs.Codes.{held_slots}
+use Rattle.sdd_domain_invariant.specs.CellWordSteps.{noting}
+use Rattle.sdd_domain_invariant.proofs.Codes.{held_which}
 use Rattle.sdd_domain_invariant.specs.FractionSteps.{SeatState}
 use Rattle.sdd_domain_invariant.specs.FilledInvariant.{HasRecord}
 use Rattle.sdd_domain_invariant.specs.CellSteps.{BringsOut, righted}

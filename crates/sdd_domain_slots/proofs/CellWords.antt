@@ -4,8 +4,8 @@ use Rattle.std.specs.Prelude.{None, Some, Option, slice_get}
 use Rattle.sdd_core.specs.declared.tag.Tag.{Tag}
 use Rattle.sdd_core.specs.declared.tag.Tag.TheVariants as tags
 use Rattle.sdd_core.specs.Tag.{number_of}
-use Rattle.sdd_word_invariant.specs.Codes.{held_slots}
-use Rattle.sdd_word_invariant.proofs.Codes.{held_which, holds_none, holds_one}
+use Rattle.sdd_domain_invariant.specs.Codes.{held_slots}
+use Rattle.sdd_domain_invariant.proofs.Codes.{held_which, holds_none, holds_one}
 use Rattle.sdd_domain_slots.specs.Local.{contents_of, tag_by}
 
 -- what it names is one slot or none

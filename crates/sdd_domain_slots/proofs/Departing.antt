@@ -2,9 +2,9 @@
 use Rattle.std.proofs.Common.{◌≡◌, ◌≢◌, ℕ, ◌+◌, ◌-◌, eqb, Bool, true, false, sym, subst, eq-eqb, ne_eqb, arith}
 use mathlib.Core.Logic.{dite}
 use native.Mathlib.Decide.{ℕ_discrete}
-use Rattle.sdd_word_invariant.specs.Codes.{shared_base, retired_word, alive}
-use Rattle.sdd_word_invariant.specs.SlotSteps.{Knew}
-use Rattle.sdd_word_invariant.proofs.Codes.{shared, counted_is}
+use Rattle.sdd_domain_invariant.specs.Codes.{shared_base, retired_word, alive}
+use Rattle.sdd_domain_invariant.specs.SlotSteps.{Knew}
+use Rattle.sdd_domain_invariant.proofs.Codes.{shared, counted_is}
 use Rattle.sdd_domain_invariant.specs.FractionSteps.{SeatState, EntersUnit, ReleasesOne, RetiresOne, undrawing}
 use Rattle.sdd_domain_slots.specs.Values.{LetsWait, LeavesOthers, LetsOneGo}
 

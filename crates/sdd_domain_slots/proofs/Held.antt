@@ -14,9 +14,9 @@ use Rattle.sdd_rights.specs.Views.{owner_of, owner_token, at_rest}
 use Rattle.sdd_rights.specs.declared.read_fraction.ReadFraction.{ReadFraction}
 use Rattle.sdd_rights.specs.Owner.{one-shown, witness_of_owner}
 use Rattle.sdd_atomics.specs.Grips.{IsGripOf}
-use Rattle.sdd_word_invariant.specs.Codes.{claimed_word, held_word}
-use Rattle.sdd_word_invariant.specs.Epoch.{IsLone, IsOpen}
-use Rattle.sdd_word_invariant.specs.SlotSteps.{Knew, behind, discarded, first, others, without}
+use Rattle.sdd_domain_invariant.specs.Codes.{claimed_word, held_word}
+use Rattle.sdd_domain_invariant.specs.Epoch.{IsLone, IsOpen}
+use Rattle.sdd_domain_invariant.specs.SlotSteps.{Knew, behind, discarded, first, others, without}
 use Rattle.sdd_domain_invariant.specs.FilledInvariant.{HasRecord}
 use Rattle.sdd_domain_invariant.proofs.Fillings.{has_none}
 use Rattle.sdd_domain_invariant.proofs.KindSteps.{has_first}

@@ -17,13 +17,13 @@ use Rattle.atomic_table.specs.Seated.{TableId}
 use Rattle.sdd_standings.specs.Cells.{cell_with, slot_held}
 use Rattle.sdd_rights.specs.declared.views.ShownValue.{ShownValue}
 use Rattle.sdd_atomics.specs.declared.domain_table.DomainTable.{DomainTable}
-use Rattle.sdd_word_invariant.specs.Codes.{held_slots}
-use Rattle.sdd_word_invariant.proofs.Codes.{held_which}
+use Rattle.sdd_domain_invariant.specs.Codes.{held_slots}
+use Rattle.sdd_domain_invariant.proofs.Codes.{held_which}
 use Rattle.sdd_domain_slots.specs.declared.cell_values.LooseOwner.{LooseOwner}
 use Rattle.sdd_domain_slots.specs.CellWords.{listed}
 use Rattle.sdd_domain_slots.specs.SpaceIds.{cells_home}
 use Rattle.sdd_rights.specs.declared.views.View.{View}
-use Rattle.sdd_word_invariant.specs.Epoch.{IsLone as IsLoneAt}
+use Rattle.sdd_domain_invariant.specs.Epoch.{IsLone as IsLoneAt}
 use Rattle.sdd_domain_slots.specs.LocalState.{LocalState}
 use Rattle.sdd_domain_slots.specs.Cells.{AreLoose, ClaimsNone, IsBoundTo, MissedAll, slots_in, told_of}
 use Rattle.sdd_domain_slots.specs.Local.{contents_of, tag_by}

@@ -15,13 +15,13 @@ use Rattle.sdd_participants.specs.Waiting.{Waiting, aged, left, having_seen}
 use Rattle.sdd_participants.specs.Waiting.{due as due_of}
 use Rattle.sdd_rights.specs.declared.views.PrivateItem.{PrivateItem}
 use Rattle.sdd_rights.specs.declared.views.WaitingItem.{WaitingItem}
-use Rattle.sdd_word_invariant.specs.Collectors.{private_in}
-use Rattle.sdd_word_invariant.specs.CollectorSteps.{for_collector, without_private}
-use Rattle.sdd_word_invariant.specs.Slots.{waits_in}
-use Rattle.sdd_word_invariant.specs.SlotSteps.{older, older_private, without_item}
-use Rattle.sdd_word_invariant.specs.Sums.{total, times}
-use Rattle.sdd_word_invariant.proofs.Sums.{is_same, is_other, total_has, total_map, total_snoc, total_some}
-use Rattle.sdd_word_invariant.proofs.Waits.{few}
+use Rattle.sdd_domain_invariant.specs.Collectors.{private_in}
+use Rattle.sdd_domain_invariant.specs.CollectorWordSteps.{for_collector, without_private}
+use Rattle.sdd_domain_invariant.specs.Slots.{waits_in}
+use Rattle.sdd_domain_invariant.specs.SlotSteps.{older, older_private, without_item}
+use Rattle.sdd_domain_invariant.specs.Sums.{total, times}
+use Rattle.sdd_domain_invariant.proofs.Sums.{is_same, is_other, total_has, total_map, total_snoc, total_some}
+use Rattle.sdd_domain_invariant.proofs.Waits.{few}
 use Rattle.sdd_domain_slots.specs.InBags.{Kept, Plainly, Privately, AreInBags, KnownWaiting, item_of, plain_of, private_of, is_closed, is_out, kept_in, out_of}
 use Rattle.sdd_domain_slots.specs.WaitingItems.{what_of, number_in, waiting_of, is_ripe}
 use Rattle.sdd_domain_slots.proofs.KeptLists.{total_fewer, total_le, some_part, total_of_one, filter_alike, filter_both, filter_mapped, filter_true, same_snoc, same_filter, same_map, plain_snoc, private_snoc, items_snoc, older_kept, plain_older, private_older, items_older, left_kept, plain_left, private_left, items_left, counts, for_it, kept_for, items_for, plain_for, private_for, for_none, kept_plainly, items_plainly, private_plainly, plain_plainly}

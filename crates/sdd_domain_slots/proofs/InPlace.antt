@@ -20,10 +20,10 @@ use Rattle.sdd_rights.specs.declared.views.ShownValue.{ShownValue}
 use Rattle.sdd_rights.specs.declared.views.View.{View}
 use Rattle.sdd_core.specs.declared.refused.Refused.{Refused}
 use Rattle.sdd_rights.specs.declared.views.Sizes.{Sizes}
-use Rattle.sdd_word_invariant.specs.Codes.{alive, claimed_word, counted}
-use Rattle.sdd_word_invariant.specs.Epoch.{HasPlace, IsOpen, IsLone as IsLoneAt}
-use Rattle.sdd_word_invariant.specs.Slots.{Holds}
-use Rattle.sdd_word_invariant.specs.SlotSteps.{Knew, behind, discarded}
+use Rattle.sdd_domain_invariant.specs.Codes.{alive, claimed_word, counted}
+use Rattle.sdd_domain_invariant.specs.Epoch.{HasPlace, IsOpen, IsLone as IsLoneAt}
+use Rattle.sdd_domain_invariant.specs.Slots.{Holds}
+use Rattle.sdd_domain_invariant.specs.SlotSteps.{Knew, behind, discarded}
 use Rattle.sdd_domain_invariant.specs.FractionSteps.{dropping, moving, undrawing, untold}
 use Rattle.sdd_domain_invariant.specs.Records.{IsIn}
 use Rattle.sdd_domain_invariant.proofs.Records.{in_either, in_none}

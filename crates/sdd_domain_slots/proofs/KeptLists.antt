@@ -5,10 +5,10 @@ use mathlib.Core.Option.{some}
 use lib.ListN.{get_elem?}
 use Rattle.sdd_rights.specs.declared.views.PrivateItem.{PrivateItem}
 use Rattle.sdd_rights.specs.declared.views.WaitingItem.{WaitingItem}
-use Rattle.sdd_word_invariant.specs.CollectorSteps.{for_collector, without_private}
-use Rattle.sdd_word_invariant.specs.SlotSteps.{older, older_private, without_item}
-use Rattle.sdd_word_invariant.specs.Sums.{total}
-use Rattle.sdd_word_invariant.proofs.Sums.{total_only, total_snoc, total_two}
+use Rattle.sdd_domain_invariant.specs.CollectorWordSteps.{for_collector, without_private}
+use Rattle.sdd_domain_invariant.specs.SlotSteps.{older, older_private, without_item}
+use Rattle.sdd_domain_invariant.specs.Sums.{total}
+use Rattle.sdd_domain_invariant.proofs.Sums.{total_only, total_snoc, total_two}
 use Rattle.sdd_domain_slots.specs.InBags.{Kept, Plainly, Privately, AreSame, item_of, plain_of, private_of}
 
 -- ---- sums

@@ -7,7 +7,7 @@ use Rattle.atomic_table.specs.Seated.{TableId}
 use Rattle.atomic_table.specs.declared.shared.Seat.{Seat}
 use Rattle.sdd_shared_values.specs.declared.value_fraction.ValueFraction.{ValueFraction}
 use Rattle.sdd_rights.specs.declared.views.View.{View}
-use Rattle.sdd_word_invariant.specs.Sums.{times}
+use Rattle.sdd_domain_invariant.specs.Sums.{times}
 use Rattle.sdd_domain_invariant.specs.Records.{IsIn}
 use Rattle.sdd_domain_invariant.specs.FractionSteps.{SeatState, SeesOwned, LearnsOwned}
 use Rattle.sdd_domain_invariant.proofs.Records.{in_head}

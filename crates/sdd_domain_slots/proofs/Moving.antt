@@ -14,10 +14,10 @@ use Rattle.sdd_shared_values.specs.declared.value_fraction.ValueFraction.{ValueF
 use Rattle.sdd_shared_values.specs.SharedValues.{most, IsValueCode, IsNoValueCode, CanShow, HasFractionShowing, HasWhole, AreWhole, all_turned}
 use Rattle.sdd_rights.specs.declared.views.ShownValue.{ShownValue}
 use Rattle.sdd_rights.specs.declared.views.View.{View}
-use Rattle.sdd_word_invariant.specs.SlotSteps.{given_back, Knew, LooksAtSlot}
-use Rattle.sdd_word_invariant.specs.Codes.{free_word}
-use Rattle.sdd_word_invariant.specs.Sums.{times}
-use Rattle.sdd_word_invariant.proofs.Sums.{is_other}
+use Rattle.sdd_domain_invariant.specs.SlotSteps.{given_back, Knew, LooksAtSlot}
+use Rattle.sdd_domain_invariant.specs.Codes.{free_word}
+use Rattle.sdd_domain_invariant.specs.Sums.{times}
+use Rattle.sdd_domain_invariant.proofs.Sums.{is_other}
 use Rattle.sdd_domain_invariant.specs.FractionsAtHome.{CarriedFractions, Has, stake_at}
 use Rattle.sdd_domain_invariant.specs.Records.{slot_shown, IsIn}
 use Rattle.sdd_domain_invariant.proofs.Records.{in_head, in_tail}

@@ -7,7 +7,7 @@ use Rattle.sdd_shared_values.specs.declared.value_fraction.ValueFraction.{ValueF
 use Rattle.sdd_shared_values.specs.SharedValues.{IsValueCode, IsNoValueCode, all_turned}
 use Rattle.sdd_rights.specs.declared.views.Sizes.{Sizes}
 use Rattle.sdd_rights.specs.declared.views.View.{View}
-use Rattle.sdd_word_invariant.specs.SlotSteps.{first, others}
+use Rattle.sdd_domain_invariant.specs.SlotSteps.{first, others}
 use Rattle.sdd_rights.specs.Views.{owner_of, owner_token, at_rest}
 use Rattle.sdd_domain_invariant.specs.FractionsAtHome.{CarriedFractions, Moves, spare}
 use Rattle.sdd_domain_invariant.specs.FractionSteps.{CarriesAll, IsValue, FillsSlot, parting, departing, resting, telling, drawing}

@@ -17,14 +17,14 @@ use Rattle.sdd_rights.specs.declared.views.PledgesView.{PledgesView}
 use Rattle.sdd_rights.specs.declared.views.PrivateItem.{PrivateItem}
 use Rattle.sdd_rights.specs.declared.views.WaitingItem.{WaitingItem}
 use Rattle.sdd_rights.specs.declared.views.View.{View}
-use Rattle.sdd_word_invariant.specs.Epoch.{HasPlace, IsLone, IsOpen}
-use Rattle.sdd_word_invariant.specs.EpochSteps.{knowing, counted, published}
-use Rattle.sdd_word_invariant.specs.Sums.{total, times}
-use Rattle.sdd_word_invariant.specs.Collectors.{privates_at}
-use Rattle.sdd_word_invariant.specs.Slots.{items_at, waits_in}
-use Rattle.sdd_word_invariant.specs.SlotSteps.{retired_now, retired, one_less, noted, without}
+use Rattle.sdd_domain_invariant.specs.Epoch.{HasPlace, IsLone, IsOpen}
+use Rattle.sdd_domain_invariant.specs.EpochSteps.{knowing, counted, published}
+use Rattle.sdd_domain_invariant.specs.Sums.{total, times}
+use Rattle.sdd_domain_invariant.specs.Collectors.{privates_at}
+use Rattle.sdd_domain_invariant.specs.Slots.{items_at, waits_in}
+use Rattle.sdd_domain_invariant.specs.SlotSteps.{retired_now, retired, one_less, noted, without}
 use Rattle.sdd_rights.specs.Views.{owner_of}
-use Rattle.sdd_word_invariant.proofs.Sums.{is_other, total_snoc}
+use Rattle.sdd_domain_invariant.proofs.Sums.{is_other, total_snoc}
 use Rattle.sdd_atomics.specs.declared.domain_table.DomainTable.{DomainTable}
 use Rattle.sdd_shared_values.specs.CarriedFractions.{OnlyLends}
 use Rattle.sdd_shared_values.specs.SharedValues.{IsNoValueCode}

@@ -11,10 +11,10 @@ use Rattle.sdd_shared_values.specs.SharedValues.{IsNoValueCode}
 use Rattle.sdd_rights.specs.declared.views.PrivateItem.{PrivateItem}
 use Rattle.sdd_rights.specs.declared.views.View.{View}
 use Rattle.sdd_rights.specs.declared.views.Sizes.{Sizes}
-use Rattle.sdd_word_invariant.specs.Codes.{private_word, emptying_word, emptied_word, free_word, left_word}
-use Rattle.sdd_word_invariant.specs.CollectorSteps.{WaitsFor, no_collector, orphan, orphaned, found_emptied, without_private, empties_now, emptied_now, finds_left, empty_given_back, own_given_back}
-use Rattle.sdd_word_invariant.specs.SlotSteps.{Knew, behind, noted}
-use Rattle.sdd_word_invariant.specs.Epoch.{IsLone}
+use Rattle.sdd_domain_invariant.specs.Codes.{private_word, emptying_word, emptied_word, free_word, left_word}
+use Rattle.sdd_domain_invariant.specs.CollectorWordSteps.{WaitsFor, no_collector, orphan, orphaned, found_emptied, without_private, empties_now, emptied_now, finds_left, empty_given_back, own_given_back}
+use Rattle.sdd_domain_invariant.specs.SlotSteps.{Knew, behind, noted}
+use Rattle.sdd_domain_invariant.specs.Epoch.{IsLone}
 use Rattle.sdd_domain_invariant.specs.FractionsAtHome.{CarriedFractions}
 use Rattle.sdd_domain_invariant.specs.FractionSteps.{SeatState, CarriesAll, giving, moving, with_gone}
 use Rattle.sdd_domain_invariant.specs.CollectorSteps.{LeavesOneToClose, ReclaimsOne, EmptiesOwnOne, EmptiedOne, GivesOneEmptyBack, GivesOneOwnBack}

@@ -14,11 +14,11 @@ use Rattle.sdd_participants.specs.declared.standing.Standing.TheVariants.{Privat
 use Rattle.sdd_participants.specs.declared.waiting.LimboEntry.TheVariants.{Item}
 use Rattle.sdd_rights.specs.declared.views.PrivateItem.{PrivateItem}
 use Rattle.sdd_rights.specs.declared.views.WaitingItem.{WaitingItem}
-use Rattle.sdd_word_invariant.specs.Collectors.{private_in}
-use Rattle.sdd_word_invariant.specs.CollectorSteps.{for_collector, without_private}
-use Rattle.sdd_word_invariant.specs.SlotSteps.{older_private}
-use Rattle.sdd_word_invariant.specs.Sums.{total, is}
-use Rattle.sdd_word_invariant.proofs.Sums.{is_same, is_other, total_has, total_map, total_snoc, total_some}
+use Rattle.sdd_domain_invariant.specs.Collectors.{private_in}
+use Rattle.sdd_domain_invariant.specs.CollectorWordSteps.{for_collector, without_private}
+use Rattle.sdd_domain_invariant.specs.SlotSteps.{older_private}
+use Rattle.sdd_domain_invariant.specs.Sums.{total, is}
+use Rattle.sdd_domain_invariant.proofs.Sums.{is_same, is_other, total_has, total_map, total_snoc, total_some}
 use Rattle.sdd_domain_slots.specs.InBags.{private_for, TellsCollectors}
 use Rattle.sdd_domain_slots.specs.PrivateTable.{standings_of}
 use Rattle.sdd_domain_slots.specs.WaitingItems.{what_of}

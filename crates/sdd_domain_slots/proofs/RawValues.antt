@@ -11,7 +11,7 @@ use Rattle.sdd_rights.specs.declared.read_fraction.ReadFraction.{ReadFraction}
 use Rattle.sdd_rights.specs.declared.views.View.{View}
 use Rattle.sdd_rights.specs.contracts.views.View.{the_row}
 use Rattle.sdd_rights.specs.Views.{owner_of, owner_token, at_rest}
-use Rattle.sdd_word_invariant.specs.SlotSteps.{noted}
+use Rattle.sdd_domain_invariant.specs.SlotSteps.{noted}
 use Rattle.sdd_domain_invariant.specs.Records.{IsIn}
 use Rattle.sdd_domain_invariant.specs.FractionSteps.{SeatState, DrawsUnit, parting, departing, drawing}
 use Rattle.sdd_domain_invariant.specs.RawSteps.{RegainsOne, regaining}

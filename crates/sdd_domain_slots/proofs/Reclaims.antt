@@ -9,10 +9,10 @@ use Rattle.sdd_participants.specs.declared.waiting.LimboEntry.{LimboEntry}
 use Rattle.sdd_participants.specs.declared.waiting.LimboEntry.TheVariants.{Item, Job}
 use Rattle.sdd_participants.specs.Waiting.{Waiting, aged, due, left}
 use Rattle.sdd_rights.specs.declared.views.WaitingItem.{WaitingItem}
-use Rattle.sdd_word_invariant.specs.Sums.{total}
-use Rattle.sdd_word_invariant.specs.Slots.{waits_in}
-use Rattle.sdd_word_invariant.specs.SlotSteps.{older, without_item}
-use Rattle.sdd_word_invariant.proofs.Sums.{is_same, is_other, total_has}
+use Rattle.sdd_domain_invariant.specs.Sums.{total}
+use Rattle.sdd_domain_invariant.specs.Slots.{waits_in}
+use Rattle.sdd_domain_invariant.specs.SlotSteps.{older, without_item}
+use Rattle.sdd_domain_invariant.proofs.Sums.{is_same, is_other, total_has}
 use Rattle.sdd_domain_slots.specs.InBags.{Kept, item_of}
 use Rattle.sdd_domain_slots.specs.WaitingItems.{what_of, number_in, waiting_of, is_ripe, ripe, unripe}
 use Rattle.sdd_domain_slots.proofs.KeptLists.{filter_alike, filter_true, left_kept, total_of_map}

@@ -1,8 +1,8 @@
 -- A whole scan, of what is known before and after each step
 use Rattle.std.proofs.Common.{◌≡◌, ℕ, ◌+◌, ◌<◌, ◌≤◌, ◌^◌, sym, refl, ap, ◌∙◌, subst, arith}
 use Rattle.sdd_rights.specs.declared.views.EpochView.{EpochView}
-use Rattle.sdd_word_invariant.specs.Epoch.{IsLone}
-use Rattle.sdd_word_invariant.specs.EpochSteps.{knowing, scanning, unlocked, Reads, Locks, Unlocks}
+use Rattle.sdd_domain_invariant.specs.Epoch.{IsLone}
+use Rattle.sdd_domain_invariant.specs.EpochSteps.{knowing, scanning, unlocked, Reads, Locks, Unlocks}
 use Rattle.sdd_domain_slots.specs.Scan.{Raises, Scanned, Tells, looked_to}
 use Rattle.sdd_domain_slots.specs.declared.scan.ScanEnd.{ScanEnd}
 use Rattle.sdd_domain_slots.specs.declared.scan.ScanEnd.TheVariants.{Raised, Outdated, Locked, Held, Overtaken, Last}

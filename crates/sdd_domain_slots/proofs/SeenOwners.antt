@@ -6,7 +6,7 @@ use Rattle.atomic_table.specs.declared.shared.Seat.{Seat}
 use Rattle.sdd_shared_values.specs.declared.value_fraction.ValueFraction.{ValueFraction}
 use Rattle.sdd_rights.specs.declared.views.View.{View}
 use Rattle.sdd_atomics.specs.declared.domain_table.DomainTable.{DomainTable}
-use Rattle.sdd_word_invariant.specs.SlotSteps.{noted}
+use Rattle.sdd_domain_invariant.specs.SlotSteps.{noted}
 use Rattle.sdd_domain_slots.specs.declared.cell_values.LooseOwner.{LooseOwner}
 use Rattle.sdd_rights.specs.declared.right.Right.{Right}
 use Rattle.sdd_rights.specs.declared.right.StandingKind.TheVariants as kinds
@@ -14,15 +14,15 @@ use Rattle.sdd_rights.specs.StandingKind.{is_shared}
 use Rattle.sdd_rights.specs.Owner.{witness_of_owner}
 use Rattle.sdd_rights.specs.Right.{number_of, views_of}
 use Rattle.sdd_rights.specs.declared.views.ShownValue.{ShownValue}
-use Rattle.sdd_word_invariant.specs.Epoch.{IsLone}
+use Rattle.sdd_domain_invariant.specs.Epoch.{IsLone}
 use Rattle.sdd_domain_invariant.specs.FilledInvariant.{newest}
 use Rattle.sdd_domain_invariant.specs.Records.{IsIn}
 use Rattle.sdd_domain_slots.specs.Cells.{IsBoundTo, IsWith, board_home}
 use Rattle.sdd_domain_slots.specs.Items.{IsRightTo, slots_home}
 use Rattle.sdd_domain_slots.specs.LocalState.{LocalState, IsLone as IsAlone}
 use Rattle.sdd_domain_slots.specs.SeenOwners.{Ends, ShowsTo}
-use Rattle.sdd_word_invariant.specs.Codes.{alive, counted, most_owners, shared_base}
-use Rattle.sdd_word_invariant.proofs.Codes.{counted_is, counts_or_not, none_left, some_left}
+use Rattle.sdd_domain_invariant.specs.Codes.{alive, counted, most_owners, shared_base}
+use Rattle.sdd_domain_invariant.proofs.Codes.{counted_is, counts_or_not, none_left, some_left}
 
 -- it has none any more, or they aren't counted
 pub none_counts : (x : ℕ) → x ≤ shared_base → (counted x ≡ 0) ⊎ (alive x ≡ 0)

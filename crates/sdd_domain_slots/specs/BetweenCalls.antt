@@ -9,12 +9,12 @@ use Rattle.sdd_values.specs.declared.read_sections.SectionState.TheVariants.{Clo
 use Rattle.sdd_rights.specs.declared.views.EpochView.{EpochView}
 use Rattle.sdd_rights.specs.declared.views.View.{View}
 use Rattle.sdd_rights.specs.Views.{no_rights}
-use Rattle.sdd_word_invariant.specs.Epoch.{IsClosed, IsOpen, Scans, IsLone}
+use Rattle.sdd_domain_invariant.specs.Epoch.{IsClosed, IsOpen, Scans, IsLone}
 use Rattle.sdd_rights.specs.declared.views.ShownValue.{ShownValue}
 use Rattle.sdd_rights.specs.declared.views.SlotsView.{SlotsView}
 use Rattle.sdd_rights.specs.declared.views.FractionsView.{FractionsView}
-use Rattle.sdd_word_invariant.specs.Sums.{total}
-use Rattle.sdd_word_invariant.specs.Slots.{waits_in, items_at}
+use Rattle.sdd_domain_invariant.specs.Sums.{total}
+use Rattle.sdd_domain_invariant.specs.Slots.{waits_in, items_at}
 use Rattle.sdd_shared_values.specs.declared.value_fraction.ValueFraction.{ValueFraction}
 use Rattle.sdd_shared_values.specs.ValueFractions.{AllFreeFor}
 use Rattle.sdd_shared_values.specs.CarriedFractions.{lots, plain}

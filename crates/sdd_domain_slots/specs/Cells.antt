@@ -19,7 +19,7 @@ use Rattle.sdd_domain_slots.specs.SeenSlots.{IsOnce}
 use Rattle.sdd_domain_slots.specs.CellWords.{listed}
 use Rattle.sdd_domain_slots.specs.Local.{contents_of, pointer_by}
 use Rattle.sdd_core.specs.declared.tag.Tag.TheVariants.{None as Untagged}
-use Rattle.sdd_word_invariant.specs.Codes.{alive, counted, held_slots, most_owners, null_word}
+use Rattle.sdd_domain_invariant.specs.Codes.{alive, counted, held_slots, most_owners, null_word}
 use Rattle.sdd_domain_invariant.specs.BankInvariant.{one_where}
 use Rattle.sdd_atomics.specs.declared.domain_table.DomainTable.{DomainTable}
 use Rattle.sdd_atomics.specs.DomainTable.{id_of, book_of, slots_of}
@@ -27,8 +27,8 @@ use Rattle.sdd_atomics.specs.Grips.{IsUnitOf}
 use Rattle.sdd_core.specs.declared.refused.Refused.{Refused}
 use Rattle.sdd_core.specs.declared.refused.Refused.TheVariants.{NoSlot, NoCell, TooManyOwners, Contended}
 use Rattle.sdd_domain_slots.specs.declared.cell_values.LooseOwner.{LooseOwner}
-use Rattle.sdd_word_invariant.specs.Epoch.{IsLone}
-use Rattle.sdd_word_invariant.specs.CellSteps.{cell_noted, pointer_behind}
+use Rattle.sdd_domain_invariant.specs.Epoch.{IsLone}
+use Rattle.sdd_domain_invariant.specs.CellWordSteps.{cell_noted, pointer_behind}
 use Rattle.sdd_domain_invariant.specs.CellSteps.{put_in}
 use Rattle.sdd_domain_slots.specs.Claims.{IsBefore, IsUnmoved}
 use Rattle.sdd_domain_slots.specs.LocalState.{LocalState, AddsAt, IsLone as IsAlone, IsUsedUp, KnowsOwner, LooksAt, MakesAt, cell_word_of, pointer_word_of, word_of}

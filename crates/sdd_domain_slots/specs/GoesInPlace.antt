@@ -6,9 +6,9 @@ use Rattle.atomic_table.specs.declared.shared.Seat.{Seat}
 use Rattle.sdd_rights.specs.declared.views.View.{View}
 use Rattle.sdd_shared_values.specs.SharedValues.{showing}
 use Rattle.sdd_shared_values.specs.declared.value_fraction.ValueFraction.{ValueFraction}
-use Rattle.sdd_word_invariant.specs.Codes.{alive, counted}
-use Rattle.sdd_word_invariant.specs.Epoch.{IsOpen}
-use Rattle.sdd_word_invariant.specs.SlotSteps.{release_hold}
+use Rattle.sdd_domain_invariant.specs.Codes.{alive, counted}
+use Rattle.sdd_domain_invariant.specs.Epoch.{IsOpen}
+use Rattle.sdd_domain_invariant.specs.SlotSteps.{release_hold}
 use Rattle.sdd_domain_invariant.specs.FractionSteps.{moving, resting, undrawing, untold}
 use Rattle.sdd_atomics.specs.DomainSeat.{epoch}
 use Rattle.sdd_atomics.specs.Owner.{disowned}

@@ -6,9 +6,9 @@ use Rattle.sdd_participants.specs.Waiting.{Waiting}
 use Rattle.sdd_rights.specs.declared.views.PrivateItem.{PrivateItem}
 use Rattle.sdd_rights.specs.declared.views.SlotsView.{SlotsView}
 use Rattle.sdd_rights.specs.declared.views.WaitingItem.{WaitingItem}
-use Rattle.sdd_word_invariant.specs.Collectors.{private_in}
-use Rattle.sdd_word_invariant.specs.Slots.{waits_in}
-use Rattle.sdd_word_invariant.specs.Sums.{total, is}
+use Rattle.sdd_domain_invariant.specs.Collectors.{private_in}
+use Rattle.sdd_domain_invariant.specs.Slots.{waits_in}
+use Rattle.sdd_domain_invariant.specs.Sums.{total, is}
 use Rattle.sdd_domain_slots.specs.WaitingItems.{what_of, waiting_of, is_ripe}
 
 -- what waits does so for no collector, or privately, for one

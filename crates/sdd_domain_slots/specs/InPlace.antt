@@ -6,9 +6,9 @@ use Rattle.sdd_rights.specs.declared.views.Sizes.{Sizes}
 use Rattle.sdd_rights.specs.declared.views.View.{View}
 use Rattle.sdd_rights.specs.Views.{owner_of}
 use Rattle.sdd_shared_values.specs.declared.value_fraction.ValueFraction.{ValueFraction}
-use Rattle.sdd_word_invariant.specs.Epoch.{IsLone, IsOpen}
-use Rattle.sdd_word_invariant.specs.Codes.{alive, counted, free_word, held_word, claimed_word}
-use Rattle.sdd_word_invariant.specs.SlotSteps.{Knew, behind, held, noted, release_hold}
+use Rattle.sdd_domain_invariant.specs.Epoch.{IsLone, IsOpen}
+use Rattle.sdd_domain_invariant.specs.Codes.{alive, counted, free_word, held_word, claimed_word}
+use Rattle.sdd_domain_invariant.specs.SlotSteps.{Knew, behind, held, noted, release_hold}
 use Rattle.sdd_domain_invariant.specs.FractionSteps.{regained}
 use Rattle.sdd_atomics.specs.DomainSeat.{view, epoch}
 use Rattle.sdd_domain_slots.specs.BetweenCalls.{IsQuiet}

@@ -8,7 +8,7 @@ use Rattle.sdd_participants.specs.declared.standing.Standing.{Standing}
 use Rattle.sdd_participants.specs.declared.standing.Standing.TheVariants.{Owned, Raw, Shared, Retired, Private}
 use Rattle.sdd_participants.specs.declared.standing.CellContents.{CellContents}
 use Rattle.sdd_participants.specs.declared.standing.RawCellContents.{RawCellContents}
-use Rattle.sdd_word_invariant.specs.Codes.{free_word, raw_word, alive, waiting, waits_for, counted, held_slots}
+use Rattle.sdd_domain_invariant.specs.Codes.{free_word, raw_word, alive, waiting, waits_for, counted, held_slots}
 use Rattle.sdd_core.specs.declared.limits.Limits.{Limits}
 use Rattle.sdd_core.specs.declared.tag.Tag.{Tag}
 use Rattle.sdd_core.specs.declared.tag.Tag.TheVariants.{First, Second, Both, None as Untagged}

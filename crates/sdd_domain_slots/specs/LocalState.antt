@@ -15,14 +15,14 @@ use Rattle.sdd_participants.specs.Tally.{no_items, one_made, one_reclaimed, one_
 use Rattle.sdd_rights.specs.declared.views.Sizes.{Sizes}
 use Rattle.sdd_rights.specs.declared.views.ShownValue.{ShownValue}
 use Rattle.sdd_rights.specs.declared.views.SlotsView.{SlotsView}
-use Rattle.sdd_word_invariant.specs.Codes.{free_word, waiting_word, claimed_word, retired_word, most_owners, alive, counted}
-use Rattle.sdd_word_invariant.specs.Sums.{times, total}
-use Rattle.sdd_word_invariant.specs.Slots.{waits_in}
+use Rattle.sdd_domain_invariant.specs.Codes.{free_word, waiting_word, claimed_word, retired_word, most_owners, alive, counted}
+use Rattle.sdd_domain_invariant.specs.Sums.{times, total}
+use Rattle.sdd_domain_invariant.specs.Slots.{waits_in}
 use Rattle.sdd_rights.specs.Views.{bare}
-use Rattle.sdd_word_invariant.specs.SlotSteps.{blank, behind, retired_now, without_item}
-use Rattle.sdd_word_invariant.specs.Collectors.{private_in}
-use Rattle.sdd_word_invariant.specs.CollectorSteps.{without_private}
-use Rattle.sdd_word_invariant.specs.CellSteps.{pointer_behind}
+use Rattle.sdd_domain_invariant.specs.SlotSteps.{blank, behind, retired_now, without_item}
+use Rattle.sdd_domain_invariant.specs.Collectors.{private_in}
+use Rattle.sdd_domain_invariant.specs.CollectorWordSteps.{without_private}
+use Rattle.sdd_domain_invariant.specs.CellWordSteps.{pointer_behind}
 use Rattle.sdd_domain_invariant.specs.Records.{IsIn}
 use Rattle.sdd_domain_invariant.specs.FilledInvariant.{newest}
 use Rattle.sdd_domain_invariant.specs.BankInvariant.{one_where}

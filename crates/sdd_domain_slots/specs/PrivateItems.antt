@@ -6,11 +6,11 @@ use Rattle.sdd_shared_values.specs.declared.value_fraction.ValueFraction.{ValueF
 use Rattle.sdd_rights.specs.declared.views.PrivateItem.{PrivateItem}
 use Rattle.sdd_rights.specs.declared.views.ShownValue.{ShownValue}
 use Rattle.sdd_rights.specs.declared.views.View.{View}
-use Rattle.sdd_word_invariant.specs.Codes.{free_word, private_word, waiting_word, emptied_word, emptying_word, left_word}
-use Rattle.sdd_word_invariant.specs.Epoch.{IsLone, IsOpen}
-use Rattle.sdd_word_invariant.specs.Collectors.{HasPrivate}
-use Rattle.sdd_word_invariant.specs.CollectorSteps.{WaitsFor, no_collector, reclaimed, without_private}
-use Rattle.sdd_word_invariant.specs.SlotSteps.{Knew, noted}
+use Rattle.sdd_domain_invariant.specs.Codes.{free_word, private_word, waiting_word, emptied_word, emptying_word, left_word}
+use Rattle.sdd_domain_invariant.specs.Epoch.{IsLone, IsOpen}
+use Rattle.sdd_domain_invariant.specs.Collectors.{HasPrivate}
+use Rattle.sdd_domain_invariant.specs.CollectorWordSteps.{WaitsFor, no_collector, reclaimed, without_private}
+use Rattle.sdd_domain_invariant.specs.SlotSteps.{Knew, noted}
 use Rattle.sdd_domain_invariant.specs.FractionSteps.{with_gone}
 use Rattle.sdd_domain_invariant.specs.CollectorSteps.{ShowsPrivate, recollecting}
 use Rattle.sdd_atomics.specs.DomainSeat.{epoch}

@@ -4,9 +4,9 @@ use base.Stored.{Gv}
 use Rattle.atomic_table.specs.declared.shared.Seat.{Seat}
 use Rattle.sdd_shared_values.specs.declared.value_fraction.ValueFraction.{ValueFraction}
 use Rattle.sdd_rights.specs.declared.views.View.{View}
-use Rattle.sdd_word_invariant.specs.Codes.{owned_word, raw_word}
-use Rattle.sdd_word_invariant.specs.Epoch.{IsLone}
-use Rattle.sdd_word_invariant.specs.SlotSteps.{behind, noted, turned_raw}
+use Rattle.sdd_domain_invariant.specs.Codes.{owned_word, raw_word}
+use Rattle.sdd_domain_invariant.specs.Epoch.{IsLone}
+use Rattle.sdd_domain_invariant.specs.SlotSteps.{behind, noted, turned_raw}
 use Rattle.sdd_domain_invariant.specs.FilledInvariant.{newest}
 use Rattle.sdd_domain_invariant.specs.FractionSteps.{SeatState, undrawing, untold}
 use Rattle.sdd_domain_invariant.specs.RawSteps.{KnewRaw}

@@ -1,8 +1,8 @@
 -- What a scan leaves, and what its end tells
 use Rattle.std.specs.Prelude.{◌≡◌, ◌≢◌, ℕ, ◌+◌, ◌^◌, ◌<◌, ◌≤◌}
 use Rattle.sdd_rights.specs.declared.views.EpochView.{EpochView}
-use Rattle.sdd_word_invariant.specs.Epoch.{IsOpen, Scans, IsLone}
-use Rattle.sdd_word_invariant.specs.EpochSteps.{knowing}
+use Rattle.sdd_domain_invariant.specs.Epoch.{IsOpen, Scans, IsLone}
+use Rattle.sdd_domain_invariant.specs.EpochSteps.{knowing}
 use Rattle.sdd_domain_slots.specs.declared.scan.ScanEnd.{ScanEnd}
 use Rattle.sdd_domain_slots.specs.declared.scan.ScanEnd.TheVariants.{Raised, Outdated, Locked, Held, Overtaken, Last}
 

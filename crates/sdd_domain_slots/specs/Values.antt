@@ -4,8 +4,8 @@ use Rattle.std.proofs.Common.{sym, ap, ◌∙◌}
 use base.Stored.{Gv, gnil, gnum, gcons}
 use denote.RattleType.{RattleType}
 use Rattle.sdd_rights.specs.declared.views.View.{View}
-use Rattle.sdd_word_invariant.specs.Codes.{alive, counted, claimed_word, retired_word}
-use Rattle.sdd_word_invariant.specs.SlotSteps.{Knew, Retires, one_less}
+use Rattle.sdd_domain_invariant.specs.Codes.{alive, counted, claimed_word, retired_word}
+use Rattle.sdd_domain_invariant.specs.SlotSteps.{Knew, Retires, one_less}
 use Rattle.sdd_domain_invariant.specs.FractionSteps.{SeatState, IsNewest, undrawing, remembering, untold}
 use Rattle.sdd_shared_values.specs.SharedValues.{showing}
 use Rattle.sdd_rights.specs.declared.right.Right.{Right}

@@ -10,10 +10,10 @@ use Rattle.sdd_rights.specs.declared.views.PrivateItem.{PrivateItem}
 use Rattle.sdd_rights.specs.declared.views.SlotsView.{SlotsView}
 use Rattle.sdd_rights.specs.declared.views.WaitingItem.{WaitingItem}
 use Rattle.sdd_rights.specs.declared.views.View.{View}
-use Rattle.sdd_word_invariant.specs.Epoch.{IsLone}
-use Rattle.sdd_word_invariant.specs.Slots.{items_at}
+use Rattle.sdd_domain_invariant.specs.Epoch.{IsLone}
+use Rattle.sdd_domain_invariant.specs.Slots.{items_at}
 use Rattle.sdd_domain_invariant.specs.FractionSteps.{with_gone, forgetting}
-use Rattle.sdd_word_invariant.specs.SlotSteps.{given_back, older, older_private}
+use Rattle.sdd_domain_invariant.specs.SlotSteps.{given_back, older, older_private}
 
 -- what waits, in the bags: the item of a slot, or behind the slots, of which there are so many, the job of a place
 abbrev pub what_of : ℕ → WaitingItem → LimboEntry

@@ -3,10 +3,10 @@ use Rattle.std.specs.Prelude.{◌≡◌, ℕ, ◌+◌, ◌<◌, ◌/◌, ◌==�
 use base.Stored.{Gv}
 use Rattle.sdd_participants.specs.Slab.{entry_at}
 use Rattle.sdd_rights.specs.declared.views.ShownValue.{ShownValue}
-use Rattle.sdd_word_invariant.specs.Words.{words_behind}
-use Rattle.sdd_word_invariant.specs.Codes.{free_word, owned_word, raw_word, waiting_word, waiting, waits_for, full, shared_base, most_owners}
-use Rattle.sdd_word_invariant.specs.Sums.{total}
-use Rattle.sdd_word_invariant.specs.Slots.{waits_in}
+use Rattle.sdd_domain_invariant.specs.Words.{words_behind}
+use Rattle.sdd_domain_invariant.specs.Codes.{free_word, owned_word, raw_word, waiting_word, waiting, waits_for, full, shared_base, most_owners}
+use Rattle.sdd_domain_invariant.specs.Sums.{total}
+use Rattle.sdd_domain_invariant.specs.Slots.{waits_in}
 use Rattle.sdd_domain_invariant.specs.FilledInvariant.{newest}
 use Rattle.sdd_domain_slots.specs.InBags.{AreInBags, known_waiting, private_for}
 use Rattle.sdd_domain_slots.specs.LocalState.{LocalState, IsLone, word_of, place_number}

@@ -1,10 +1,10 @@
 //! The search for a free cell.
 ghost use Rattle.std.specs.Prelude.{◌≡◌, ◌⊎◌, ◌<◌, ◌≤◌, ℕ, [], None, IfErr, IfOk, IfSome, MatchOption, MatchResult, length};
 ghost use Rattle.sdd_rights.specs.Views.{no_rights};
-ghost use Rattle.sdd_word_invariant.specs.Codes.{held_slots, null_word};
-ghost use Rattle.sdd_word_invariant.specs.Epoch.{HasPlace};
+ghost use Rattle.sdd_domain_invariant.specs.Codes.{held_slots, null_word};
+ghost use Rattle.sdd_domain_invariant.specs.Epoch.{HasPlace};
 ghost use Rattle.sdd_rights.specs.Owner.{cell_kind, witness_of_cell};
-ghost use Rattle.sdd_word_invariant.specs.CellSteps.{cell_noted};
+ghost use Rattle.sdd_domain_invariant.specs.CellWordSteps.{cell_noted};
 ghost use Rattle.sdd_atomics.specs.Cells.{cells_of, FitsCell};
 ghost use Rattle.sdd_atomics.specs.DomainTable.{id_of};
 ghost use Rattle.sdd_atomics.specs.DomainSeat.{view, epoch, slots, Knows};

@@ -1,7 +1,7 @@
 //! The words of cells that hold owners.
 ghost use Rattle.std.specs.Prelude.{◌≡◌, ◌-◌, ◌%◌, ◌^◌, ◌<◌, ◌≤◌, [], ◌∷◌, ◌↔◌, IfSome, IsTrue, MatchOption, None, Some, slice_get};
 ghost use Rattle.sdd_core.specs.Tag.{number_of};
-ghost use Rattle.sdd_word_invariant.specs.Codes.{held_slots};
+ghost use Rattle.sdd_domain_invariant.specs.Codes.{held_slots};
 ghost use Rattle.sdd_domain_slots.specs.CellWords.{listed};
 ghost use Rattle.sdd_domain_slots.specs.Local.{contents_of, tag_by};
 

@@ -4,7 +4,7 @@ ghost use Rattle.sdd_participants.specs.EpochState.{nested};
 ghost use Rattle.sdd_participants.specs.EpochState as time;
 ghost use Rattle.sdd_domain_slots.specs.WaitingItems.{due_at, Arrives, HasArrived};
 ghost use Rattle.sdd_atomics.specs.DomainTable.{sizes_of};
-ghost use Rattle.sdd_word_invariant.specs.Words as words;
+ghost use Rattle.sdd_domain_invariant.specs.Words as words;
 ghost use Rattle.sdd_domain_slots.specs.BetweenCalls.{IsBetweenCalls};
 
 use crate::due_items::DueItems;

@@ -1,7 +1,7 @@
 //! The search for a free slot.
 ghost use Rattle.std.specs.Prelude.{◌≡◌, ◌⊎◌, ◌+◌, ◌<◌, ◌≤◌, ℕ, List, [], ◌∷◌, ◌++◌, None, Ok, IfErr, IfOk, IfSome, IsTrue, MatchBool, MatchOption, MatchResult, length};
-ghost use Rattle.sdd_word_invariant.specs.Codes.{alive};
-ghost use Rattle.sdd_word_invariant.specs.Epoch.{HasPlace, IsLone};
+ghost use Rattle.sdd_domain_invariant.specs.Codes.{alive};
+ghost use Rattle.sdd_domain_invariant.specs.Epoch.{HasPlace, IsLone};
 ghost use Rattle.sdd_atomics.specs.DomainTable.{id_of, slots_of};
 ghost use Rattle.sdd_atomics.specs.DomainSeat.{view, epoch, Knows};
 ghost use Rattle.sdd_domain_slots.specs.Claims.{AreTaken, ComesFirst, IsKnownFree, IsUnmoved, Gains, Misses, Loses};

@@ -3,7 +3,7 @@ ghost use Rattle.std.specs.Prelude.{◌≡◌, ◌<◌, None, MatchResult};
 ghost use Rattle.sdd_rights.specs.Views.{no_rights};
 ghost use Rattle.sdd_rights.specs.declared.views.CellKind.{CellKind};
 ghost use Rattle.sdd_rights.specs.declared.views.CellKind.TheVariants.{Raw, Collector};
-ghost use Rattle.sdd_word_invariant.specs.Epoch.{HasPlace, IsLone, IsOpen};
+ghost use Rattle.sdd_domain_invariant.specs.Epoch.{HasPlace, IsLone, IsOpen};
 ghost use Rattle.sdd_rights.specs.Owner.{witness_of_cell};
 ghost use Rattle.sdd_atomics.specs.DomainTable.{id_of, places_of};
 ghost use Rattle.sdd_atomics.specs.DomainSeat.{view, epoch, slots, Knows};

@@ -1,9 +1,9 @@
 //! The search for a free place, by who registers.
 ghost use Rattle.std.specs.Prelude.{◌≡◌, ◌⊎◌, ◌<◌, IfErr, IfOk};
 ghost use Rattle.sdd_rights.specs.Views.{nobody};
-ghost use Rattle.sdd_word_invariant.specs.EpochSteps.{Takes};
-ghost use Rattle.sdd_word_invariant.specs.SlotSteps.{blank};
-ghost use Rattle.sdd_word_invariant.specs.Words.{state_word};
+ghost use Rattle.sdd_domain_invariant.specs.EpochSteps.{Takes};
+ghost use Rattle.sdd_domain_invariant.specs.SlotSteps.{blank};
+ghost use Rattle.sdd_domain_invariant.specs.Words.{state_word};
 ghost use Rattle.sdd_atomics.specs.DomainTable.{id_of, sizes_of, places_of};
 ghost use Rattle.sdd_atomics.specs.DomainSeat.{epoch, view, words_known, IsSameBut};
 ghost use Rattle.sdd_domain_slots.specs.Sightings.{AreSeenTaken};

@@ -1,6 +1,6 @@
 //! The words of what raw cells point to.
 ghost use Rattle.std.specs.Prelude.{◌≡◌, ◌<◌, ℕ};
-ghost use Rattle.sdd_word_invariant.specs.Codes.{pointers_end};
+ghost use Rattle.sdd_domain_invariant.specs.Codes.{pointers_end};
 ghost use Rattle.sdd_domain_slots.specs.Local.{pointer_by};
 
 use crate::cell_words::tag_in;

@@ -1,11 +1,11 @@
 //! Items that wait for a collector: what becomes of one that is due, and how a close takes the value of one out before.
 ghost use Rattle.std.specs.Prelude.{◌≡◌, ◌≤◌, ◌<◌, [], None, false, IfSome, MatchBool, MatchOption};
 ghost use Rattle.sdd_shared_values.specs.SharedValues.{IsNoValueCode, showing};
-ghost use Rattle.sdd_word_invariant.specs.Epoch.{HasPlace, IsLone};
-ghost use Rattle.sdd_word_invariant.specs.Codes as codes;
-ghost use Rattle.sdd_word_invariant.specs.SlotSteps.{Knew};
-ghost use Rattle.sdd_word_invariant.specs.Collectors.{Closes, Empties};
-ghost use Rattle.sdd_word_invariant.specs.CollectorSteps.{WaitsFor};
+ghost use Rattle.sdd_domain_invariant.specs.Epoch.{HasPlace, IsLone};
+ghost use Rattle.sdd_domain_invariant.specs.Codes as codes;
+ghost use Rattle.sdd_domain_invariant.specs.SlotSteps.{Knew};
+ghost use Rattle.sdd_domain_invariant.specs.Collectors.{Closes, Empties};
+ghost use Rattle.sdd_domain_invariant.specs.CollectorWordSteps.{WaitsFor};
 ghost use Rattle.sdd_domain_invariant.specs.FractionSteps.{CarriesAll, moving};
 ghost use Rattle.sdd_atomics.specs.DomainTable.{id_of, book_of, places_of, slots_of};
 ghost use Rattle.sdd_atomics.specs.DomainSeat.{view, epoch, slots, Knows};

@@ -1,7 +1,7 @@
 //! The end of a domain: nobody takes part any more, and nothing is in use.
 ghost use Rattle.std.specs.Prelude.{◌≡◌, ◌+◌, ◌<◌, ◌≤◌, true, false, None, IfOk, IfErr, MatchOption, length};
-ghost use Rattle.sdd_word_invariant.specs.Barred.{past};
-ghost use Rattle.sdd_word_invariant.specs.Codes as codes;
+ghost use Rattle.sdd_domain_invariant.specs.Barred.{past};
+ghost use Rattle.sdd_domain_invariant.specs.Codes as codes;
 ghost use Rattle.sdd_rights.specs.Views.{no_counts};
 ghost use Rattle.sdd_atomics.specs.DomainTable.{id_of, places_of, most_waiting_of, sizes_of};
 ghost use Rattle.sdd_atomics.specs.DomainSeat.{view};

@@ -1,9 +1,9 @@
 //! The item of an owner goes out as raw, and comes back to one.
 ghost use Rattle.std.specs.Prelude.{◌≡◌, ◌<◌, ◌∷◌, [], None, false, MatchOption};
 ghost use base.Stored.{Gv};
-ghost use Rattle.sdd_word_invariant.specs.Codes.{raw_word};
-ghost use Rattle.sdd_word_invariant.specs.Epoch.{HasPlace, IsLone};
-ghost use Rattle.sdd_word_invariant.specs.Slots.{Holds};
+ghost use Rattle.sdd_domain_invariant.specs.Codes.{raw_word};
+ghost use Rattle.sdd_domain_invariant.specs.Epoch.{HasPlace, IsLone};
+ghost use Rattle.sdd_domain_invariant.specs.Slots.{Holds};
 ghost use Rattle.sdd_domain_invariant.specs.FilledInvariant.{HasRecord};
 ghost use Rattle.sdd_domain_invariant.specs.Records.{IsIn};
 ghost use Rattle.sdd_rights.specs.Owner.{witness_of_owner};

@@ -1,8 +1,8 @@
 //! A scan of all places.
 ghost use Rattle.std.specs.Prelude.{◌≡◌, ℕ, ◌<◌, true, false};
-ghost use Rattle.sdd_word_invariant.specs.Epoch.{IsOpen, IsLone, Scans};
-ghost use Rattle.sdd_word_invariant.specs.EpochSteps.{IsNext, Locks, passed_by};
-ghost use Rattle.sdd_word_invariant.specs.Words.{state_word};
+ghost use Rattle.sdd_domain_invariant.specs.Epoch.{IsOpen, IsLone, Scans};
+ghost use Rattle.sdd_domain_invariant.specs.EpochSteps.{IsNext, Locks, passed_by};
+ghost use Rattle.sdd_domain_invariant.specs.Words.{state_word};
 ghost use Rattle.sdd_atomics.specs.DomainTable.{id_of, places_of, sizes_of};
 ghost use Rattle.sdd_atomics.specs.DomainSeat.{epoch, view, IsSameBut, Stepped};
 ghost use Rattle.sdd_domain_slots.specs.Scan.{looked_to, Raises, Scanned, Tells};

@@ -1,8 +1,8 @@
 //! A search for a free slot, place of a job, or cell: how often it may lose an exchange, and what it saw.
 ghost use Rattle.std.specs.Prelude.{◌≡◌, ◌-◌, ◌<◌, ◌≤◌, [], true, false, None, MatchOption, MatchResult, length, replicate};
 ghost use Rattle.sdd_rights.specs.Views.{no_rights};
-ghost use Rattle.sdd_word_invariant.specs.Codes.{alive, held_slots};
-ghost use Rattle.sdd_word_invariant.specs.Epoch.{HasPlace};
+ghost use Rattle.sdd_domain_invariant.specs.Codes.{alive, held_slots};
+ghost use Rattle.sdd_domain_invariant.specs.Epoch.{HasPlace};
 ghost use Rattle.sdd_rights.specs.Owner.{witness_of_cell};
 ghost use Rattle.sdd_atomics.specs.Cells.{cells_of, FitsCell};
 ghost use Rattle.sdd_atomics.specs.DomainTable.{id_of, slots_of, most_waiting_of};

@@ -1,6 +1,6 @@
 //! One owner more of an item whose value nobody moves, of whose owners there may be several.
 ghost use Rattle.std.specs.Prelude.{◌≡◌, ◌<◌, [], MatchResult, None};
-ghost use Rattle.sdd_word_invariant.specs.Epoch.{HasPlace};
+ghost use Rattle.sdd_domain_invariant.specs.Epoch.{HasPlace};
 ghost use Rattle.sdd_domain_invariant.specs.FractionSteps.{IsStill};
 ghost use Rattle.sdd_atomics.specs.DomainTable.{id_of, slots_of};
 ghost use Rattle.sdd_atomics.specs.DomainSeat.{view, epoch, slots, Knows};

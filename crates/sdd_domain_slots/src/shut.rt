@@ -2,10 +2,10 @@
 ghost use Rattle.std.specs.Prelude.{◌≡◌, ◌+◌, ◌<◌, None};
 ghost use Rattle.sdd_values.specs.declared.read_sections.SectionState.TheVariants.{Closed as is_closed};
 ghost use Rattle.sdd_rights.specs.declared.views.View.{View};
-ghost use Rattle.sdd_word_invariant.specs.SlotSteps.{ClosesAll};
-ghost use Rattle.sdd_word_invariant.specs.Epoch.{IsOpen, Scans};
+ghost use Rattle.sdd_domain_invariant.specs.SlotSteps.{ClosesAll};
+ghost use Rattle.sdd_domain_invariant.specs.Epoch.{IsOpen, Scans};
 ghost use Rattle.sdd_atomics.specs.DomainTable.{id_of, book_of, places_of, sizes_of};
-ghost use Rattle.sdd_word_invariant.specs.Words as words;
+ghost use Rattle.sdd_domain_invariant.specs.Words as words;
 ghost use Rattle.sdd_domain_invariant.specs.FractionSteps.{unsighted};
 ghost use Rattle.sdd_atomics.specs.DomainSeat.{view, epoch, Knows};
 ghost use Rattle.sdd_domain_slots.specs.BetweenCalls.{CarriesSeenOnly, AreLentTo};

@@ -2,10 +2,10 @@
 ghost use Rattle.std.specs.Prelude.{◌≡◌, ◌<◌, true, false, IsTrue, MatchResult, suc, drop, [], ◌∷◌, None};
 ghost use base.Stored.{Gv};
 ghost use Rattle.sdd_shared_values.specs.SharedValues.{IsNoValueCode, showing};
-ghost use Rattle.sdd_word_invariant.specs.Codes.{alive, counted, free_word};
-ghost use Rattle.sdd_word_invariant.specs.Epoch.{HasPlace, IsLone};
-ghost use Rattle.sdd_word_invariant.specs.Slots.{Owns, Holds};
-ghost use Rattle.sdd_word_invariant.specs.SlotSteps.{IsDue, Knew};
+ghost use Rattle.sdd_domain_invariant.specs.Codes.{alive, counted, free_word};
+ghost use Rattle.sdd_domain_invariant.specs.Epoch.{HasPlace, IsLone};
+ghost use Rattle.sdd_domain_invariant.specs.Slots.{Owns, Holds};
+ghost use Rattle.sdd_domain_invariant.specs.SlotSteps.{IsDue, Knew};
 ghost use Rattle.sdd_domain_invariant.specs.FractionsAtHome.{CarriedFractions, Moves};
 ghost use Rattle.sdd_domain_invariant.specs.FractionSteps.{CarriesAll, resting, telling, drawing};
 ghost use Rattle.sdd_domain_invariant.specs.BankInvariant.{one_where};

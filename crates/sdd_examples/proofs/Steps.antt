@@ -8,8 +8,8 @@ use prog.Atomic.{either}
 use base.Fml.{Share}
 use Rattle.atomic_table.specs.Table.{State, Me, keeps as stays, Allows, Splits}
 use Rattle.atomic_table.proofs.Lists.{at_set, set_here, set_else, at_longer, at_snoc}
-use Rattle.sdd_word_invariant.specs.Sums.{total}
-use Rattle.sdd_word_invariant.proofs.Sums.{total_set, total_snoc, total_has, total_two}
+use Rattle.sdd_domain_invariant.specs.Sums.{total}
+use Rattle.sdd_domain_invariant.proofs.Sums.{total_set, total_snoc, total_has, total_two}
 use Rattle.sdd_witness.specs.Ledger.{Pledge, Without, Free, noted, Enters, Leaves, JoinsFree}
 use Rattle.sdd_examples.specs.declared.counted_owners.views.View.{View}
 use Rattle.sdd_examples.specs.CountedOwners.{Has, owned, held, keeps, blank, one_owner, first, Backed, Kept, pledging, freeing, made, cut, regained, gone, remaining, newcomer, founded, a_ledger, IsFree}

@@ -5,7 +5,7 @@ use lib.ListN.{get_elem?}
 use prog.Atomic.{either}
 use base.Stored.{Gv}
 use Rattle.atomic_table.specs.Table.{State}
-use Rattle.sdd_word_invariant.specs.Sums.{total}
+use Rattle.sdd_domain_invariant.specs.Sums.{total}
 use Rattle.sdd_witness.specs.Ledger.{Pledge}
 use Rattle.sdd_examples.specs.declared.counted_owners.views.View.{View}
 use Rattle.sdd_examples.specs.contracts.counted_owners.views.View.{the_row}

@@ -1,7 +1,7 @@
 //! What is known of a domain: by a participant, by the token of an owner, by the right to a cell, and by what stands beside the table.
 //!
-//! No value of these types is made: a token carries one for the proofs alone. Who only carries a token reads no more than this crate; what words and views
-//! have to do with one another is the rule of `sdd_word_invariant`.
+//! No value of these types is made: a token carries one for the proofs alone. Who only carries a token reads no more than this module; what words and views
+//! have to do with one another is the rule of `sdd_domain_invariant`.
 //!
 //! No step of a domain sets these: `adopts` of an epoch's view; `links`; what is counted as `registered`; and what is `plain`. They are what `specs/Views` says
 //! of a token that knows nothing.

@@ -5,11 +5,11 @@
 ghost use Rattle.std.specs.Prelude.{◌≡◌, ◌<◌, ◌≤◌, ℕ, false, [], ◌∷◌, None};
 ghost use Rattle.sdd_rights.specs.declared.views.CellKind.TheVariants.{Raw, Collector};
 ghost use Rattle.sdd_rights.specs.declared.views.WaitingItem.{WaitingItem};
-ghost use Rattle.sdd_word_invariant.specs.Codes as codes;
-ghost use Rattle.sdd_word_invariant.specs.Codes.{free_word};
-ghost use Rattle.sdd_word_invariant.specs.Epoch.{HasPlace};
-ghost use Rattle.sdd_word_invariant.specs.Collectors.{Closes, FoundEmptied};
-ghost use Rattle.sdd_word_invariant.specs.CollectorSteps.{WaitsFor, HasWaiting};
+ghost use Rattle.sdd_domain_invariant.specs.Codes as codes;
+ghost use Rattle.sdd_domain_invariant.specs.Codes.{free_word};
+ghost use Rattle.sdd_domain_invariant.specs.Epoch.{HasPlace};
+ghost use Rattle.sdd_domain_invariant.specs.Collectors.{Closes, FoundEmptied};
+ghost use Rattle.sdd_domain_invariant.specs.CollectorWordSteps.{WaitsFor, HasWaiting};
 ghost use Rattle.sdd_domain_invariant.specs.CollectorSteps.{CollectsOne, LeavesOneToClose, GivesOnePrivateBack, ClosesOne, ClosesNone, EmptiesOne, EmptiesOwnOne};
 ghost use Rattle.sdd_rights.specs.Owner.{witness_of_cell};
 ghost use Rattle.sdd_atomics.specs.DomainTable.{id_of, places_of, slots_of};

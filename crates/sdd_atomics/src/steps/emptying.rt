@@ -1,11 +1,11 @@
 //! The atomic steps on private items that move them on: their bag claims one again, or the close of their collector empties its slot.
 ghost use Rattle.std.specs.Prelude.{◌≡◌, ◌<◌, true, None};
-ghost use Rattle.sdd_word_invariant.specs.Codes as codes;
-ghost use Rattle.sdd_word_invariant.specs.Codes.{free_word};
-ghost use Rattle.sdd_word_invariant.specs.Epoch.{HasPlace};
+ghost use Rattle.sdd_domain_invariant.specs.Codes as codes;
+ghost use Rattle.sdd_domain_invariant.specs.Codes.{free_word};
+ghost use Rattle.sdd_domain_invariant.specs.Epoch.{HasPlace};
 ghost use Rattle.sdd_rights.specs.declared.views.PrivateItem.{PrivateItem};
-ghost use Rattle.sdd_word_invariant.specs.Collectors.{Empties, HasPrivate};
-ghost use Rattle.sdd_word_invariant.specs.CollectorSteps.{WaitsFor};
+ghost use Rattle.sdd_domain_invariant.specs.Collectors.{Empties, HasPrivate};
+ghost use Rattle.sdd_domain_invariant.specs.CollectorWordSteps.{WaitsFor};
 ghost use Rattle.sdd_shared_values.specs.SharedValues.{IsNoValueCode};
 ghost use Rattle.sdd_domain_invariant.specs.FractionsAtHome.{CarriedFractions, Moves};
 ghost use Rattle.sdd_domain_invariant.specs.FractionSteps.{CarriesAll, IsDeposit};

@@ -3,9 +3,9 @@
 //! A place is free, or a job waits in it. It is a slot without a value: its number comes after those of the slots. A lone participant knows each word
 //! beforehand.
 ghost use Rattle.std.specs.Prelude.{◌≡◌, ◌<◌, ◌≤◌, None};
-ghost use Rattle.sdd_word_invariant.specs.Codes.{free_word, waiting_word};
-ghost use Rattle.sdd_word_invariant.specs.Epoch.{HasPlace};
-ghost use Rattle.sdd_word_invariant.specs.SlotSteps.{IsDue, LooksAtSlot};
+ghost use Rattle.sdd_domain_invariant.specs.Codes.{free_word, waiting_word};
+ghost use Rattle.sdd_domain_invariant.specs.Epoch.{HasPlace};
+ghost use Rattle.sdd_domain_invariant.specs.SlotSteps.{IsDue, LooksAtSlot};
 ghost use Rattle.sdd_domain_invariant.specs.FractionSteps.{DefersJob, GivesPlace};
 ghost use Rattle.sdd_atomics.specs.DomainTable.{id_of, slots_of, most_waiting_of};
 ghost use Rattle.sdd_atomics.specs.DomainSeat.{view, epoch, Taught, Moved, Knows};

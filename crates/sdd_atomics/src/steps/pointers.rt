@@ -3,9 +3,9 @@
 //! Such a word owns nothing, so that each may be written whoever has the right to its cell. It names a slot or nothing, with a tag:
 //! `4 * (slot + 1) + tag`, or the tag alone. A lone participant knows each word beforehand.
 ghost use Rattle.std.specs.Prelude.{◌≡◌, ◌<◌, None};
-ghost use Rattle.sdd_word_invariant.specs.CellSteps.{LooksAtPointer, SwapsPointer, ExchangesPointer};
-ghost use Rattle.sdd_word_invariant.specs.Codes.{pointers_end};
-ghost use Rattle.sdd_word_invariant.specs.Epoch.{HasPlace};
+ghost use Rattle.sdd_domain_invariant.specs.CellWordSteps.{LooksAtPointer, SwapsPointer, ExchangesPointer};
+ghost use Rattle.sdd_domain_invariant.specs.Codes.{pointers_end};
+ghost use Rattle.sdd_domain_invariant.specs.Epoch.{HasPlace};
 ghost use Rattle.sdd_domain_invariant.specs.CellSteps.{FindsPointer};
 ghost use Rattle.sdd_atomics.specs.Cells.{cells_of};
 ghost use Rattle.sdd_atomics.specs.DomainTable.{id_of};

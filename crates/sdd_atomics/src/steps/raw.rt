@@ -1,9 +1,9 @@
 //! The atomic steps on items that are out as raw, which nobody owns, by a participant.
 ghost use Rattle.std.specs.Prelude.{◌≡◌, ◌<◌, Bool, List, [], ◌∷◌, None, false};
 ghost use base.Stored.{Gv};
-ghost use Rattle.sdd_word_invariant.specs.Codes.{owned_word, raw_word};
-ghost use Rattle.sdd_word_invariant.specs.Epoch.{HasPlace, IsOpen};
-ghost use Rattle.sdd_word_invariant.specs.Slots.{Holds};
+ghost use Rattle.sdd_domain_invariant.specs.Codes.{owned_word, raw_word};
+ghost use Rattle.sdd_domain_invariant.specs.Epoch.{HasPlace, IsOpen};
+ghost use Rattle.sdd_domain_invariant.specs.Slots.{Holds};
 ghost use Rattle.sdd_domain_invariant.specs.FilledInvariant.{HasRecord};
 ghost use Rattle.sdd_domain_invariant.specs.RawSteps.{TurnsRawOne, RegainsOne, SeesRawOne};
 ghost use Rattle.sdd_atomics.specs.DomainTable.{id_of, places_of, slots_of};

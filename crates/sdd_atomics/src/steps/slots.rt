@@ -3,12 +3,12 @@
 //! A slot is free, or has one owner, or so many that it counts, or its item waits. A lone participant knows each word beforehand.
 ghost use Rattle.std.specs.Prelude.{◌≡◌, ◌-◌, ◌<◌, ◌≤◌, ℕ, Bool, true, false, List, [], ◌∷◌, None};
 ghost use base.Stored.{Gv};
-ghost use Rattle.sdd_word_invariant.specs.Words as words;
-ghost use Rattle.sdd_word_invariant.specs.Codes.{alive, counted, most_owners, free_word, waiting_word, shared_word};
-ghost use Rattle.sdd_word_invariant.specs.Epoch.{HasPlace, IsOpen};
-ghost use Rattle.sdd_word_invariant.specs.Slots.{Owns, Holds};
-ghost use Rattle.sdd_word_invariant.specs.SlotSteps.{IsDue, LooksAtSlot, TakesHold, LetsGo, TriesHold, SharesAgain, LooksForGuard};
-ghost use Rattle.sdd_word_invariant.specs.Barred.{LooksForValue};
+ghost use Rattle.sdd_domain_invariant.specs.Words as words;
+ghost use Rattle.sdd_domain_invariant.specs.Codes.{alive, counted, most_owners, free_word, waiting_word, shared_word};
+ghost use Rattle.sdd_domain_invariant.specs.Epoch.{HasPlace, IsOpen};
+ghost use Rattle.sdd_domain_invariant.specs.Slots.{Owns, Holds};
+ghost use Rattle.sdd_domain_invariant.specs.SlotSteps.{IsDue, LooksAtSlot, TakesHold, LetsGo, TriesHold, SharesAgain, LooksForGuard};
+ghost use Rattle.sdd_domain_invariant.specs.Barred.{LooksForValue};
 ghost use Rattle.sdd_rights.specs.Views.{owner_of};
 ghost use Rattle.sdd_rights.specs.declared.views.ShownValue.{ShownValue};
 ghost use Rattle.sdd_shared_values.specs.SharedValues.{IsNoValueCode, lot};

@@ -10,7 +10,7 @@ ghost use Rattle.sdd_space.specs.Asked.{WasAsked};
 ghost use Rattle.sdd_space.specs.Guard.{reader_of};
 ghost use Rattle.sdd_space.specs.RawPtr as raw;
 ghost use Rattle.sdd_space.specs.OwnerOrCell.{AreOf};
-ghost use Rattle.sdd_word_invariant.specs.Codes.{alive, counted, held_slots, held_word, most_owners, null_word};
+ghost use Rattle.sdd_domain_invariant.specs.Codes.{alive, counted, held_slots, held_word, most_owners, null_word};
 ghost use Rattle.sdd_domain_invariant.specs.Records.{IsIn};
 ghost use Rattle.sdd_domain_slots.specs.Cells.{ChangesCell, ClaimsNone, ClonesNone, ClonesTo, Copies, CopiesNone, FindsAt, FreesAt, IsOwnedThere, MakesInCell, MakesNone, WritesAt};
 ghost use Rattle.sdd_domain_slots.specs.CellWords.{listed};

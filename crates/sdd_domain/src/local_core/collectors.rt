@@ -6,7 +6,7 @@ ghost use Rattle.sdd_participants.specs.declared.waiting.LimboEntry.{LimboEntry 
 ghost use Rattle.sdd_participants.specs.declared.waiting.LimboEntry.TheVariants.{Item as item};
 ghost use Rattle.sdd_rights.specs.StandingKind.{is_shared};
 ghost use Rattle.sdd_rights.specs.Right.{number_of, home_of, kind_of, raw_number_of, raw_home_of};
-ghost use Rattle.sdd_word_invariant.specs.Codes.{held_slots};
+ghost use Rattle.sdd_domain_invariant.specs.Codes.{held_slots};
 ghost use Rattle.sdd_rights.specs.Owner.{witness_of_cell};
 ghost use Rattle.sdd_rights.specs.declared.views.CellKind.TheVariants.{Collector as of_closed};
 ghost use Rattle.sdd_shared_values.specs.SharedValues.{showing};

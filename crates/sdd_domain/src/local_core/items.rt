@@ -7,7 +7,7 @@ ghost use Rattle.sdd_space.specs.Guard.{reader_of};
 ghost use Rattle.sdd_space.specs.OwnerOrCell.{AreOf};
 ghost use Rattle.sdd_domain_slots.specs.SpaceIds.{home_in};
 ghost use Rattle.sdd_shared_values.specs.SharedValues.{showing};
-ghost use Rattle.sdd_word_invariant.specs.Codes.{claimed_word};
+ghost use Rattle.sdd_domain_invariant.specs.Codes.{claimed_word};
 ghost use Rattle.sdd_domain_slots.specs.LocalState.{IsFree, IsLone, IsUsedUp, KnowsOwner, MakesAt, LooksAt, OwnerGoes, AddsAt, HasMost};
 ghost use Rattle.sdd_domain_slots.specs.Items.{slots_home, HasValue, IsRightTo, IsSameOwner};
 ghost use Rattle.sdd_domain_slots.specs.SeenOwners.{HasNoOwner, KnowsStill, OwnsNoMore, ShowsTo};

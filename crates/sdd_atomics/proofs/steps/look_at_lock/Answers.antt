@@ -1,5 +1,5 @@
 use Rattle.std.proofs.Common.{arith}
-use Rattle.sdd_word_invariant.specs.EpochSteps.{LooksAtLock}
+use Rattle.sdd_domain_invariant.specs.EpochSteps.{LooksAtLock}
 use Rattle.sdd_atomics.proofs.Allowed.{told, may_look_at_lock}
 use Rattle.sdd_atomics.proofs.steps.look_at_lock.Goals as goal
 

@@ -1,5 +1,5 @@
 use Rattle.std.proofs.Common.{arith}
-use Rattle.sdd_word_invariant.specs.EpochSteps.{Unlocks}
+use Rattle.sdd_domain_invariant.specs.EpochSteps.{Unlocks}
 use Rattle.sdd_atomics.proofs.Allowed.{told, may_unlock}
 use Rattle.sdd_atomics.proofs.steps.unlock.Goals as goal
 

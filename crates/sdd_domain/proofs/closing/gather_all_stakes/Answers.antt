@@ -2,8 +2,8 @@ use Rattle.std.proofs.Common.{◌≡◌, ℕ, ◌-◌, List, sym, refl, ap, ◌�
 use Rattle.core.specs.Mem.Slots.{slots_items, slots_counts}
 use Rattle.sdd_shared_values.specs.ValueFractions.{FractionContent}
 use Rattle.sdd_shared_values.specs.SharedValues.{AreVacant}
-use Rattle.sdd_word_invariant.specs.Codes.{full}
-use Rattle.sdd_word_invariant.specs.Slots.{slot_at}
+use Rattle.sdd_domain_invariant.specs.Codes.{full}
+use Rattle.sdd_domain_invariant.specs.Slots.{slot_at}
 use Rattle.sdd_domain_invariant.specs.FractionsAtHome.{stake_at, AreHome}
 use Rattle.sdd_domain_invariant.proofs.Laid.{all_homes, first_home, vacant_more}
 use Rattle.sdd_domain.proofs.closing.gather_all_stakes.Goals as goal

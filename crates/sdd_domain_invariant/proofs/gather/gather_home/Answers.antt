@@ -3,8 +3,8 @@ use base.Stored.{Gv}
 use Rattle.core.specs.Mem.Slots.{slots_items}
 use Rattle.sdd_shared_values.specs.ValueFractions.{FractionContent}
 use Rattle.sdd_shared_values.specs.SharedValues.{most}
-use Rattle.sdd_word_invariant.specs.Slots.{slot_at}
-use Rattle.sdd_word_invariant.proofs.Codes.{sound}
+use Rattle.sdd_domain_invariant.specs.Slots.{slot_at}
+use Rattle.sdd_domain_invariant.proofs.Codes.{sound}
 use Rattle.sdd_domain_invariant.specs.FractionsAtHome.{stake_at, homes_for, away, full_at, MatchesSlotWord}
 use Rattle.sdd_domain_invariant.proofs.Places.{inside}
 use Rattle.sdd_domain_invariant.proofs.Laid.{next_stake, next_slot, found, one_joined, unit_of, rest_of}

@@ -2,7 +2,7 @@ use lib.ListN.{get_elem?}
 use Rattle.std.proofs.Common.{ℕ, Bool, List, [], ◌∷◌, sym, refl, ap, ◌∙◌, subst}
 use Rattle.std.specs.Prelude.{Option}
 use Rattle.sdd_rights.specs.declared.views.View.{View}
-use Rattle.sdd_word_invariant.specs.Epoch.{HasPlace}
+use Rattle.sdd_domain_invariant.specs.Epoch.{HasPlace}
 use Rattle.sdd_domain_invariant.specs.FractionSteps.{undrawing}
 use Rattle.sdd_domain_slots.specs.declared.cell_values.LooseOwner.{LooseOwner}
 use Rattle.sdd_domain_slots.specs.Cells.{IsLoose, TakesUp}

@@ -1,7 +1,7 @@
 use Rattle.std.proofs.Common.{◌≡◌, ◌+◌, ◌-◌, ◌%◌, ℕ, List, Some, sym, ap, ◌∙◌, arith}
 use Rattle.std.specs.Prelude.{slice_get}
-use Rattle.sdd_word_invariant.specs.Codes.{named}
-use Rattle.sdd_word_invariant.proofs.Codes.{holds_none, holds_one}
+use Rattle.sdd_domain_invariant.specs.Codes.{named}
+use Rattle.sdd_domain_invariant.proofs.Codes.{holds_none, holds_one}
 use Rattle.sdd_domain_slots.proofs.cell_words.held_slot.Goals as goal
 
 pub returns-then-slot-lt-UNNAMED-clause-held : goal.returns-then-slot-lt-UNNAMED-clause-held

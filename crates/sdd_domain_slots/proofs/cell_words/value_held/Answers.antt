@@ -1,7 +1,7 @@
 use Rattle.std.proofs.Common.{◌-◌, ℕ, List, sym, ap, arith}
 use Rattle.std.specs.Prelude.{slice_get}
-use Rattle.sdd_word_invariant.specs.Codes.{named}
-use Rattle.sdd_word_invariant.proofs.Codes.{holds_none, holds_one}
+use Rattle.sdd_domain_invariant.specs.Codes.{named}
+use Rattle.sdd_domain_invariant.proofs.Codes.{holds_none, holds_one}
 use Rattle.sdd_domain_slots.proofs.cell_words.value_held.Goals as goal
 
 pub returns-then-named-eq0-clause-held : goal.returns-then-named-eq0-clause-held

@@ -4,7 +4,7 @@ use Rattle.atomic_table.specs.declared.shared.Seat.{Seat}
 use Rattle.sdd_core.specs.declared.refused.Refused.TheVariants.{GuardOpen}
 use Rattle.sdd_shared_values.specs.declared.value_fraction.ValueFraction.{ValueFraction}
 use Rattle.sdd_rights.specs.declared.views.View.{View}
-use Rattle.sdd_word_invariant.specs.Epoch.{IsLone}
+use Rattle.sdd_domain_invariant.specs.Epoch.{IsLone}
 use Rattle.sdd_atomics.specs.DomainSeat.{epoch}
 use Rattle.sdd_domain_slots.specs.Claims.{IsUnmoved}
 use Rattle.sdd_domain_slots.specs.InPlace.{IsLetGoOf}

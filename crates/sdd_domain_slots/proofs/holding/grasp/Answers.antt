@@ -1,5 +1,5 @@
 use Rattle.std.proofs.Common.{arith}
-use Rattle.sdd_word_invariant.proofs.Codes.{counted_is, shared}
+use Rattle.sdd_domain_invariant.proofs.Codes.{counted_is, shared}
 use Rattle.sdd_domain_slots.proofs.holding.grasp.Goals as goal
 
 pub returns-else-word : goal.returns-else-word

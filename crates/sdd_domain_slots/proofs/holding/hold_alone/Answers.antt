@@ -3,7 +3,7 @@ use base.Stored.{Gv}
 use lib.ListN.{get_elem?}
 use Rattle.sdd_rights.specs.declared.views.ShownValue.{ShownValue}
 use Rattle.sdd_rights.specs.declared.views.View.{View}
-use Rattle.sdd_word_invariant.specs.SlotSteps.{Knew}
+use Rattle.sdd_domain_invariant.specs.SlotSteps.{Knew}
 use Rattle.sdd_domain_invariant.specs.FilledInvariant.{HasRecord}
 use Rattle.sdd_atomics.specs.DomainTable.{places_of}
 use Rattle.sdd_domain_slots.proofs.Held.{only, only_record, taken_view, unmoved_at_once, same_at_once, owns_at_once, held_view, looked_view, held_by, back_view, let_go, same_owner, owns_one}

@@ -3,7 +3,7 @@ use Rattle.std.proofs.lemmas.Bool.{true≢false}
 use mathlib.Core.Logic.{dite}
 use native.Mathlib.Decide.{ℕ_discrete}
 use Rattle.sdd_rights.specs.declared.views.View.{View}
-use Rattle.sdd_word_invariant.specs.SlotSteps.{looked_past}
+use Rattle.sdd_domain_invariant.specs.SlotSteps.{looked_past}
 use Rattle.sdd_atomics.specs.DomainSeat.{epoch}
 use Rattle.sdd_domain_slots.proofs.holding.none_is_open.Goals as goal
 

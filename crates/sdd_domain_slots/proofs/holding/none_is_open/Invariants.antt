@@ -1,5 +1,5 @@
 use Rattle.std.proofs.Common.{◌≡◌, ◌<◌}
-use Rattle.sdd_word_invariant.specs.Epoch.{IsOpen}
+use Rattle.sdd_domain_invariant.specs.Epoch.{IsOpen}
 use Rattle.sdd_atomics.specs.DomainSeat.{view, epoch}
 use Rattle.sdd_domain_slots.specs.InPlace.{looked_to}
 use Rattle.sdd_domain_slots.proofs.holding.none_is_open.Given as goal

@@ -8,8 +8,8 @@ use Rattle.sdd_shared_values.specs.SharedValues.{showing}
 use Rattle.sdd_rights.specs.Owner.{one-shown, witness_of_owner}
 use Rattle.sdd_rights.specs.declared.views.ShownValue.{ShownValue}
 use Rattle.sdd_rights.specs.declared.views.View.{View}
-use Rattle.sdd_word_invariant.specs.Epoch.{IsLone}
-use Rattle.sdd_word_invariant.specs.SlotSteps.{Knew, discarded}
+use Rattle.sdd_domain_invariant.specs.Epoch.{IsLone}
+use Rattle.sdd_domain_invariant.specs.SlotSteps.{Knew, discarded}
 use Rattle.sdd_domain_invariant.specs.FractionSteps.{dropping, moving, undrawing, untold}
 use Rattle.sdd_atomics.specs.DomainTable.{book_of, places_of}
 use Rattle.sdd_atomics.specs.Grips.{IsGripOf}

@@ -1,6 +1,6 @@
 use Rattle.std.proofs.Common.{refl, sym, ◌∙◌, subst, arith}
 use Rattle.sdd_rights.specs.declared.views.EpochView.{EpochView}
-use Rattle.sdd_word_invariant.specs.EpochSteps.{Takes}
+use Rattle.sdd_domain_invariant.specs.EpochSteps.{Takes}
 use Rattle.sdd_atomics.proofs.Allowed.{same_but_on}
 use mathlib.Core.Logic.{dite}
 use native.Mathlib.Decide.{ℕ_discrete}

@@ -1,6 +1,6 @@
 use Rattle.std.proofs.Common.{◌≡◌, length}
 use Rattle.sdd_rights.specs.Views.{nobody}
-use Rattle.sdd_word_invariant.specs.SlotSteps.{blank}
+use Rattle.sdd_domain_invariant.specs.SlotSteps.{blank}
 use Rattle.sdd_atomics.specs.DomainSeat.{epoch, words_known, IsSameBut}
 use Rattle.sdd_atomics.specs.DomainTable.{sizes_of, places_of}
 use Rattle.sdd_domain_slots.specs.Sightings.{AreSeenTaken}

@@ -3,9 +3,9 @@ use Rattle.atomic_table.specs.declared.shared.Seat.{Seat}
 use Rattle.sdd_shared_values.specs.declared.value_fraction.ValueFraction.{ValueFraction}
 use Rattle.sdd_shared_values.specs.SharedValues.{IsNoValueCode}
 use Rattle.sdd_rights.specs.declared.views.View.{View}
-use Rattle.sdd_word_invariant.specs.Codes.{emptying_word, private_word}
-use Rattle.sdd_word_invariant.specs.CollectorSteps.{empties_now}
-use Rattle.sdd_word_invariant.specs.SlotSteps.{Knew}
+use Rattle.sdd_domain_invariant.specs.Codes.{emptying_word, private_word}
+use Rattle.sdd_domain_invariant.specs.CollectorWordSteps.{empties_now}
+use Rattle.sdd_domain_invariant.specs.SlotSteps.{Knew}
 use Rattle.sdd_domain_invariant.specs.FractionSteps.{SeatState, CarriesAll}
 use Rattle.sdd_atomics.specs.DomainTable.{book_of, places_of}
 use Rattle.sdd_domain_slots.specs.PrivateItems.{EmptiesAnothers}

@@ -1,6 +1,6 @@
 use Rattle.std.proofs.Common.{◌<◌, arith}
-use Rattle.sdd_word_invariant.specs.Codes.{private_word}
-use Rattle.sdd_word_invariant.specs.CollectorSteps.{no_collector}
+use Rattle.sdd_domain_invariant.specs.Codes.{private_word}
+use Rattle.sdd_domain_invariant.specs.CollectorWordSteps.{no_collector}
 use Rattle.sdd_domain_slots.proofs.PrivateItems.{still_lost, left_or_emptied}
 use Rattle.sdd_domain_slots.proofs.private_items.try_to_leave.Goals as goal
 

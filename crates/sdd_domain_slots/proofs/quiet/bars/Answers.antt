@@ -1,7 +1,7 @@
 use Rattle.std.proofs.Common.{◌≡◌, ◌⊎◌, ℕ, ◌∙◌, sym, ap, inl, inr, refl, arith}
 use Rattle.std.proofs.lemmas.Bool.Decides.{nat_tests}
 use Rattle.sdd_rights.specs.declared.views.View.{View}
-use Rattle.sdd_word_invariant.specs.Barred.{IsBarred, past}
+use Rattle.sdd_domain_invariant.specs.Barred.{IsBarred, past}
 use Rattle.sdd_domain_slots.proofs.quiet.bars.Goals.{then-found-eq-FREE-via-then-found-eq-FREE, then-found-eq-FREE-via-else-found-eq-FREE+then-found-eq-BARRED}
 use Rattle.sdd_domain_slots.proofs.quiet.bars.Goals as goal
 

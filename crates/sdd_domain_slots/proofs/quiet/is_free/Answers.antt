@@ -1,6 +1,6 @@
 use Rattle.std.proofs.Common.{ap, ◌∙◌, arith, eqb-true}
-use Rattle.sdd_word_invariant.specs.Codes.{full}
-use Rattle.sdd_word_invariant.proofs.Codes.{free_is}
+use Rattle.sdd_domain_invariant.specs.Codes.{full}
+use Rattle.sdd_domain_invariant.proofs.Codes.{free_is}
 use Rattle.sdd_domain_slots.proofs.quiet.is_free.Goals as goal
 
 pub returns : goal.returns

@@ -1,5 +1,5 @@
 use Rattle.std.proofs.Common.{◌≡◌}
-use Rattle.sdd_word_invariant.specs.EpochSteps.{IsNext}
+use Rattle.sdd_domain_invariant.specs.EpochSteps.{IsNext}
 use Rattle.sdd_atomics.specs.DomainSeat.{epoch, IsSameBut}
 use Rattle.sdd_domain_slots.specs.Scan.{looked_to}
 use Rattle.sdd_domain_slots.proofs.scan.all_pass.Given as goal

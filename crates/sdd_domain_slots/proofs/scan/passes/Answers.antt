@@ -1,7 +1,7 @@
 use Rattle.std.proofs.Common.{refl, sym, ap, ◌∙◌, subst}
 use borrow.Author.Tests.{eqb-true, eqb-false}
 use Rattle.sdd_rights.specs.declared.views.EpochView.{EpochView}
-use Rattle.sdd_word_invariant.specs.EpochSteps.{IsNext, passed_by}
+use Rattle.sdd_domain_invariant.specs.EpochSteps.{IsNext, passed_by}
 use Rattle.sdd_domain_slots.proofs.scan.passes.Goals as goal
 
 pub returns-then-look_at_state-ne-OPEN-clause-passed : goal.returns-then-look_at_state-ne-OPEN-clause-passed

@@ -3,8 +3,8 @@ use Rattle.atomic_table.specs.declared.shared.Seat.{Seat}
 use Rattle.sdd_rights.specs.declared.views.EpochView.{EpochView}
 use Rattle.sdd_shared_values.specs.declared.value_fraction.ValueFraction.{ValueFraction}
 use Rattle.sdd_rights.specs.declared.views.View.{View}
-use Rattle.sdd_word_invariant.specs.Epoch.{IsLone}
-use Rattle.sdd_word_invariant.specs.EpochSteps.{Reads, Locks, unlocked}
+use Rattle.sdd_domain_invariant.specs.Epoch.{IsLone}
+use Rattle.sdd_domain_invariant.specs.EpochSteps.{Reads, Locks, unlocked}
 use Rattle.sdd_domain_slots.specs.declared.scan.ScanEnd.{ScanEnd}
 use Rattle.sdd_domain_slots.specs.Scan.{Scanned, Tells}
 use Rattle.sdd_domain_slots.proofs.Scans.{failed, passed}

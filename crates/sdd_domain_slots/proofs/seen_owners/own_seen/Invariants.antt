@@ -1,6 +1,6 @@
 use Rattle.std.proofs.Common.{◌≡◌, ◌<◌}
-use Rattle.sdd_word_invariant.specs.Codes.{held_word}
-use Rattle.sdd_word_invariant.specs.Epoch.{IsLone}
+use Rattle.sdd_domain_invariant.specs.Codes.{held_word}
+use Rattle.sdd_domain_invariant.specs.Epoch.{IsLone}
 use Rattle.sdd_domain_invariant.specs.KindsInvariant.{written}
 use Rattle.sdd_domain_slots.specs.Cells.{IsWith}
 use Rattle.sdd_domain_slots.proofs.seen_owners.own_seen.Given as goal

@@ -3,10 +3,10 @@ use base.Stored.{Gv}
 use Rattle.sdd_rights.specs.declared.views.View.{View}
 use Rattle.sdd_rights.specs.declared.views.EpochView.{EpochView}
 use Rattle.sdd_rights.specs.declared.views.ShownValue.{ShownValue}
-use Rattle.sdd_word_invariant.specs.Codes.{alive, counted}
+use Rattle.sdd_domain_invariant.specs.Codes.{alive, counted}
 use Rattle.std.specs.Prelude.{None, slice_index}
-use Rattle.sdd_word_invariant.specs.Epoch.{HasPlace, IsLone}
-use Rattle.sdd_word_invariant.specs.SlotSteps.{behind, noted, one_more}
+use Rattle.sdd_domain_invariant.specs.Epoch.{HasPlace, IsLone}
+use Rattle.sdd_domain_invariant.specs.SlotSteps.{behind, noted, one_more}
 use Rattle.sdd_domain_invariant.specs.FractionSteps.{SeatState, IsStill, ShowsSeen, owning_more}
 use Rattle.sdd_domain_slots.specs.Cells.{holding}
 use Rattle.sdd_domain_slots.proofs.SeenOwners.{most_count, none_counts, some_count}

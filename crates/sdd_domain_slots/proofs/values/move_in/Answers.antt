@@ -5,10 +5,10 @@ use Rattle.sdd_domain_slots.specs.SpaceIds.{home_of_slots}
 use base.Stored.{Gv}
 use Rattle.sdd_shared_values.specs.SharedValues.{IsNoValueCode, lot, showing}
 use Rattle.sdd_rights.specs.declared.views.View.{View}
-use Rattle.sdd_word_invariant.specs.Sums.{times}
-use Rattle.sdd_word_invariant.specs.Codes.{counted}
+use Rattle.sdd_domain_invariant.specs.Sums.{times}
+use Rattle.sdd_domain_invariant.specs.Codes.{counted}
 use Rattle.sdd_domain_invariant.specs.KindsInvariant.{written}
-use Rattle.sdd_word_invariant.proofs.Sums.{is_same}
+use Rattle.sdd_domain_invariant.proofs.Sums.{is_same}
 use Rattle.sdd_domain_invariant.specs.FractionsAtHome.{spare}
 use Rattle.sdd_atomics.specs.DomainTable.{book_of, places_of}
 use Rattle.sdd_domain_slots.proofs.Moving.{may_move}

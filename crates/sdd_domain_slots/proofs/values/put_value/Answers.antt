@@ -2,8 +2,8 @@ use Rattle.std.proofs.Common.{ℕ, List, [], ◌∷◌, refl, ap, sym, ◌∙◌
 use Rattle.sdd_shared_values.specs.SharedValues.{showing}
 use Rattle.sdd_rights.specs.declared.views.View.{View}
 use Rattle.sdd_rights.specs.contracts.views.View.{the_row}
-use Rattle.sdd_word_invariant.specs.Sums.{times}
-use Rattle.sdd_word_invariant.proofs.Sums.{is_same}
+use Rattle.sdd_domain_invariant.specs.Sums.{times}
+use Rattle.sdd_domain_invariant.proofs.Sums.{is_same}
 use Rattle.sdd_domain_invariant.specs.FractionSteps.{parting, departing}
 use Rattle.sdd_domain_slots.proofs.Owners.{parted_view, departed_view}
 use Rattle.sdd_domain_slots.proofs.values.put_value.Goals as goal

@@ -6,8 +6,8 @@ use Rattle.atomic_table.specs.Seated.{TableId}
 use Rattle.sdd_shared_values.specs.SharedValues.{IsValueCode, IsNoValueCode, vacant, showing}
 use Rattle.sdd_rights.specs.declared.views.Sizes.{Sizes}
 use Rattle.sdd_rights.specs.declared.views.View.{View}
-use Rattle.sdd_word_invariant.specs.Slots.{items_at}
-use Rattle.sdd_word_invariant.specs.SlotSteps.{given_back}
+use Rattle.sdd_domain_invariant.specs.Slots.{items_at}
+use Rattle.sdd_domain_invariant.specs.SlotSteps.{given_back}
 use Rattle.sdd_domain_invariant.specs.FractionSteps.{IsValue, IsNewest, forgetting, giving}
 use Rattle.sdd_space.specs.OwnerOrCell.{AreOf}
 use Rattle.sdd_domain_slots.specs.SpaceIds.{home_of_slots}

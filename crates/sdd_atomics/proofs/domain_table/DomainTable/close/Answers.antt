@@ -1,7 +1,7 @@
 use Rattle.sdd_atomics.specs.DomainTable.{book_of, sizes_of}
 use Rattle.std.proofs.Common.{ℕ, List, ◌+◌, sym, ap, ◌∙◌}
-use Rattle.sdd_word_invariant.specs.Codes.{full}
-use Rattle.sdd_word_invariant.specs.Slots.{slot_at}
+use Rattle.sdd_domain_invariant.specs.Codes.{full}
+use Rattle.sdd_domain_invariant.specs.Slots.{slot_at}
 use Rattle.sdd_domain_invariant.specs.Counts.{gone_by, full_slots}
 use Rattle.sdd_domain_invariant.proofs.Tokens.{few_over, all_counted}
 use Rattle.sdd_atomics.proofs.Ending.{home_at_end}

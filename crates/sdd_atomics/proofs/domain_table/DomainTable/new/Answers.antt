@@ -1,7 +1,7 @@
 use Rattle.std.proofs.Common.{◌≡◌, ℕ, List, ◌∙◌, sym, ap, get_or, length, replicate, arith}
 use Rattle.std.proofs.lemmas.List.{length-replicate}
 use Rattle.std.proofs.lemmas.Grind.{common_steps}
-use Rattle.sdd_word_invariant.specs.Words.{all_words}
+use Rattle.sdd_domain_invariant.specs.Words.{all_words}
 use Rattle.sdd_domain_invariant.proofs.Tokens.{begins, founds_bank}
 use Rattle.sdd_domain_invariant.proofs.Cloning.{founds_ledger}
 use Rattle.sdd_domain_invariant.specs.BankInvariant.{founded}

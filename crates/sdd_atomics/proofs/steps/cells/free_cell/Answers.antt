@@ -1,6 +1,6 @@
 use Rattle.std.proofs.Common.{arith, sym, ap, ◌∙◌}
 use Rattle.sdd_rights.specs.declared.views.Sizes.{Sizes}
-use Rattle.sdd_word_invariant.specs.Words.{cell_word}
+use Rattle.sdd_domain_invariant.specs.Words.{cell_word}
 use Rattle.sdd_atomics.proofs.Cells.{may_free}
 use Rattle.sdd_atomics.proofs.steps.cells.free_cell.Goals as goal
 

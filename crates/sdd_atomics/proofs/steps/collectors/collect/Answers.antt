@@ -5,7 +5,7 @@ use Rattle.sdd_rights.specs.declared.views.CellKind.TheVariants.{Raw}
 use Rattle.sdd_rights.specs.declared.views.Sizes.{Sizes}
 use Rattle.sdd_rights.specs.contracts.views.View.{the_row}
 use Rattle.sdd_rights.specs.Views.{right_to}
-use Rattle.sdd_word_invariant.specs.Words.{slot_word}
+use Rattle.sdd_domain_invariant.specs.Words.{slot_word}
 use Rattle.sdd_domain_invariant.proofs.Cloning as cloning
 use Rattle.sdd_atomics.specs.DomainTable.{book_of, sizes_of}
 use Rattle.sdd_atomics.proofs.CollectorsAllowed.{may_collect, collect_stays, collected_then}

@@ -1,6 +1,6 @@
 use Rattle.std.proofs.Common.{ap, sym, ◌∙◌, arith}
 use Rattle.sdd_rights.specs.declared.views.Sizes.{Sizes}
-use Rattle.sdd_word_invariant.specs.Words.{slot_word}
+use Rattle.sdd_domain_invariant.specs.Words.{slot_word}
 use Rattle.sdd_atomics.proofs.CollectorsAllowed.{may_leave_to_close}
 use Rattle.sdd_atomics.proofs.steps.collectors.leave_to_close.Goals as goal
 

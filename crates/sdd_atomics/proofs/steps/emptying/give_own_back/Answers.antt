@@ -1,5 +1,5 @@
 use Rattle.std.proofs.Common.{arith}
-use Rattle.sdd_word_invariant.specs.Codes.{free_word}
+use Rattle.sdd_domain_invariant.specs.Codes.{free_word}
 use Rattle.sdd_domain_invariant.specs.CollectorSteps.{GivesOneOwnBack}
 use Rattle.sdd_atomics.proofs.Allowed.{moved_at}
 use Rattle.sdd_atomics.proofs.EmptyingAllowed.{may_give_own_back}

@@ -1,5 +1,5 @@
 use Rattle.std.proofs.Common.{arith}
-use Rattle.sdd_word_invariant.specs.Codes.{free_word, waiting_word}
+use Rattle.sdd_domain_invariant.specs.Codes.{free_word, waiting_word}
 use Rattle.sdd_domain_invariant.specs.FractionSteps.{DefersJob}
 use Rattle.sdd_atomics.proofs.Allowed.{moved_at}
 use Rattle.sdd_atomics.proofs.JobsAllowed.{may_defer}

@@ -1,5 +1,5 @@
 use Rattle.std.proofs.Common.{arith}
-use Rattle.sdd_word_invariant.specs.CellSteps.{ExchangesPointer}
+use Rattle.sdd_domain_invariant.specs.CellWordSteps.{ExchangesPointer}
 use Rattle.sdd_domain_invariant.specs.CellSteps.{FindsPointer}
 use Rattle.sdd_atomics.proofs.Pointers.{pointer_moved, may_exchange}
 use Rattle.sdd_atomics.proofs.steps.pointers.exchange_pointer.Goals as goal

@@ -1,5 +1,5 @@
 use Rattle.std.proofs.Common.{arith}
-use Rattle.sdd_word_invariant.specs.CellSteps.{LooksAtPointer}
+use Rattle.sdd_domain_invariant.specs.CellWordSteps.{LooksAtPointer}
 use Rattle.sdd_domain_invariant.specs.CellSteps.{FindsPointer}
 use Rattle.sdd_atomics.proofs.Pointers.{pointer_moved, may_look_at}
 use Rattle.sdd_atomics.proofs.steps.pointers.look_at_pointer.Goals as goal

@@ -1,5 +1,5 @@
 use Rattle.std.proofs.Common.{arith}
-use Rattle.sdd_word_invariant.specs.Codes.{raw_word}
+use Rattle.sdd_domain_invariant.specs.Codes.{raw_word}
 use Rattle.sdd_domain_invariant.specs.RawSteps.{SeesRawOne}
 use Rattle.sdd_atomics.proofs.Allowed.{moved_at, may_look_for_raw}
 use Rattle.sdd_atomics.proofs.steps.raw.look_for_raw.Goals as goal

@@ -1,5 +1,5 @@
 use Rattle.std.proofs.Common.{arith}
-use Rattle.sdd_word_invariant.specs.Codes.{owned_word, raw_word}
+use Rattle.sdd_domain_invariant.specs.Codes.{owned_word, raw_word}
 use Rattle.sdd_domain_invariant.specs.RawSteps.{RegainsOne}
 use Rattle.sdd_atomics.proofs.Allowed.{moved_at, may_regain}
 use Rattle.sdd_atomics.proofs.steps.raw.regain.Goals as goal

@@ -1,6 +1,6 @@
 use Rattle.std.proofs.Common.{arith}
 use Rattle.sdd_domain_invariant.specs.FractionSteps.{AddsSeen}
-use Rattle.sdd_word_invariant.proofs.Codes.{shared, counted_is}
+use Rattle.sdd_domain_invariant.proofs.Codes.{shared, counted_is}
 use Rattle.sdd_atomics.proofs.Allowed.{moved_at, may_add_seen}
 use Rattle.sdd_atomics.proofs.steps.slots.add_seen.Goals as goal
 

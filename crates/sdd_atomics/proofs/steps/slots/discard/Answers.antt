@@ -1,5 +1,5 @@
 use Rattle.std.proofs.Common.{arith}
-use Rattle.sdd_word_invariant.specs.Codes.{free_word}
+use Rattle.sdd_domain_invariant.specs.Codes.{free_word}
 use Rattle.sdd_domain_invariant.specs.FractionSteps.{DiscardsAll}
 use Rattle.sdd_atomics.proofs.Allowed.{moved_at, may_discard}
 use Rattle.sdd_atomics.proofs.steps.slots.discard.Goals as goal

@@ -1,5 +1,5 @@
 use Rattle.std.proofs.Common.{arith}
-use Rattle.sdd_word_invariant.specs.Codes.{free_word}
+use Rattle.sdd_domain_invariant.specs.Codes.{free_word}
 use Rattle.sdd_domain_invariant.specs.FractionSteps.{GivesAll}
 use Rattle.sdd_atomics.proofs.Allowed.{moved_at, may_give_back}
 use Rattle.sdd_atomics.proofs.steps.slots.give_back.Goals as goal

@@ -1,5 +1,5 @@
 use Rattle.std.proofs.Common.{arith}
-use Rattle.sdd_word_invariant.specs.SlotSteps.{TakesHold}
+use Rattle.sdd_domain_invariant.specs.SlotSteps.{TakesHold}
 use Rattle.sdd_atomics.proofs.Allowed.{taught_at, may_hold}
 use Rattle.sdd_atomics.proofs.steps.slots.hold.Goals as goal
 

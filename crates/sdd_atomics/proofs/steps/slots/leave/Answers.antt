@@ -1,5 +1,5 @@
 use Rattle.std.proofs.Common.{arith}
-use Rattle.sdd_word_invariant.proofs.Codes.{counted_is}
+use Rattle.sdd_domain_invariant.proofs.Codes.{counted_is}
 use Rattle.sdd_domain_invariant.specs.FractionSteps.{LeavesOne}
 use Rattle.sdd_atomics.proofs.Allowed.{moved_at, may_leave}
 use Rattle.sdd_atomics.proofs.steps.slots.leave.Goals as goal

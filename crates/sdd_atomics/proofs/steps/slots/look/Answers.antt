@@ -1,5 +1,5 @@
 use Rattle.std.proofs.Common.{arith}
-use Rattle.sdd_word_invariant.specs.SlotSteps.{LooksAtSlot}
+use Rattle.sdd_domain_invariant.specs.SlotSteps.{LooksAtSlot}
 use Rattle.sdd_atomics.proofs.Allowed.{taught_at, may_look}
 use Rattle.sdd_atomics.proofs.steps.slots.look.Goals as goal
 

@@ -1,7 +1,7 @@
 use Rattle.std.proofs.Common.{ℕ, ◌∙◌, sym, ap, arith, subst}
 use Rattle.sdd_rights.specs.declared.views.Sizes.{Sizes}
-use Rattle.sdd_word_invariant.specs.Words.{state_word}
-use Rattle.sdd_word_invariant.specs.SlotSteps.{LooksForGuard}
+use Rattle.sdd_domain_invariant.specs.Words.{state_word}
+use Rattle.sdd_domain_invariant.specs.SlotSteps.{LooksForGuard}
 use Rattle.sdd_atomics.specs.DomainSeat.{Taught}
 use Rattle.sdd_atomics.proofs.Allowed.{taught, may_look_for_guard}
 use Rattle.sdd_atomics.proofs.steps.slots.look_for_guard.Goals as goal

@@ -1,5 +1,5 @@
 use Rattle.std.proofs.Common.{arith}
-use Rattle.sdd_word_invariant.specs.Barred.{LooksForValue}
+use Rattle.sdd_domain_invariant.specs.Barred.{LooksForValue}
 use Rattle.sdd_atomics.proofs.Allowed.{taught, may_look_for_value}
 use Rattle.sdd_atomics.proofs.steps.slots.look_for_value.Goals as goal
 

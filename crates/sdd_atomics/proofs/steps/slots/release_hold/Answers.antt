@@ -1,5 +1,5 @@
 use Rattle.std.proofs.Common.{arith}
-use Rattle.sdd_word_invariant.specs.SlotSteps.{LetsGo}
+use Rattle.sdd_domain_invariant.specs.SlotSteps.{LetsGo}
 use Rattle.sdd_atomics.proofs.Allowed.{taught_at, may_let_go}
 use Rattle.sdd_atomics.proofs.steps.slots.release_hold.Goals as goal
 

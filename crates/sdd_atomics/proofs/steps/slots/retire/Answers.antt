@@ -1,5 +1,5 @@
 use Rattle.std.proofs.Common.{arith}
-use Rattle.sdd_word_invariant.specs.Codes.{waiting_word}
+use Rattle.sdd_domain_invariant.specs.Codes.{waiting_word}
 use Rattle.sdd_domain_invariant.specs.FractionSteps.{RetiresOne}
 use Rattle.sdd_atomics.proofs.Allowed.{moved_at, may_retire}
 use Rattle.sdd_atomics.proofs.steps.slots.retire.Goals as goal

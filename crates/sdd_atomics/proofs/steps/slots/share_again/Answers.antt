@@ -1,6 +1,6 @@
 use Rattle.std.proofs.Common.{arith}
-use Rattle.sdd_word_invariant.specs.Codes.{shared_word}
-use Rattle.sdd_word_invariant.specs.SlotSteps.{SharesAgain}
+use Rattle.sdd_domain_invariant.specs.Codes.{shared_word}
+use Rattle.sdd_domain_invariant.specs.SlotSteps.{SharesAgain}
 use Rattle.sdd_atomics.proofs.Allowed.{taught_at, may_share_again}
 use Rattle.sdd_atomics.proofs.steps.slots.share_again.Goals as goal
 

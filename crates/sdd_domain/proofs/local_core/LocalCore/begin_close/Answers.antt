@@ -10,8 +10,8 @@ use Rattle.sdd_rights.specs.Right.{raw_number_of}
 use Rattle.sdd_rights.specs.declared.views.CellKind.TheVariants.{Collector as of_closed}
 use Rattle.sdd_rights.specs.declared.views.Sizes.{Sizes}
 use Rattle.sdd_rights.specs.declared.views.View.{View}
-use Rattle.sdd_word_invariant.specs.Slots.{waits_in}
-use Rattle.sdd_word_invariant.proofs.Sums.{is_same, total_has}
+use Rattle.sdd_domain_invariant.specs.Slots.{waits_in}
+use Rattle.sdd_domain_invariant.proofs.Sums.{is_same, total_has}
 use Rattle.sdd_domain_slots.specs.BetweenCalls.{AreLentTo, IsBetweenCalls, IsReady}
 use Rattle.sdd_domain.specs.Collectors.{BeginsClose}
 use Rattle.sdd_domain_slots.specs.InBags.{AreInBags, known_waiting}

@@ -10,7 +10,7 @@ use Rattle.sdd_shared_values.specs.SharedValues.{IsValueCode}
 use Rattle.sdd_shared_values.specs.ValueFractions.{FractionContent}
 use Rattle.sdd_shared_values.specs.declared.value_fraction.ValueFraction.{ValueFraction}
 use Rattle.sdd_rights.specs.declared.views.View.{View}
-use Rattle.sdd_word_invariant.specs.SlotSteps.{behind, noted}
+use Rattle.sdd_domain_invariant.specs.SlotSteps.{behind, noted}
 use Rattle.sdd_domain_slots.specs.Items.{slots_home}
 use Rattle.sdd_domain_slots.specs.LocalState.{AddsAt, HasMost, IsLone, KnowsOwner, LocalState}
 use Rattle.sdd_domain.proofs.Cloned.{counts_most, counts_fewer, full_view, full_same, came_knows, came_place, came_rests, came_told, came_free, unit_is, drawn_view, drawn_home, drawn_owns, drawn_rests, left_view, other_shows, other_grip}

@@ -4,8 +4,8 @@ use Rattle.sdd_rights.specs.Right.{kind_of, number_of}
 use Rattle.sdd_rights.specs.StandingKind.{is_shared}
 use Rattle.sdd_rights.specs.declared.views.View.{View}
 use Rattle.sdd_rights.specs.declared.views.WaitingItem.{WaitingItem}
-use Rattle.sdd_word_invariant.specs.CollectorSteps.{HasWaiting}
-use Rattle.sdd_word_invariant.specs.SlotSteps.{retired_now}
+use Rattle.sdd_domain_invariant.specs.CollectorWordSteps.{HasWaiting}
+use Rattle.sdd_domain_invariant.specs.SlotSteps.{retired_now}
 use Rattle.sdd_atomics.specs.DomainTable.{sizes_of, slots_of}
 use Rattle.sdd_domain_slots.specs.BetweenCalls.{AreLentTo}
 use Rattle.sdd_domain.specs.Collectors.{CollectsAt}

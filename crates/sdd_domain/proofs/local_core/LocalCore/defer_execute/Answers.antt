@@ -7,9 +7,9 @@ use Rattle.sdd_participants.specs.EpochState.{awaiting, with_garbage}
 use Rattle.sdd_rights.specs.declared.views.WaitingItem.{WaitingItem}
 use Rattle.sdd_rights.specs.declared.views.View.{View}
 use Rattle.sdd_rights.specs.declared.views.Sizes.{Sizes}
-use Rattle.sdd_word_invariant.specs.Sums.{total}
-use Rattle.sdd_word_invariant.specs.Slots.{waits_in}
-use Rattle.sdd_word_invariant.specs.SlotSteps.{retired_now, DefersAt}
+use Rattle.sdd_domain_invariant.specs.Sums.{total}
+use Rattle.sdd_domain_invariant.specs.Slots.{waits_in}
+use Rattle.sdd_domain_invariant.specs.SlotSteps.{retired_now, DefersAt}
 use Rattle.sdd_atomics.specs.DomainTable.{most_waiting_of, sizes_of, slots_of}
 use Rattle.sdd_domain_slots.specs.LocalState.{LocalState, DefersTo}
 use Rattle.sdd_domain_slots.specs.BetweenCalls.{IsBetweenCalls, AreLentTo, IsTenureOf, IsReady}

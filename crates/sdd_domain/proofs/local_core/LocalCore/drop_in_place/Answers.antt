@@ -12,8 +12,8 @@ use Rattle.sdd_shared_values.specs.SharedValues.{showing}
 use Rattle.sdd_shared_values.specs.declared.value_fraction.ValueFraction.{ValueFraction}
 use Rattle.sdd_space.specs.OwnerOrCell.{AreOf}
 use Rattle.sdd_rights.specs.declared.views.View.{View}
-use Rattle.sdd_word_invariant.specs.Epoch.{IsLone as IsLoneAt}
-use Rattle.sdd_word_invariant.specs.SlotSteps.{noted}
+use Rattle.sdd_domain_invariant.specs.Epoch.{IsLone as IsLoneAt}
+use Rattle.sdd_domain_invariant.specs.SlotSteps.{noted}
 use Rattle.sdd_atomics.specs.DomainTable.{id_of, book_of, slots_of}
 use Rattle.sdd_atomics.specs.DomainSeat.{epoch}
 use Rattle.sdd_domain_slots.specs.BetweenCalls.{AreLentTo, IsReady}

@@ -4,7 +4,7 @@ use Rattle.sdd_domain_invariant.specs.CellSteps.{rightless}
 use Rattle.sdd_domain_invariant.specs.FractionSteps.{SeatState}
 use Rattle.sdd_rights.specs.declared.views.CellKind.TheVariants.{Collector as of_closed}
 use Rattle.sdd_rights.specs.declared.views.View.{View}
-use Rattle.sdd_word_invariant.specs.CollectorSteps.{closed_none}
+use Rattle.sdd_domain_invariant.specs.CollectorWordSteps.{closed_none}
 use Rattle.sdd_domain_slots.specs.BetweenCalls.{AreLentTo, IsReady}
 use Rattle.sdd_domain_slots.specs.InBags.{known_waiting}
 use Rattle.sdd_domain_slots.specs.LocalState.{LocalState}

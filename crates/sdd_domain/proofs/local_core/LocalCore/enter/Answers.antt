@@ -3,8 +3,8 @@ use Rattle.sdd_participants.specs.EpochState.{nested, settled}
 use Rattle.sdd_participants.specs.declared.participant.Participant.{Participant}
 use Rattle.sdd_participants.specs.declared.waiting.LimboEntry.{LimboEntry}
 use Rattle.sdd_rights.specs.declared.views.Sizes.{Sizes}
-use Rattle.sdd_word_invariant.specs.Sums.{total}
-use Rattle.sdd_word_invariant.specs.Slots.{waits_in}
+use Rattle.sdd_domain_invariant.specs.Sums.{total}
+use Rattle.sdd_domain_invariant.specs.Slots.{waits_in}
 use Rattle.sdd_atomics.specs.DomainTable.{sizes_of, slots_of}
 use Rattle.sdd_domain.proofs.JobTables.{still_jobs}
 use Rattle.sdd_rights.specs.declared.views.SlotsView.{SlotsView}

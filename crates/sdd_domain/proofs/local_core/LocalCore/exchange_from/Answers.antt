@@ -1,6 +1,6 @@
 use Rattle.std.proofs.Common.{rules, Bool, sym, ◌∙◌}
 use Rattle.sdd_rights.specs.StandingKind.{is_shared}
-use Rattle.sdd_word_invariant.specs.Codes.{held_slots}
+use Rattle.sdd_domain_invariant.specs.Codes.{held_slots}
 use Rattle.sdd_standings.specs.Cells.{slot_held}
 use Rattle.sdd_domain_slots.proofs.HeldOwners.{cell_views, same_bound, word_bound, listed_first}
 use Rattle.sdd_domain.proofs.local_core.LocalCore.exchange_from.Goals as goal

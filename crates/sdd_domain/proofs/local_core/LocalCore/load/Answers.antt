@@ -9,7 +9,7 @@ use Rattle.sdd_shared_values.specs.SharedValues.{CanShow, showing}
 use Rattle.sdd_shared_values.specs.declared.value_fraction.ValueFraction.{ValueFraction}
 use Rattle.sdd_rights.specs.declared.views.View.{View}
 use Rattle.sdd_rights.specs.declared.views.Sizes.{Sizes}
-use Rattle.sdd_word_invariant.specs.Codes.{held_slots}
+use Rattle.sdd_domain_invariant.specs.Codes.{held_slots}
 use Rattle.sdd_domain_invariant.specs.FractionSteps.{SeesOwned}
 use Rattle.sdd_domain_invariant.specs.CellSteps.{SeesInCell}
 use Rattle.sdd_domain_invariant.proofs.Records.{in_times}

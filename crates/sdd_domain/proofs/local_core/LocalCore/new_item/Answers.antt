@@ -12,8 +12,8 @@ use Rattle.sdd_atomics.specs.DomainTable.{book_of, places_of}
 use Rattle.sdd_domain_slots.specs.BetweenCalls.{AreLentTo, IsReady}
 use Rattle.sdd_domain_slots.specs.InBags.{known_waiting}
 use Rattle.sdd_domain_slots.specs.Receipt.{IsTallied}
-use Rattle.sdd_word_invariant.specs.Codes.{alive, counted}
-use Rattle.sdd_word_invariant.proofs.Codes.{claimed_is}
+use Rattle.sdd_domain_invariant.specs.Codes.{alive, counted}
+use Rattle.sdd_domain_invariant.proofs.Codes.{claimed_is}
 use Rattle.sdd_domain.proofs.Words.{claimed_kind}
 use Rattle.sdd_domain_slots.proofs.Moving.{row_out}
 use Rattle.sdd_domain_slots.proofs.Posing.{posed_makes, made_view}

@@ -4,7 +4,7 @@ use base.Stored.{Gv}
 use Rattle.sdd_rights.specs.declared.views.Sizes.{Sizes}
 use Rattle.sdd_rights.specs.Right.{home_of_table}
 use Rattle.sdd_rights.specs.declared.right.StandingKind.TheVariants as kinds
-use Rattle.sdd_word_invariant.specs.Epoch.{IsLone}
+use Rattle.sdd_domain_invariant.specs.Epoch.{IsLone}
 use Rattle.sdd_domain_invariant.specs.Records.{IsIn}
 use Rattle.sdd_domain_slots.specs.Cells.{board_home}
 use Rattle.sdd_domain_slots.specs.Items.{IsRightTo, slots_home}

@@ -4,17 +4,17 @@ use Rattle.sdd_participants.specs.declared.waiting.LimboEntry.TheVariants.{Item}
 use Rattle.sdd_participants.specs.declared.tally.Tally.{Tally}
 use Rattle.sdd_participants.specs.Tally.{one_reclaimed}
 use Rattle.sdd_rights.specs.declared.views.Sizes.{Sizes}
-use Rattle.sdd_word_invariant.specs.Sums.{total}
-use Rattle.sdd_word_invariant.specs.Slots.{waits_in}
-use Rattle.sdd_word_invariant.proofs.Owning.{item_kept}
+use Rattle.sdd_domain_invariant.specs.Sums.{total}
+use Rattle.sdd_domain_invariant.specs.Slots.{waits_in}
+use Rattle.sdd_domain_invariant.proofs.Owning.{item_kept}
 use Rattle.sdd_atomics.specs.DomainTable.{sizes_of, slots_of}
 use Rattle.sdd_rights.specs.declared.views.View.{View}
 use Rattle.sdd_space.specs.OwnerOrCell.{AreOf}
 use Rattle.sdd_domain_slots.specs.SpaceIds.{home_in}
 use Rattle.sdd_domain_slots.specs.LocalState.{LocalState}
-use Rattle.sdd_word_invariant.specs.Codes.{free_word}
-use Rattle.sdd_word_invariant.specs.CollectorSteps.{without_private}
-use Rattle.sdd_word_invariant.specs.SlotSteps.{behind, without_item}
+use Rattle.sdd_domain_invariant.specs.Codes.{free_word}
+use Rattle.sdd_domain_invariant.specs.CollectorWordSteps.{without_private}
+use Rattle.sdd_domain_invariant.specs.SlotSteps.{behind, without_item}
 use Rattle.sdd_domain_invariant.specs.FilledInvariant.{newest}
 use Rattle.sdd_participants.specs.Slab.{without_entry}
 use Rattle.sdd_participants.specs.declared.waiting.LimboEntry.{LimboEntry}

@@ -4,8 +4,8 @@ use Rattle.std.proofs.lemmas.List.{length-replicate}
 use Rattle.std.specs.Prelude.{Option, IsSome}
 use Rattle.sdd_rights.specs.declared.views.WaitingItem.{WaitingItem}
 use Rattle.sdd_rights.specs.declared.views.Sizes.{Sizes}
-use Rattle.sdd_word_invariant.specs.Sums.{total}
-use Rattle.sdd_word_invariant.specs.Slots.{waits_in}
+use Rattle.sdd_domain_invariant.specs.Sums.{total}
+use Rattle.sdd_domain_invariant.specs.Slots.{waits_in}
 use Rattle.sdd_space.proofs.Accounts.{blank-at}
 use Rattle.sdd_atomics.specs.DomainTable.{slots_of}
 use Rattle.sdd_domain_slots.proofs.InBags.{nothing_there}

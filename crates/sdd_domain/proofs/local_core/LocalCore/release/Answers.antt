@@ -1,11 +1,11 @@
 use lib.ListN.{get_elem?}
 use mathlib.Core.Option.{some}
 use Rattle.std.proofs.Common.{List, [], ◌∷◌, ◌≡◌, ℕ, ◌+◌, ◌<◌, rules, refl, sym, ap, ◌∙◌, subst, arith}
-use Rattle.sdd_word_invariant.specs.Collectors.{privates_at}
-use Rattle.sdd_word_invariant.specs.Sums.{total}
-use Rattle.sdd_word_invariant.specs.Slots.{items_at, waits_in}
-use Rattle.sdd_word_invariant.specs.SlotSteps.{retired_now}
-use Rattle.sdd_word_invariant.proofs.Sums.{is_other, total_snoc}
+use Rattle.sdd_domain_invariant.specs.Collectors.{privates_at}
+use Rattle.sdd_domain_invariant.specs.Sums.{total}
+use Rattle.sdd_domain_invariant.specs.Slots.{items_at, waits_in}
+use Rattle.sdd_domain_invariant.specs.SlotSteps.{Knew, retired_now}
+use Rattle.sdd_domain_invariant.proofs.Sums.{is_other, total_snoc}
 use Rattle.sdd_domain.proofs.JobTables.{still_jobs}
 use Rattle.sdd_rights.specs.Owner.{witness_of_owner}
 use Rattle.sdd_atomics.specs.DomainTable.{id_of, most_waiting_of, sizes_of, slots_of}
@@ -27,8 +27,7 @@ use Rattle.sdd_shared_values.specs.declared.value_fraction.ValueFraction.{ValueF
 use Rattle.sdd_domain_invariant.specs.FractionSteps.{regained}
 use Rattle.sdd_rights.specs.StandingKind.{is_shared}
 use Rattle.sdd_rights.specs.Right.{number_of, kind_of}
-use Rattle.sdd_word_invariant.specs.Codes.{claimed_word, retired_word}
-use Rattle.sdd_word_invariant.specs.SlotSteps.{Knew}
+use Rattle.sdd_domain_invariant.specs.Codes.{claimed_word, retired_word}
 use Rattle.sdd_atomics.specs.DomainSeat.{Taught, Moved, MovedAlone}
 use Rattle.sdd_domain_slots.specs.Values.{LetsWait, LeavesOthers, LetsOneGo}
 use Rattle.std.specs.Prelude.{Bool, true}

@@ -5,9 +5,9 @@ use Rattle.sdd_participants.specs.declared.waiting.LimboEntry.TheVariants.{Job}
 use Rattle.sdd_rights.specs.declared.views.WaitingItem.{WaitingItem}
 use Rattle.sdd_rights.specs.declared.views.View.{View}
 use Rattle.sdd_rights.specs.declared.views.Sizes.{Sizes}
-use Rattle.sdd_word_invariant.specs.Sums.{total}
-use Rattle.sdd_word_invariant.specs.Slots.{waits_in}
-use Rattle.sdd_word_invariant.specs.SlotSteps.{IsDue}
+use Rattle.sdd_domain_invariant.specs.Sums.{total}
+use Rattle.sdd_domain_invariant.specs.Slots.{waits_in}
+use Rattle.sdd_domain_invariant.specs.SlotSteps.{IsDue}
 use Rattle.sdd_domain_invariant.specs.FractionSteps.{GivesPlace}
 use Rattle.sdd_atomics.specs.DomainSeat.{Moved}
 use Rattle.sdd_atomics.specs.DomainTable.{sizes_of, slots_of}

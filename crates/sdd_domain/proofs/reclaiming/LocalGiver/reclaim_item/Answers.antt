@@ -1,9 +1,9 @@
 use Rattle.std.proofs.Common.{◌≡◌, [], sym, refl, ap, ◌∙◌, ⊎_elim, arith}
 use Rattle.sdd_participants.specs.declared.waiting.LimboEntry.TheVariants.{Item}
 use Rattle.sdd_space.specs.WorldChanges.{given_all, reclaimed}
-use Rattle.sdd_word_invariant.specs.Collectors.{private_in}
-use Rattle.sdd_word_invariant.specs.CollectorSteps.{without_private}
-use Rattle.sdd_word_invariant.specs.Sums.{total}
+use Rattle.sdd_domain_invariant.specs.Collectors.{private_in}
+use Rattle.sdd_domain_invariant.specs.CollectorWordSteps.{without_private}
+use Rattle.sdd_domain_invariant.specs.Sums.{total}
 use Rattle.sdd_domain_slots.specs.Receipt.{with_reclaimed}
 use Rattle.sdd_domain_slots.specs.Local.{LocalModel, world_of}
 use Rattle.sdd_domain_slots.specs.LocalState.{LocalState, IsLone}

@@ -4,7 +4,7 @@ use Rattle.sdd_participants.specs.declared.standing.CellContents.{CellContents}
 use Rattle.sdd_rights.specs.Right.{number_of}
 use Rattle.sdd_standings.specs.Cells.{slot_held}
 use Rattle.sdd_shared_values.specs.SharedValues.{showing}
-use Rattle.sdd_word_invariant.specs.Codes.{held_slots}
+use Rattle.sdd_domain_invariant.specs.Codes.{held_slots}
 use Rattle.sdd_domain_slots.specs.Local.{LocalModel, contents_of}
 use Rattle.sdd_domain.specs.Sound.{IsSound}
 use Rattle.sdd_domain.proofs.Partners.{same_partner}
