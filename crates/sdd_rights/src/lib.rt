@@ -20,6 +20,8 @@
 //! slot shows and whether its owner is one of several, and a [`ReadFraction`], one unit of the number of the value's place, by which the owner looks at the
 //! value ([`Right::of_witness`]).
 //!
+//! What a witness and a participant know of a domain is a record of [`views`].
+//!
 //! No type here names the type of the values, since a value may have owners within it: only `shown` ties a part to a value, and `Fraction::same` turns
 //! two equal codes into two equal values.
 #![tactic(auto)]
