@@ -1,43 +1,28 @@
 -- What the acts of a script share: what is left in hand is sound, and is what a call means
-use Rattle.std.proofs.Common.{◌≡◌, ℕ, ◌+◌, [], ◌∷◌, ◌++◌, Option, Some, None, IsSome, map, length, slice_index_or, slice_set, refl, sym, ap, ◌∙◌, subst, lt-ltb, arith}
-use Rattle.std.specs.Prelude.{IsTrue, replicate}
-use Rattle.std.specs.Option.{option_map}
-use Rattle.std.specs.Global.{Vec}
-use Rattle.std.proofs.Math.ListN.{get_or-map}
-use Rattle.std.proofs.lemmas.List.{map-set, map_push}
+use Rattle.sdd_interpreter.proofs.Words.{◌≡◌, ℕ, ◌+◌, [], ◌∷◌, ◌++◌, Option, Some, None, IsSome, map, length, slice_index_or, slice_set, refl, sym, ap, ◌∙◌, subst, arith, IsTrue, option_map, Vec, get_or-map, map-set, map_push, IsSharedBy, Shared, with_standing, World, standing_at, index_of, PlaceName, Val, AnyOwner, Share, NamedParticipant, NamedGuard, Environment, ScriptState, OpenSince, opening_at, holding_at, place_in, since_in, since_of, Acts, IsParticipant, CanPointTo, attending, guarding, owner_holding, cell_holding, collector_holding, newest_holding, oldest_holding, stack_holding, desk_of, IsTied}
+use Rattle.std.proofs.Common.{lt-ltb}
+use Rattle.std.specs.Prelude.{replicate}
 use Rattle.sdd_participants.specs.EpochState as time
 use Rattle.sdd_participants.specs.EpochState.{is_open}
 use Rattle.sdd_participants.specs.declared.standing.Standing.TheVariants as standing
-use Rattle.sdd_standings.specs.Slots.{IsSharedBy}
-use Rattle.sdd_space.specs.declared.shared.Shared.{Shared}
 use Rattle.sdd_space.specs.OwnerOrCell as holding
-use Rattle.sdd_space.specs.WorldChanges.{deferred, with_standing}
+use Rattle.sdd_space.specs.WorldChanges.{deferred}
 use Rattle.sdd_space.specs.UnderGuards.{CannotGo}
 use Rattle.sdd_space.specs.WorldInvariant.{IsWhole}
 use Rattle.sdd_core.specs.declared.limits.Limits.{Limits}
 use Rattle.sdd_core.specs.Limits.{AreInRange}
-use Rattle.sdd_space.specs.World.{World, IsNew, IsPlaceOf, standing_at}
+use Rattle.sdd_space.specs.World.{IsNew, IsPlaceOf}
 use Rattle.sdd_space.specs.Shared as shared
-use Rattle.sdd_world.specs.Place.{index_of}
-use Rattle.sdd_script_text.specs.declared.name.PlaceName.{PlaceName}
 use Rattle.sdd_script_text.specs.declared.call.Call.{Call}
 use Rattle.sdd_script_text.specs.declared.answer.Reply.{Reply}
-use Rattle.sdd_script_model.specs.Val.{Val}
-use Rattle.sdd_interpreter.specs.declared.holding.AnyOwner.{AnyOwner}
-use Rattle.sdd_interpreter.specs.declared.holding.AnyOwner.TheVariants.{Share}
 use Rattle.sdd_interpreter.specs.declared.name_table.NameTable.{NameTable}
-use Rattle.sdd_interpreter.specs.declared.participants.NamedParticipant.{NamedParticipant}
-use Rattle.sdd_interpreter.specs.declared.participants.NamedGuard.{NamedGuard}
-use Rattle.sdd_interpreter.specs.declared.interpreter.Environment.{Environment}
-use Rattle.sdd_script_model.specs.ScriptState.{ScriptState, OpenSince, opening_at, holding_at, place_in, since_in, place_of, since_of, slot_at, in_world, with_owner}
-use Rattle.sdd_script_model.specs.Script.{Acts, Answers, IsReclaimed, IsRunBy, Meets, HasOpen, IsParticipant, CanPointTo}
+use Rattle.sdd_script_model.specs.ScriptState.{place_of, slot_at, in_world, with_owner}
+use Rattle.sdd_script_model.specs.Script.{Answers, IsReclaimed, IsRunBy, Meets, HasOpen}
 use Rattle.sdd_script_model.specs.Script as script
 use Rattle.sdd_script_model.specs.Script.AreCalls.{none as no_call}
 use Rattle.sdd_script_model.specs.Bags.{IsStored}
 use Rattle.sdd_script_model.specs.Sound.{IsSound}
-use Rattle.sdd_interpreter.specs.Environment.{attending, guarding}
-use Rattle.sdd_interpreter.specs.Owners.{owner_holding, cell_holding, collector_holding, newest_holding, oldest_holding, stack_holding}
-use Rattle.sdd_interpreter.specs.Interpreter.{desk_of, IsTied, GuardsIn}
+use Rattle.sdd_interpreter.specs.Interpreter.{GuardsIn}
 use Rattle.sdd_script_model.proofs.Dates.{dated-same}
 use Rattle.sdd_script_model.proofs.Chains.{LeavesSound}
 use Rattle.sdd_script_model.proofs.Going.{open-guard, can-point, shared-leaves, sound-start}

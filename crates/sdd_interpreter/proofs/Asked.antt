@@ -1,30 +1,17 @@
 -- What a push and a pop answer that ask whether an entry is a number, as a step says it
-use Rattle.std.proofs.Common.{◌≡◌, ◌⊎◌, inl, inr, ℕ, List, ◌∷◌, Bool, true, false, Option, Some, None, is_some, refl, sym, subst}
-use Rattle.std.proofs.lemmas.Bool.{false≢true}
-use Rattle.std.specs.Prelude.{◌↔◌, IfSome, IsTrue, MatchResult, Result, Ok, Err}
-use Rattle.std.specs.Borrow.{Bor}
-use Rattle.sdd_core.specs.declared.refused.Refused.{Refused}
-use Rattle.sdd_core.specs.declared.refused.Refused.TheVariants.{NoSlot, NoCell}
+use Rattle.sdd_interpreter.proofs.Words.{◌≡◌, ◌⊎◌, inl, inr, ℕ, List, ◌∷◌, Bool, true, false, Option, Some, None, is_some, refl, sym, subst, false≢true, IsTrue, Result, Ok, Err, Bor, Refused, NoSlot, NoCell, IsOfSlots, World, Shared, Entry, first_value, left, cells_in, Queue, Stack, HasNumber, RefusesEntry, Val, Body, PushesIf, AnyList}
+use Rattle.std.specs.Prelude.{◌↔◌, IfSome, MatchResult}
 use Rattle.sdd_participants.specs.Slab.{IsFull}
 use Rattle.sdd_rights.specs.Units as token
-use Rattle.sdd_space.specs.Shared.{IsOfSlots, slots_home}
-use Rattle.sdd_space.specs.World.{World}
-use Rattle.sdd_space.specs.declared.shared.Shared.{Shared}
+use Rattle.sdd_space.specs.Shared.{slots_home}
 use Rattle.sdd_lists.specs.Asking.{kept_by}
 use Rattle.sdd_lists.specs.Ends.{last_value}
-use Rattle.sdd_lists.specs.Lists.{Entry, IsKept, first_value, left}
-use Rattle.sdd_lists.specs.Queue.{DequeuesIf, cells_in}
+use Rattle.sdd_lists.specs.Lists.{IsKept}
+use Rattle.sdd_lists.specs.Queue.{DequeuesIf}
 use Rattle.sdd_lists.specs.Stack as stacks
-use Rattle.sdd_lists.specs.declared.queue.Queue.{Queue}
-use Rattle.sdd_lists.specs.declared.stack.Stack.{Stack}
 use Rattle.sdd_lists.specs.declared.unpopped.Unpopped.{Unpopped}
 use Rattle.sdd_lists.specs.declared.unpopped.Unpopped.TheVariants.{Kept, Refused as RefusedBy}
-use Rattle.sdd_script_model.specs.Containers.{HasNumber}
-use Rattle.sdd_script_model.specs.Stacks.{RefusesEntry}
-use Rattle.sdd_script_model.specs.Val.{Val}
-use Rattle.sdd_script_model.specs.declared.val.Body.{Body}
-use Rattle.sdd_interpreter.specs.Containers.{PopsIf, PushesIf}
-use Rattle.sdd_interpreter.specs.declared.holding.AnyList.{AnyList}
+use Rattle.sdd_interpreter.specs.Containers.{PopsIf}
 use Rattle.sdd_interpreter.specs.declared.holding.AnyList.TheVariants as any
 use Rattle.sdd_interpreter.proofs.Popped.{pops-newest, pops-oldest}
 

@@ -1,16 +1,8 @@
 -- What a name of a collector stands for
-use Rattle.std.proofs.Common.{◌≡◌, ℕ, Option, Some, None, map, slice_index_or, slice_set, sym, ap, ◌∙◌}
-use Rattle.std.specs.Option.{option_map}
-use Rattle.std.specs.Global.{Vec}
-use Rattle.std.proofs.Math.ListN.{get_or-map}
-use Rattle.std.proofs.lemmas.List.{map-set}
+use Rattle.sdd_interpreter.proofs.Words.{◌≡◌, ℕ, Option, Some, None, map, slice_index_or, slice_set, sym, ap, ◌∙◌, option_map, Vec, get_or-map, map-set, Val, ScriptState, holding_at, collector_holding, Environment, IsTied, desk_of}
 use Rattle.sdd_space.specs.declared.private_collector.PrivateCollector.{PrivateCollector}
 use Rattle.sdd_space.specs.Collector as collector
-use Rattle.sdd_script_model.specs.Val.{Val}
-use Rattle.sdd_script_model.specs.ScriptState.{ScriptState, collector_of, holding_at}
-use Rattle.sdd_interpreter.specs.Owners.{collector_holding}
-use Rattle.sdd_interpreter.specs.declared.interpreter.Environment.{Environment}
-use Rattle.sdd_interpreter.specs.Interpreter.{IsTied, desk_of}
+use Rattle.sdd_script_model.specs.ScriptState.{collector_of}
 
 module _ (h : Environment) (t : IsTied h) where
   abbrev d : ScriptState

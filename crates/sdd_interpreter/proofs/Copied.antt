@@ -1,29 +1,16 @@
 -- What a clone of a queue or a stack of numbers is
-use Rattle.std.proofs.Common.{◌≡◌, ◌⊎◌, ◌≤◌, inl, inr, ℕ, length, append_assoc, arith, List, [], ◌∷◌, ◌++◌, None, Option, Some, refl, sym, ap, ◌∙◌, append-nil, subst}
-use Rattle.std.specs.Prelude.{Err, Ok}
+use Rattle.sdd_interpreter.proofs.Words.{◌≡◌, ◌⊎◌, ◌≤◌, inl, inr, ℕ, length, append_assoc, arith, List, [], ◌∷◌, ◌++◌, None, Option, Some, refl, sym, ap, ◌∙◌, subst, Err, Ok, length-append, length-map, Refused, NoCell, NoSlot, entry_at, CellContents, OwnerOrCell, SpaceId, PtrIsShown, shown_by, slot_named, Ptr, World, value_at, held_in, nulled, AreLinked, Entry, first_slot, queue_closed, shown_of, Body, entry_slots, AreNumbers, IsNumber, RefusesEntry, stack_closed, Val, body_of, holdings_of, link_holding, link_of, owner_in}
+use Rattle.std.proofs.Common.{append-nil}
 use Rattle.std.specs.List.{AllZip}
-use Rattle.std.proofs.lemmas.List.{length-append, length-map}
-use Rattle.sdd_core.specs.declared.refused.Refused.{Refused}
-use Rattle.sdd_core.specs.declared.refused.Refused.TheVariants.{NoCell, NoSlot}
-use Rattle.sdd_participants.specs.Slab.{entry_at}
-use Rattle.sdd_participants.specs.declared.standing.CellContents.{CellContents}
-use Rattle.sdd_space.specs.OwnerOrCell.{AreOf, OwnerOrCell, SpaceId}
-use Rattle.sdd_space.specs.Ptr.{PtrIsShown, cell_seen, shown_by, slot_named}
-use Rattle.sdd_space.specs.declared.ptr.Ptr.{Ptr}
-use Rattle.sdd_space.specs.World.{World, value_at}
-use Rattle.sdd_space.specs.WorldChanges.{held_in, nulled}
+use Rattle.sdd_space.specs.OwnerOrCell.{AreOf}
+use Rattle.sdd_space.specs.Ptr.{cell_seen}
 use Rattle.sdd_lists.specs.Cloning.{ClonesQueue, RefusesClone}
 use Rattle.sdd_lists.specs.Filling.{RefusesPush}
-use Rattle.sdd_lists.specs.Lists.{AreLinked, Entry, first_slot}
-use Rattle.sdd_lists.specs.Queue.{QueueCells, queue_closed}
+use Rattle.sdd_lists.specs.Queue.{QueueCells}
 use Rattle.sdd_lists.specs.QueueFilling.{FillsQueue}
 use Rattle.sdd_lists.specs.StackCloning.{ClonesStack, ExtendsStack}
-use Rattle.sdd_lists.specs.Walk.{shown_of}
-use Rattle.sdd_script_model.specs.declared.val.Body.{Body}
-use Rattle.sdd_script_model.specs.Copies.{MakesQueueOf, MakesStackOf, entry_slots}
-use Rattle.sdd_script_model.specs.Listed.{AreNumbers, IsNumber}
-use Rattle.sdd_script_model.specs.Stacks.{RefusesEntry, stack_closed}
-use Rattle.sdd_script_model.specs.Val.{Val, body_of, holdings_of, link_holding, link_home, link_of, owner_in}
+use Rattle.sdd_script_model.specs.Copies.{MakesQueueOf, MakesStackOf}
+use Rattle.sdd_script_model.specs.Val.{link_home}
 use Rattle.sdd_script_model.proofs.Copying.{shown-numbers}
 use Rattle.sdd_script_model.proofs.Filling.{AreAllNumbers}
 use Rattle.sdd_interpreter.proofs.Shown.{points-first}

@@ -1,12 +1,7 @@
 -- That no guard of a participant has a name
-use Rattle.std.proofs.Common.{◌≡◌, ◌≢◌, ℕ, List, Option, Some, None, map, slice_index_or, refl, sym, ap, ◌∙◌, subst}
-use Rattle.std.proofs.Math.ListN.{get_or-map}
-use Rattle.sdd_world.specs.Place.{index_of}
-use Rattle.sdd_script_model.specs.ScriptState.{opening_at, place_in}
+use Rattle.sdd_interpreter.proofs.Words.{◌≡◌, ◌≢◌, ℕ, List, Option, Some, None, map, slice_index_or, refl, sym, ap, ◌∙◌, subst, get_or-map, index_of, opening_at, place_in, NamedParticipant, NamedGuard, attending, guarding}
 use Rattle.sdd_script_model.specs.Script.{IsOf}
-use Rattle.sdd_interpreter.specs.declared.participants.NamedParticipant.{NamedParticipant}
-use Rattle.sdd_interpreter.specs.declared.participants.NamedGuard.{NamedGuard}
-use Rattle.sdd_interpreter.specs.Environment.{AreOpen, attending, guarding}
+use Rattle.sdd_interpreter.specs.Environment.{AreOpen}
 
 pub none-open : (places : List (Option NamedParticipant)) (guards : List (Option NamedGuard)) (n : ℕ) (a : NamedParticipant) →
     Some a ≡ slice_index_or places n None →

@@ -1,16 +1,10 @@
 -- What values hold owners of has a name
-use Rattle.std.proofs.Common.{◌≡◌, ℕ, ◌+◌, ◌≤◌, [], ◌∷◌, None, Some, IsSome, count_by, slice_index_or, refl, ap, ◌∙◌, eq-eqb, arith}
+use Rattle.sdd_interpreter.proofs.Words.{◌≡◌, ℕ, ◌+◌, ◌≤◌, [], ◌∷◌, None, Some, IsSome, slice_index_or, refl, ap, ◌∙◌, arith, OwnerOrCell, value_at, Body, Val, body_of, holdings_of, owner_in, slot_of, Environment, desk_of, IsTied}
+use Rattle.std.proofs.Common.{count_by, eq-eqb}
 use Rattle.std.specs.Prelude.{◌==◌}
 use Rattle.sdd_space.specs.Owned as owned
 use Rattle.sdd_space.specs.Shared as shared
-use Rattle.sdd_space.specs.OwnerOrCell.{OwnerOrCell}
-use Rattle.sdd_space.specs.World.{value_at}
-use Rattle.sdd_script_model.specs.declared.val.Body.{Body}
-use Rattle.sdd_script_model.specs.Val.{Val, body_of, holdings_of, owner_in}
 use Rattle.sdd_script_model.specs.declared.val.Body.TheVariants as body
-use Rattle.sdd_script_model.specs.ScriptState.{slot_of}
-use Rattle.sdd_interpreter.specs.declared.interpreter.Environment.{Environment}
-use Rattle.sdd_interpreter.specs.Interpreter.{desk_of, IsTied}
 use Rattle.sdd_interpreter.specs.Environment.{IsOfNamed}
 use Rattle.sdd_space.specs.OwnerCounts.{is_owner_of, times_held}
 use Rattle.sdd_space.proofs.Whole.{count-cons, one_where}

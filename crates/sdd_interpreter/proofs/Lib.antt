@@ -1,3 +1,4 @@
+pub mod Words
 pub mod Out
 pub mod Peeked
 pub mod Dropping

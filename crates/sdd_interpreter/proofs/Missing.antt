@@ -1,24 +1,10 @@
 -- What is not there: the lines that are invalid
-use Rattle.std.proofs.Common.{◌≡◌, ◌≢◌, ℕ, Option, Some, None, slice_index_or, refl, sym, ap, ◌∙◌}
-use Rattle.std.specs.Option.{option_map}
-use Rattle.std.proofs.Math.ListN.{get_or-map}
-use Rattle.std.proofs.lemmas.Bool.{false≢true}
-use Rattle.sdd_space.specs.declared.owned.Owned.{Owned}
-use Rattle.sdd_space.specs.declared.shared.Shared.{Shared}
-use Rattle.sdd_script_text.specs.declared.name.PlaceName.{PlaceName}
+use Rattle.sdd_interpreter.proofs.Words.{◌≡◌, ◌≢◌, ℕ, Option, Some, None, slice_index_or, refl, sym, ap, ◌∙◌, option_map, get_or-map, false≢true, Owned, Shared, PlaceName, Val, AnyOwner, Sole, Share, Environment, NamedParticipant, ScriptState, opening_at, holding_at, since_of, since_in, Acts, IsParticipant, CanPointTo, attending, owner_holding, cell_holding, desk_of}
 use Rattle.sdd_script_text.specs.declared.call.Call.TheVariants.{At}
 use Rattle.sdd_script_text.specs.declared.call.Action.{Action}
 use Rattle.sdd_script_text.specs.declared.answer.Reply.TheVariants as reply
-use Rattle.sdd_script_model.specs.Val.{Val}
-use Rattle.sdd_interpreter.specs.declared.holding.AnyOwner.{AnyOwner}
-use Rattle.sdd_interpreter.specs.declared.holding.AnyOwner.TheVariants.{Sole, Share}
-use Rattle.sdd_interpreter.specs.declared.interpreter.Environment.{Environment}
-use Rattle.sdd_interpreter.specs.declared.participants.NamedParticipant.{NamedParticipant}
-use Rattle.sdd_script_model.specs.ScriptState.{ScriptState, opening_at, holding_at, since_of, since_in}
-use Rattle.sdd_script_model.specs.Script.{Acts, IsParticipant, IsOwnerName, IsSole, IsShared, IsCellName, IsValid, CanPointTo}
-use Rattle.sdd_interpreter.specs.Environment.{attending, CanPointAt}
-use Rattle.sdd_interpreter.specs.Owners.{owner_holding, cell_holding}
-use Rattle.sdd_interpreter.specs.Interpreter.{desk_of}
+use Rattle.sdd_script_model.specs.Script.{IsOwnerName, IsSole, IsShared, IsCellName, IsValid}
+use Rattle.sdd_interpreter.specs.Environment.{CanPointAt}
 use Rattle.sdd_interpreter.proofs.Acts.{still}
 
 -- what isn't valid is answered so, and changes nothing

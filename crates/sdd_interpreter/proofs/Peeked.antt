@@ -1,11 +1,9 @@
 -- What a cell holds is taken out and put back
-use Rattle.std.proofs.Common.{◌≡◌, ℕ, Some, None, slice_set, sym, ap, ◌∙◌}
+use Rattle.sdd_interpreter.proofs.Words.{◌≡◌, ℕ, Some, None, slice_set, sym, ap, ◌∙◌, entry_at, CellContents, nulled, held_in, World}
 use Rattle.std.proofs.lemmas.List.{set-set, set-get_or}
 use Rattle.sdd_core.specs.declared.tag.Tag.TheVariants.{None as no_tag}
-use Rattle.sdd_participants.specs.Slab.{Entries, entry_at}
-use Rattle.sdd_participants.specs.declared.standing.CellContents.{CellContents}
-use Rattle.sdd_space.specs.WorldChanges.{with_cell, nulled, held_in}
-use Rattle.sdd_space.specs.World.{World}
+use Rattle.sdd_participants.specs.Slab.{Entries}
+use Rattle.sdd_space.specs.WorldChanges.{with_cell}
 use Rattle.sdd_script_model.proofs.Entry.{inside, is-there, at-same}
 
 module _ {T : Type 0} (old mid : World T) (k : ℕ) (was : CellContents) (there : entry_at old.cells k ≡ Some was) (out : mid ≡ nulled old k) where

@@ -1,20 +1,10 @@
 -- What a pop of a stack or a queue answers, as a step says it
-use Rattle.std.proofs.Common.{ℕ, List, Option, Some, None}
-use Rattle.std.specs.Borrow.{Bor}
-use Rattle.std.specs.Prelude.{IfOk, Result, Ok, Err}
-use Rattle.sdd_core.specs.declared.refused.Refused.{Refused}
+use Rattle.sdd_interpreter.proofs.Words.{ℕ, List, Option, Some, None, Bor, Result, Ok, Err, Refused, IsOfSlots, World, Shared, Entry, cells_in, cell_in, Queue, Stack, Val, link_of, Body}
+use Rattle.std.specs.Prelude.{IfOk}
 use Rattle.sdd_core.specs.declared.tag.Tag.TheVariants.{None as no_tag}
 use Rattle.sdd_rights.specs.Units as token
-use Rattle.sdd_space.specs.Shared.{IsOfSlots}
-use Rattle.sdd_space.specs.World.{World}
-use Rattle.sdd_space.specs.declared.shared.Shared.{Shared}
-use Rattle.sdd_lists.specs.Lists.{Entry, Pops}
-use Rattle.sdd_lists.specs.Queue.{Dequeues, cells_in}
-use Rattle.sdd_lists.specs.Stack.{cell_in}
-use Rattle.sdd_lists.specs.declared.queue.Queue.{Queue}
-use Rattle.sdd_lists.specs.declared.stack.Stack.{Stack}
-use Rattle.sdd_script_model.specs.Val.{Val, link_of}
-use Rattle.sdd_script_model.specs.declared.val.Body.{Body}
+use Rattle.sdd_lists.specs.Lists.{Pops}
+use Rattle.sdd_lists.specs.Queue.{Dequeues}
 use Rattle.sdd_interpreter.specs.Containers.{PopsOff}
 use Rattle.sdd_interpreter.specs.declared.holding.AnyList.TheVariants as any
 

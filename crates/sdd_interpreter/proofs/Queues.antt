@@ -1,18 +1,7 @@
 -- What a name of a queue stands for
-use Rattle.std.proofs.Common.{◌≡◌, ℕ, [], ◌∷◌, ◌++◌, Option, Some, None, map, length, slice_index_or, slice_set, sym, ap, ◌∙◌}
-use Rattle.std.specs.Option.{option_map}
-use Rattle.std.specs.Global.{Vec}
-use Rattle.std.proofs.Math.ListN.{get_or-map}
-use Rattle.std.proofs.lemmas.Bool.{false≢true}
-use Rattle.std.proofs.lemmas.List.{length-map, map-set, map_push}
-use Rattle.sdd_lists.specs.Queue.{AreOfCells, cells_in}
-use Rattle.sdd_lists.specs.declared.queue.Queue.{Queue}
-use Rattle.sdd_script_model.specs.declared.val.Body.{Body}
-use Rattle.sdd_script_model.specs.ScriptState.{ScriptState, holding_at, shared_cell}
+use Rattle.sdd_interpreter.proofs.Words.{◌≡◌, ℕ, [], ◌∷◌, ◌++◌, Option, Some, None, map, length, slice_index_or, slice_set, sym, ap, ◌∙◌, option_map, Vec, get_or-map, false≢true, length-map, map-set, map_push, cells_in, Queue, Body, ScriptState, holding_at, shared_cell, newest_holding, oldest_holding, Environment, IsTied, desk_of}
+use Rattle.sdd_lists.specs.Queue.{AreOfCells}
 use Rattle.sdd_script_model.specs.Script.{IsQueueName}
-use Rattle.sdd_interpreter.specs.Owners.{newest_holding, oldest_holding}
-use Rattle.sdd_interpreter.specs.declared.interpreter.Environment.{Environment}
-use Rattle.sdd_interpreter.specs.Interpreter.{IsTied, desk_of}
 
 module _ (h : Environment) where
   abbrev d : ScriptState

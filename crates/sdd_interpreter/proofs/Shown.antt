@@ -1,19 +1,10 @@
 -- What is shown of a container's entries
-use Rattle.std.proofs.Common.{◌≡◌, ℕ, List, [], ◌∷◌, ◌++◌, Bool, true, false, Option, Some, None, map, refl, sym, ap, ◌∙◌, subst}
-use Rattle.std.specs.Prelude.{drop, if◌then◌else◌, slice_get}
-use Rattle.std.proofs.lemmas.List.{append-nil}
-use Rattle.sdd_space.specs.Ptr.{PtrIsShown, shown_by, slot_named}
-use Rattle.sdd_space.specs.World.{World, value_at}
-use Rattle.sdd_space.specs.declared.ptr.Ptr.{Ptr}
-use Rattle.sdd_lists.specs.Lists.{AreLinked, Entry, first_slot, first_value, is_deleted, left}
-use Rattle.sdd_lists.specs.Walk.{shown_of}
+use Rattle.sdd_interpreter.proofs.Words.{◌≡◌, ℕ, List, [], ◌∷◌, ◌++◌, Bool, true, false, Option, Some, None, map, refl, sym, ap, ◌∙◌, subst, drop, append-nil, PtrIsShown, shown_by, slot_named, World, value_at, Ptr, AreLinked, Entry, first_slot, first_value, left, shown_of, AreNumbers, IsNumber, Val, body_of, link_of, Body, Number, HasEntries, AnyList}
+use Rattle.std.specs.Prelude.{if◌then◌else◌, slice_get}
+use Rattle.sdd_lists.specs.Lists.{is_deleted}
 use Rattle.sdd_lists.proofs.Walking.{linked-left}
-use Rattle.sdd_script_model.specs.Listed.{AreNumbers, Begins, IsNumber}
-use Rattle.sdd_script_model.specs.Val.{Val, body_of, link_of}
-use Rattle.sdd_script_model.specs.declared.val.Body.{Body}
-use Rattle.sdd_script_model.specs.declared.val.Body.TheVariants.{Number}
-use Rattle.sdd_interpreter.specs.Containers.{HasEntries, list_cell}
-use Rattle.sdd_interpreter.specs.declared.holding.AnyList.{AnyList}
+use Rattle.sdd_script_model.specs.Listed.{Begins}
+use Rattle.sdd_interpreter.specs.Containers.{list_cell}
 use Rattle.sdd_interpreter.specs.declared.holding.AnyList.TheVariants as any
 
 -- the list of a container begins in its first cell

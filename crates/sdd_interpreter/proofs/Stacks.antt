@@ -1,18 +1,7 @@
 -- What a name of a stack stands for
-use Rattle.std.proofs.Common.{◌≡◌, ℕ, [], ◌∷◌, ◌++◌, Option, Some, None, map, slice_index_or, slice_set, sym, ap, ◌∙◌}
-use Rattle.std.specs.Option.{option_map}
-use Rattle.std.specs.Global.{Vec}
-use Rattle.std.proofs.Math.ListN.{get_or-map}
-use Rattle.std.proofs.lemmas.Bool.{false≢true}
-use Rattle.std.proofs.lemmas.List.{map-set, map_push}
+use Rattle.sdd_interpreter.proofs.Words.{◌≡◌, ℕ, [], ◌∷◌, ◌++◌, Option, Some, None, map, slice_index_or, slice_set, sym, ap, ◌∙◌, option_map, Vec, get_or-map, false≢true, map-set, map_push, Stack, Body, ScriptState, holding_at, shared_cell, stack_holding, Environment, IsTied, desk_of}
 use Rattle.sdd_lists.specs.Stack as stack
-use Rattle.sdd_lists.specs.declared.stack.Stack.{Stack}
-use Rattle.sdd_script_model.specs.declared.val.Body.{Body}
-use Rattle.sdd_script_model.specs.ScriptState.{ScriptState, holding_at, shared_cell}
 use Rattle.sdd_script_model.specs.Script.{IsStackName}
-use Rattle.sdd_interpreter.specs.Owners.{stack_holding}
-use Rattle.sdd_interpreter.specs.declared.interpreter.Environment.{Environment}
-use Rattle.sdd_interpreter.specs.Interpreter.{IsTied, desk_of}
 
 module _ (h : Environment) where
   abbrev d : ScriptState

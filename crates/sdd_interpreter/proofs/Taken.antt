@@ -1,12 +1,6 @@
 -- What the answers of a stage's functions take from its hand, and from what the hand becomes
-use Rattle.std.proofs.Common.{◌≡◌, ℕ, ◌<◌, false, length, map, sym, Some, None, slice_index_or}
-use Rattle.std.specs.Prelude.{IsTrue}
+use Rattle.sdd_interpreter.proofs.Words.{◌≡◌, ℕ, ◌<◌, false, length, map, sym, Some, None, slice_index_or, IsTrue, index_of, NamedParticipant, Environment, attending, IsTied}
 use Rattle.sdd_participants.specs.EpochState.{lives}
-use Rattle.sdd_world.specs.Place.{index_of}
-use Rattle.sdd_interpreter.specs.declared.participants.NamedParticipant.{NamedParticipant}
-use Rattle.sdd_interpreter.specs.declared.interpreter.Environment.{Environment}
-use Rattle.sdd_interpreter.specs.Environment.{attending}
-use Rattle.sdd_interpreter.specs.Interpreter.{IsTied}
 use Rattle.sdd_interpreter.proofs.Acts.{got, still}
 
 -- the participant of a name is one of the world's

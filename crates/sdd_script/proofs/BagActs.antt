@@ -1,41 +1,18 @@
 -- What each action on a bag leaves in hand: it is sound, and it is what the call means
-use Rattle.std.proofs.Common.{◌≡◌, ◌+◌, ℕ, Bool, true, false, List, [], ◌∷◌, ◌++◌, Option, Some, None, is_some, length, slice_index_or, slice_set, refl, sym, ap, ◌∙◌, subst}
-use Rattle.std.specs.Global.{Vec}
-use Rattle.std.specs.List.Sorted.{IsNonDecreasing, IsPermutation}
-use Rattle.std.proofs.lemmas.List.{length-append, set-get_or, set-set}
-use Rattle.sdd_core.specs.declared.refused.Refused.{Refused}
-use Rattle.sdd_core.specs.declared.refused.Refused.TheVariants.{NoCell}
-use Rattle.sdd_space.specs.World.{World, IsPlaceOf}
-use Rattle.sdd_space.specs.WorldInvariant.{IsWhole}
-use Rattle.sdd_lists.specs.Lists.{Entry}
-use Rattle.sdd_lists.specs.Queue.{HasOneAtMost}
-use Rattle.sdd_bag.specs.Bag.{HasSameCells, IsBag, IsOfCells, PushesInside, overflow_of, primary_of, values_of}
-use Rattle.sdd_bag.specs.Closing.{ClosesBag}
+use Rattle.sdd_script.proofs.Words.{◌≡◌, ◌+◌, ℕ, Bool, true, false, List, [], ◌∷◌, ◌++◌, Option, Some, None, is_some, length, slice_index_or, slice_set, refl, sym, ap, ◌∙◌, subst, Vec, IsNonDecreasing, IsPermutation, set-get_or, set-set, Refused, NoCell, World, IsPlaceOf, IsWhole, Entry, HasOneAtMost, HasSameCells, IsBag, IsOfCells, ClosesBag, index_of, GuardName, PlaceName, Reply, Call, At, holds_nothing, StandsOn, LosesNames, BeginsLine, NumberBag, ScriptState, bag_at, bag_length, opening_at, place_of, Acts, HasOpen, IsParticipant, IsUnderGuard, Val, storage_in, bag_closed-leaves, NamedParticipant, attending, Environment, IsTied, desk_of, Does, does, goes, in_range, is-there, leads, still}
+use Rattle.std.proofs.lemmas.List.{length-append}
+use Rattle.sdd_bag.specs.Bag.{PushesInside, overflow_of, primary_of, values_of}
 use Rattle.sdd_bag.specs.Overflow.{RefusesStorage}
 use Rattle.sdd_bag.specs.Storage.{AreFull}
-use Rattle.sdd_world.specs.Place.{index_of}
 use Rattle.sdd_script_text.specs.declared.name.BagName.{BagName}
-use Rattle.sdd_script_text.specs.declared.name.GuardName.{GuardName}
-use Rattle.sdd_script_text.specs.declared.name.PlaceName.{PlaceName}
-use Rattle.sdd_script_text.specs.declared.answer.Reply.{Reply}
-use Rattle.sdd_script_text.specs.declared.call.Call.{Call}
-use Rattle.sdd_script_text.specs.declared.call.Call.TheVariants.{At}
 use Rattle.sdd_script_text.specs.declared.call.Action.TheVariants as call
 use Rattle.sdd_script_text.specs.declared.answer.Reply.TheVariants as reply
-use Rattle.sdd_script_model.specs.BagLines.{BeginsBag, PutsNumber, TakesAll, TakesNumber, holds_nothing}
-use Rattle.sdd_script_model.specs.Bags.{StandsOn}
-use Rattle.sdd_script_model.specs.Copies.{LosesNames}
-use Rattle.sdd_script_model.specs.ScriptState.{BeginsLine, NumberBag, ScriptState, bag_at, bag_length, opening_at, place_of, with_bag_at}
-use Rattle.sdd_script_model.specs.Script.{Acts, HasOpen, IsBagName, IsParticipant, IsUnderGuard}
-use Rattle.sdd_script_model.specs.Val.{Val, storage_in}
-use Rattle.sdd_script_model.proofs.BagEnds.{bag_begun-leaves, bag_closed-leaves}
+use Rattle.sdd_script_model.specs.BagLines.{BeginsBag, PutsNumber, TakesAll, TakesNumber}
+use Rattle.sdd_script_model.specs.ScriptState.{with_bag_at}
+use Rattle.sdd_script_model.specs.Script.{IsBagName}
+use Rattle.sdd_script_model.proofs.BagEnds.{bag_begun-leaves}
 use Rattle.sdd_script_model.proofs.BagLeaving.{drain-leaves, inside-leaves, put-leaves, put-long, take-leaves}
-use Rattle.sdd_interpreter.specs.declared.participants.NamedParticipant.{NamedParticipant}
-use Rattle.sdd_interpreter.specs.Environment.{attending}
-use Rattle.sdd_interpreter.specs.declared.interpreter.Environment.{Environment}
-use Rattle.sdd_interpreter.specs.Interpreter.{IsTied, desk_of}
 use Rattle.sdd_interpreter.proofs.Acts as acts
-use Rattle.sdd_interpreter.proofs.Acts.{Does, does, goes, in_range, is-there, leads, still}
 use Rattle.sdd_script.proofs.CopyActs.{AreForgotten, AreFreeSo, as-dated, as-named, loses}
 use Rattle.sdd_script.proofs.StackActs.{AreDatedNow, AreTold, dated-within}
 

@@ -1,46 +1,14 @@
 -- How a script lets go of a bag, where no guard is open: its storages go, at whatever place is there, and its cells are free
-use Rattle.std.proofs.Common.{◌≡◌, ◌+◌, ◌<◌, ◌≤◌, ltb-true, ℕ, zero, suc, List, [], ◌∷◌, ◌++◌, Option, Some, None, IsSome, is_some, length, slice_index_or, slice_set, refl, sym, ap, ◌∙◌, subst, arith}
-use Rattle.std.specs.Prelude.{◌==◌, IsTrue, if◌then◌else◌}
-use Rattle.std.specs.Global.{Vec}
-use Rattle.sdd_participants.specs.EpochState.{is_open, phase_at}
-use Rattle.sdd_participants.proofs.Adopting.{keeps-closed}
-use Rattle.sdd_standings.specs.Slots.{is_waiting}
-use Rattle.sdd_participants.specs.declared.tally.Tally.{Tally}
-use Rattle.sdd_space.specs.Ledger.{IsLedger, nothing}
-use Rattle.sdd_space.specs.Ledger.Moves.{opens}
-use Rattle.sdd_space.specs.World.{World, IsPlaceOf, place_at, standing_at}
-use Rattle.sdd_space.specs.WorldInvariant.{IsWhole}
-use Rattle.sdd_space.specs.WorldChanges.{cell_closed, closed, opened, without_cell}
-use Rattle.sdd_space.proofs.Housed.{live-is}
-use Rattle.sdd_space.proofs.Nesting.{guards-closed, one-if, still-live}
-use Rattle.sdd_space.proofs.Sheds.{sheds-opened}
-use Rattle.sdd_space.proofs.Whole.{count-cons, one_where}
-use Rattle.sdd_bag.specs.Bag.{IsBag, IsOfCells}
-use Rattle.sdd_bag.specs.Closing.{ClosesBag, values_given}
+use Rattle.sdd_script.proofs.Words.{◌≡◌, ◌+◌, ◌<◌, ◌≤◌, ltb-true, ℕ, zero, suc, List, [], ◌∷◌, ◌++◌, Option, Some, None, IsSome, is_some, length, slice_index_or, slice_set, refl, sym, ap, ◌∙◌, subst, arith, ◌==◌, IsTrue, Vec, is_open, phase_at, keeps-closed, is_waiting, Tally, IsLedger, nothing, opens, World, IsPlaceOf, place_at, standing_at, IsWhole, cell_closed, closed, opened, without_cell, live-is, guards-closed, one-if, still-live, sheds-opened, one_where, IsBag, IsOfCells, ClosesBag, Entry, first_slot, let_go_first, AreSpare, IsStored, StandsOn, holds_nothing, IsListCell, IsSecondCell, NumberBag, OpenSince, ScriptState, bag_at, bag_length, in_world, opening_at, AreDeferred, IsSound, contained, is_of, named, Val, holdings_of, link_of, storage_in, live-by, bag_closed-leaves, LeavesSound, deferred-opened, inside, layered-less, HoldsLess, less-same, less-shed, less-then, has-stored, has-same, IsDatedWithin, KeepsSlots, slots-opened, slots-same, slots-then, stocked-as, spare-as, spare-on, guarding, IsTied, desk_of, Environment, revived}
+use Rattle.std.specs.Prelude.{if◌then◌else◌}
+use Rattle.sdd_space.proofs.Whole.{count-cons}
+use Rattle.sdd_bag.specs.Closing.{values_given}
 use Rattle.sdd_core.specs.declared.tag.Tag.TheVariants.{None as no_tag}
-use Rattle.sdd_lists.specs.Lists.{Entry, first_slot, let_go_first}
-use Rattle.sdd_script_model.specs.Bags.{AreSpare, IsStored, StandsOn}
-use Rattle.sdd_script_model.specs.BagLines.{holds_nothing}
-use Rattle.sdd_script_model.specs.ScriptState.{IsListCell, IsSecondCell, NumberBag, OpenSince, ScriptState, bag_at, bag_length, date_at, job_date_at, in_world, opening_at, without_bag}
-use Rattle.sdd_script_model.specs.Sound.{AreDeferred, IsSound, contained, is_of, named}
-use Rattle.sdd_script_model.specs.Val.{Val, holdings_of, link_of, storage_in}
-use Rattle.sdd_script_model.proofs.Attending.{live-by}
+use Rattle.sdd_script_model.specs.ScriptState.{date_at, job_date_at, without_bag}
 use Rattle.sdd_script_model.proofs.BagChains.{let_go_many, own_of, stack_of}
-use Rattle.sdd_script_model.proofs.BagEnds.{after_closed, bag_closed-leaves, empties-all, values-none}
-use Rattle.sdd_script_model.proofs.Chains.{LeavesSound}
-use Rattle.sdd_script_model.proofs.Deferred.{deferred-opened}
-use Rattle.sdd_script_model.proofs.Entry.{inside}
-use Rattle.sdd_script_model.proofs.Layers.{layered-less}
-use Rattle.sdd_script_model.proofs.Links.{HoldsLess, less-same, less-shed, less-then}
-use Rattle.sdd_script_model.proofs.Listed.{has-stored}
-use Rattle.sdd_script_model.proofs.ListChanges.{has-same}
-use Rattle.sdd_script_model.proofs.StackGoing.{IsDatedWithin}
-use Rattle.sdd_script_model.proofs.Stocked.{KeepsSlots, slots-opened, slots-same, slots-then, stocked-as}
-use Rattle.sdd_script_model.proofs.Storing.{BagsStay, bags-still, spare-as, spare-on, stays-as, stays-on, stored-still}
-use Rattle.sdd_interpreter.specs.Environment.{guarding}
-use Rattle.sdd_interpreter.specs.Interpreter.{IsTied, desk_of}
-use Rattle.sdd_interpreter.specs.declared.interpreter.Environment.{Environment}
-use Rattle.sdd_script.specs.Leaving.{IsBagUnder, LeavesBag, SpendsBag, revived}
+use Rattle.sdd_script_model.proofs.BagEnds.{after_closed, empties-all, values-none}
+use Rattle.sdd_script_model.proofs.Storing.{BagsStay, bags-still, stays-as, stays-on, stored-still}
+use Rattle.sdd_script.specs.Leaving.{IsBagUnder, LeavesBag, SpendsBag}
 use Rattle.sdd_script.proofs.Ending.{LetsGo, lets-closed, no-guards, none-in}
 use Rattle.sdd_script.proofs.StackLeaving.{open-home, open-live}
 use Rattle.sdd_script.proofs.ListEnding.{lets-first, lets-then, ledger-open, lists-open, live-back, live-open, opens-it, told-opened, whole-open}

@@ -1,48 +1,16 @@
 -- What each action of a cell leaves in hand: it is sound, and it is what the call means
-use Rattle.std.proofs.Common.{◌≡◌, ℕ, Bool, true, false, if◌then◌else◌, List, [], ◌∷◌, ◌++◌, ◌<◌, Option, Some, None, IsSome, is_some, map, length, slice_index_or, slice_set, refl, sym, ap, ◌∙◌}
-use Rattle.std.specs.Prelude.{IsTrue, ◌↔◌, IfSome}
-use Rattle.std.specs.Option.{option_map}
-use Rattle.std.specs.Global.{Vec}
-use Rattle.std.proofs.Math.ListN.{get_or-map}
-use Rattle.std.proofs.lemmas.List.{length-map, map-set, map_push}
-use Rattle.sdd_core.specs.declared.tag.Tag.{Tag}
+use Rattle.sdd_script.proofs.Words.{◌≡◌, ℕ, Bool, true, false, if◌then◌else◌, List, [], ◌∷◌, ◌++◌, ◌<◌, Option, Some, None, IsSome, is_some, map, length, slice_index_or, slice_set, refl, sym, ap, ◌∙◌, IsTrue, ◌↔◌, IfSome, option_map, Vec, get_or-map, length-map, map-set, map_push, Tag, NoCell, IsEmptyAt, IsFull, entry_at, CellContents, OwnerOrCell, with_cell, cell_closed, held_in, IsWhole, World, IsPlaceOf, index_of, PlaceName, GuardName, OwnerName, CellName, ItemName, At, Val, OwnerKind, AnyOwner, AnyCell, CellOwner, NamedParticipant, Environment, ScriptState, opening_at, holding_at, cell_of, in_world, slot_of, Acts, Meets, HasOpen, IsParticipant, IsCellName, IsValid, slot_put, IsCell, item_held, attending, FitsIn, Fills, named_owner, dated_if_waiting, owner_holding, cell_holding, cell_number, filling_holding, desk_of, IsTied, Does, does, goes, leads, still, is, is-there, in_range, held-named}
 use Rattle.sdd_core.specs.declared.tag.Tag.TheVariants.{None as no_tag}
-use Rattle.sdd_core.specs.declared.refused.Refused.TheVariants.{NoCell}
-use Rattle.sdd_participants.specs.Slab.{IsEmptyAt, IsFull, entry_at}
-use Rattle.sdd_participants.specs.declared.standing.CellContents.{CellContents}
-use Rattle.sdd_space.specs.OwnerOrCell.{OwnerOrCell}
 use Rattle.sdd_space.specs.OwnerOrCell as holding
-use Rattle.sdd_space.specs.WorldChanges.{with_cell, cell_closed, held_in}
-use Rattle.sdd_space.specs.WorldInvariant.{IsWhole}
-use Rattle.sdd_space.specs.World.{World, IsPlaceOf}
-use Rattle.sdd_world.specs.Place.{index_of}
-use Rattle.sdd_script_text.specs.declared.name.PlaceName.{PlaceName}
-use Rattle.sdd_script_text.specs.declared.name.GuardName.{GuardName}
-use Rattle.sdd_script_text.specs.declared.name.OwnerName.{OwnerName}
-use Rattle.sdd_script_text.specs.declared.name.CellName.{CellName}
-use Rattle.sdd_script_text.specs.declared.name.ItemName.{ItemName}
-use Rattle.sdd_script_text.specs.declared.call.Call.TheVariants.{At}
 use Rattle.sdd_script_text.specs.declared.call.Action.TheVariants as call
 use Rattle.sdd_script_text.specs.declared.answer.Reply.TheVariants as reply
-use Rattle.sdd_script_model.specs.Val.{Val}
-use Rattle.sdd_script_model.specs.declared.owner_kind.OwnerKind.{OwnerKind}
 use Rattle.sdd_script_model.specs.declared.owner_kind.OwnerKind.TheVariants as ownership
-use Rattle.sdd_interpreter.specs.declared.holding.AnyOwner.{AnyOwner}
-use Rattle.sdd_interpreter.specs.declared.holding.AnyCell.{AnyCell}
 use Rattle.sdd_interpreter.specs.declared.holding.AnyCell.TheVariants.{Sole, Share}
-use Rattle.sdd_interpreter.specs.declared.holding.CellOwner.{CellOwner}
-use Rattle.sdd_interpreter.specs.declared.participants.NamedParticipant.{NamedParticipant}
-use Rattle.sdd_interpreter.specs.declared.interpreter.Environment.{Environment}
-use Rattle.sdd_script_model.specs.ScriptState.{ScriptState, opening_at, holding_at, cell_of, in_world, slot_of}
-use Rattle.sdd_script_model.specs.Script.{Acts, Meets, HasOpen, IsParticipant, IsCellName, IsValid, slot_put, cell_as}
-use Rattle.sdd_script_model.specs.Shown.{IsCell, item_held}
-use Rattle.sdd_interpreter.specs.Environment.{attending, FitsIn, Fills, named_owner, dated_if_waiting}
-use Rattle.sdd_interpreter.specs.Owners.{owner_holding, cell_holding, cell_number, holding_around, filling_holding, filling_kind}
-use Rattle.sdd_interpreter.specs.Interpreter.{desk_of, IsTied}
+use Rattle.sdd_script_model.specs.Script.{cell_as}
+use Rattle.sdd_interpreter.specs.Owners.{holding_around, filling_kind}
 use Rattle.sdd_script.specs.ItemLines.{making_cell}
-use Rattle.sdd_interpreter.proofs.Acts.{Does, does, goes, leads, still, is, is-there, in_range}
 use Rattle.sdd_script_model.proofs.Counting.{IsPut}
-use Rattle.sdd_script_model.proofs.CellGoing.{after_celled, put-sole, put-shared, cell-there, held-dated, held-named, dates_spilled, celled-leaves, tagged-leaves, cell_closed-leaves}
+use Rattle.sdd_script_model.proofs.CellGoing.{after_celled, put-sole, put-shared, cell-there, held-dated, dates_spilled, celled-leaves, tagged-leaves, cell_closed-leaves}
 
 pub numbered : (x : AnyCell) → cell_of (Some (cell_holding x)) ≡ Some (cell_number x)
 numbered (Sole c) = refl

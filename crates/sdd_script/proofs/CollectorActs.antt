@@ -1,51 +1,20 @@
 -- What each action of a collector leaves in hand: it is sound, and it is what the call means
-use Rattle.std.proofs.Common.{◌≡◌, ℕ, ◌<◌, Bool, List, [], ◌∷◌, ◌++◌, Option, Some, None, IsSome, is_some, map, length, slice_index_or, slice_set, refl, sym, ap, ◌∙◌, subst}
-use Rattle.std.specs.List.Sorted.{IsPermutation, IsNonDecreasingBy}
-use Rattle.std.specs.Option.{option_map}
-use Rattle.std.specs.Global.{Vec}
-use Rattle.std.proofs.Math.ListN.{get_or-map}
-use Rattle.std.proofs.lemmas.Bool.{false≢true}
-use Rattle.std.proofs.lemmas.List.{length-map, map_push, set-get_or, set-set}
-use Rattle.sdd_core.specs.declared.refused.Refused.TheVariants.{GuardOpen, NoCell}
-use Rattle.sdd_participants.specs.Slab.{IsEmptyAt, IsFull, entry_at}
+use Rattle.sdd_script.proofs.Words.{◌≡◌, ℕ, ◌<◌, Bool, List, [], ◌∷◌, ◌++◌, Option, Some, None, IsSome, is_some, map, length, slice_index_or, slice_set, refl, sym, ap, ◌∙◌, subst, IsPermutation, IsNonDecreasingBy, option_map, Vec, get_or-map, false≢true, length-map, map_push, set-get_or, set-set, GuardOpen, NoCell, IsEmptyAt, IsFull, entry_at, PrivateCollector, IsNullCell, held_in, IsWhole, World, AnyGuardOpen, IsPlaceOf, index_of, PlaceName, GuardName, OwnerName, ItemName, At, Reply, Val, holdings_of, ScriptState, collector_of, holding_at, in_world, opening_at, slot_of, Acts, Answers, HasOpen, IsOwnerName, IsParticipant, Meets, names_in, AnyOwner, Sole, Share, collector_holding, owner_holding, NamedParticipant, attending, dated_if_waiting, Environment, IsTied, desk_of, LeavesSound, number-is, collectors-spent, Does, Goes, goes, leads, in_range, is, is-there, named-owner, owner-spent, still}
 use Rattle.sdd_standings.specs.Cells.{null_pointer}
-use Rattle.sdd_space.specs.declared.private_collector.PrivateCollector.{PrivateCollector}
 use Rattle.sdd_space.specs.Collecting.{collector_closed}
 use Rattle.sdd_space.specs.Collector as collector
 use Rattle.sdd_space.specs.OwnerOrCell as holding
-use Rattle.sdd_space.specs.Out.{IsNullCell}
-use Rattle.sdd_space.specs.WorldChanges.{held_in, pointing}
-use Rattle.sdd_space.specs.WorldInvariant.{IsWhole}
-use Rattle.sdd_space.specs.World.{World, AnyGuardOpen, IsPlaceOf}
-use Rattle.sdd_world.specs.Place.{index_of}
-use Rattle.sdd_script_text.specs.declared.name.PlaceName.{PlaceName}
-use Rattle.sdd_script_text.specs.declared.name.GuardName.{GuardName}
-use Rattle.sdd_script_text.specs.declared.name.OwnerName.{OwnerName}
-use Rattle.sdd_script_text.specs.declared.name.ItemName.{ItemName}
+use Rattle.sdd_space.specs.WorldChanges.{pointing}
 use Rattle.sdd_script_text.specs.declared.name.CollectorName.{CollectorName}
-use Rattle.sdd_script_text.specs.declared.call.Call.TheVariants.{At}
 use Rattle.sdd_script_text.specs.declared.call.Action.TheVariants as call
-use Rattle.sdd_script_text.specs.declared.answer.Reply.{Reply}
 use Rattle.sdd_script_text.specs.declared.answer.Reply.TheVariants as reply
-use Rattle.sdd_script_model.specs.Val.{Val, holdings_of}
 use Rattle.sdd_script_model.specs.Collecting.{Collects}
-use Rattle.sdd_script_model.specs.ScriptState.{ScriptState, collector_of, holding_at, in_world, opening_at, slot_of, without_collector}
+use Rattle.sdd_script_model.specs.ScriptState.{without_collector}
 use Rattle.sdd_script_model.specs.Held.{slots_waiting_for}
-use Rattle.sdd_script_model.specs.Script.{Acts, Answers, HasOpen, IsCollector, IsOwnerName, IsParticipant, Meets}
-use Rattle.sdd_script_model.specs.Shown.{names_in}
-use Rattle.sdd_interpreter.specs.declared.holding.AnyOwner.{AnyOwner}
-use Rattle.sdd_interpreter.specs.declared.holding.AnyOwner.TheVariants.{Sole, Share}
-use Rattle.sdd_interpreter.specs.Owners.{collector_holding, owner_holding}
-use Rattle.sdd_interpreter.specs.declared.participants.NamedParticipant.{NamedParticipant}
-use Rattle.sdd_interpreter.specs.Environment.{attending, dated_if_waiting}
-use Rattle.sdd_interpreter.specs.declared.interpreter.Environment.{Environment}
-use Rattle.sdd_interpreter.specs.Interpreter.{IsTied, desk_of}
+use Rattle.sdd_script_model.specs.Script.{IsCollector}
 use Rattle.sdd_script_model.proofs.Collected.{after_given, collecting-leaves, owner-inside, sound-given}
 use Rattle.sdd_script.proofs.StackActs.{AreDatedNow, AreTold, dated-within}
-use Rattle.sdd_script_model.proofs.Chains.{LeavesSound}
 use Rattle.sdd_script_model.proofs.CollectorGoing.{goes-uncollected, runs-uncollected, uncollected-leaves}
-use Rattle.sdd_interpreter.proofs.Collectors.{number-is, collectors-spent}
-use Rattle.sdd_interpreter.proofs.Acts.{Does, Goes, goes, leads, in_range, is, is-there, named-owner, owner-spent, still}
 
 -- what a collector names, of its own home, and what a name of one stands for
 module _ (h : Environment) (t : IsTied h) where

@@ -1,37 +1,15 @@
 -- What each line that is told of a container's entries means
-use Rattle.std.proofs.Common.{◌≡◌, ℕ, List, Option, Some, None, length, map, slice_index_or, refl, ap, inl, inr, subst, ◌∙◌}
-use Rattle.sdd_space.specs.CallerId.{reader_at}
-use Rattle.sdd_space.specs.Guard.{ReaderId, reader_of}
-use Rattle.sdd_lists.specs.Lists.{Entry, content, first_value, left}
-use Rattle.sdd_lists.specs.Queue.{cells_in}
-use Rattle.sdd_lists.specs.Stack.{cell_in}
-use Rattle.sdd_lists.specs.Walk.{shown_of}
-use Rattle.sdd_script_text.specs.declared.name.GuardName.{GuardName}
-use Rattle.sdd_script_text.specs.declared.name.ListName.{ListName}
+use Rattle.sdd_script.proofs.Words.{◌≡◌, ℕ, List, Option, Some, None, length, map, slice_index_or, refl, ap, inl, inr, subst, ◌∙◌, reader_at, ReaderId, reader_of, Entry, first_value, left, cells_in, cell_in, shown_of, GuardName, ListName, PlaceName, At, Reply, IsContainer, AreNumbers, Acts, HasOpen, IsListName, Val, Number, list_cell, GuardsIn, IsTied, desk_of, NamedGuard, AnyList, Environment, still, no-queue, queue-home, no-stack, stack-home, same-list, IsListCell}
+use Rattle.sdd_lists.specs.Lists.{content}
 use Rattle.sdd_script_text.specs.declared.name.ListName.TheVariants as list
-use Rattle.sdd_script_text.specs.declared.name.PlaceName.{PlaceName}
-use Rattle.sdd_script_text.specs.declared.call.Call.TheVariants.{At}
 use Rattle.sdd_script_text.specs.declared.call.Action.TheVariants as call
-use Rattle.sdd_script_text.specs.declared.answer.Reply.{Reply}
 use Rattle.sdd_script_text.specs.declared.answer.Reply.TheVariants as reply
-use Rattle.sdd_script_model.specs.Containers.{IsContainer, TellsNumber}
-use Rattle.sdd_script_model.specs.Listed.{AreNumbers}
-use Rattle.sdd_script_model.specs.Script.{Acts, HasOpen, IsListName}
-use Rattle.sdd_script_model.specs.Val.{Val}
-use Rattle.sdd_script_model.specs.declared.val.Body.TheVariants.{Number}
-use Rattle.sdd_interpreter.specs.Containers.{HasEntries, IsListOf, IsOfNumbers, NamesNone, StandsFor, list_cell}
-use Rattle.sdd_interpreter.specs.Interpreter.{GuardsIn, IsGuardIn, IsTied, desk_of}
-use Rattle.sdd_interpreter.specs.declared.participants.NamedGuard.{NamedGuard}
-use Rattle.sdd_interpreter.specs.declared.holding.AnyList.{AnyList}
+use Rattle.sdd_script_model.specs.Containers.{TellsNumber}
+use Rattle.sdd_interpreter.specs.Containers.{HasEntries, IsListOf, IsOfNumbers, NamesNone, StandsFor}
+use Rattle.sdd_interpreter.specs.Interpreter.{IsGuardIn}
 use Rattle.sdd_interpreter.specs.declared.holding.AnyList.TheVariants as any
-use Rattle.sdd_interpreter.specs.declared.interpreter.Environment.{Environment}
-use Rattle.sdd_interpreter.proofs.Acts.{still}
-use Rattle.sdd_interpreter.proofs.Queues.{no-queue, queue-home}
-use Rattle.sdd_interpreter.proofs.Stacks.{no-stack, stack-home}
-use Rattle.sdd_script_model.proofs.Listed.{same-list}
 use Rattle.sdd_script.proofs.QueueActs.{is-queue, queue-entries}
 use Rattle.sdd_script.proofs.StackActs.{is-stack, stack-entries}
-use Rattle.sdd_script_model.specs.ScriptState.{IsListCell}
 
 -- the name stands for this container
 abbrev pub Names : Environment → ListName → AnyList → Type 0

@@ -1,55 +1,20 @@
 -- What a copy of a queue or a stack leaves in hand, refused or not: it is sound, and it is what the call means
-use Rattle.std.proofs.Common.{◌≡◌, ◌<◌, ◌≤◌, inl, inr, ℕ, Bool, true, false, List, [], ◌∷◌, ◌++◌, Option, Some, None, is_some, map, length, slice_index, slice_index_or, if◌then◌else◌, refl, sym, ap, ◌∙◌, subst, arith}
-use Rattle.std.specs.Prelude.{Err, Ok, ◌&&◌, not}
-use Rattle.std.specs.Option.{option_map}
-use Rattle.std.specs.Global.{Vec}
+use Rattle.sdd_script.proofs.Words.{◌≡◌, ◌<◌, ◌≤◌, inl, inr, ℕ, Bool, true, false, List, [], ◌∷◌, ◌++◌, Option, Some, None, is_some, map, length, slice_index, slice_index_or, if◌then◌else◌, refl, sym, ap, ◌∙◌, subst, arith, Err, Ok, option_map, Vec, get_or_past, length-map, Refused, is_waiting, reader_at, ReaderId, OwnerOrCell, World, IsPlaceOf, standing_at, IsWhole, Entry, AreOfCells, IsQueue, cells_in, queue_closed, cell_in, home_in, shown_of, Queue, Stack, index_of, GuardName, PlaceName, QueueName, StackName, At, Body, LosesNames, entry_slots, AreNumbers, Begins, IsNamedQueue, BeginsLine, ScriptState, opening_at, place_of, HasOpen, IsStack, stack_closed, Val, link_of, newest_holding, oldest_holding, stack_holding, NamedParticipant, attending, Environment, IsTied, desk_of, Does, does, goes, in_range, is-there, leads, still, both-long, queues-more, stacks-more}
+use Rattle.std.specs.Prelude.{◌&&◌, not}
 use Rattle.std.proofs.lemmas.Bool.{cases_lt}
-use Rattle.std.proofs.lemmas.List.{ext_get_or, get_or_past, length-map}
-use Rattle.sdd_core.specs.declared.refused.Refused.{Refused}
-use Rattle.sdd_standings.specs.Slots.{is_waiting}
-use Rattle.sdd_space.specs.CallerId.{reader_at}
-use Rattle.sdd_space.specs.Guard.{ReaderId}
-use Rattle.sdd_space.specs.OwnerOrCell.{OwnerOrCell}
+use Rattle.std.proofs.lemmas.List.{ext_get_or}
 use Rattle.sdd_space.specs.OwnerOrCell as holding
-use Rattle.sdd_space.specs.World.{World, IsPlaceOf, standing_at}
-use Rattle.sdd_space.specs.WorldInvariant.{IsWhole}
-use Rattle.sdd_lists.specs.Lists.{Entry}
-use Rattle.sdd_lists.specs.Queue.{AreOfCells, IsQueue, cells_in, queue_closed}
-use Rattle.sdd_lists.specs.Stack.{cell_in, home_in}
-use Rattle.sdd_lists.specs.Walk.{shown_of}
-use Rattle.sdd_lists.specs.declared.queue.Queue.{Queue}
-use Rattle.sdd_lists.specs.declared.stack.Stack.{Stack}
-use Rattle.sdd_world.specs.Place.{index_of}
-use Rattle.sdd_script_text.specs.declared.name.GuardName.{GuardName}
 use Rattle.sdd_script_text.specs.declared.name.ListName.TheVariants as list
-use Rattle.sdd_script_text.specs.declared.name.PlaceName.{PlaceName}
-use Rattle.sdd_script_text.specs.declared.name.QueueName.{QueueName}
-use Rattle.sdd_script_text.specs.declared.name.StackName.{StackName}
-use Rattle.sdd_script_text.specs.declared.call.Call.TheVariants.{At}
 use Rattle.sdd_script_text.specs.declared.call.Action.TheVariants as call
 use Rattle.sdd_script_text.specs.declared.answer.Reply.TheVariants as reply
-use Rattle.sdd_script_model.specs.declared.val.Body.{Body}
-use Rattle.sdd_script_model.specs.Copies.{ArePlain, LosesNames, MakesQueueOf, MakesStackOf, entry_slots}
-use Rattle.sdd_script_model.specs.Listed.{AreNumbers, Begins}
-use Rattle.sdd_script_model.specs.Queues.{IsNamedQueue}
-use Rattle.sdd_script_model.specs.ScriptState.{BeginsLine, ScriptState, names_from, opening_at, place_of}
-use Rattle.sdd_script_model.specs.Script.{HasOpen}
-use Rattle.sdd_script_model.specs.Stacks.{IsStack, stack_closed}
-use Rattle.sdd_script_model.specs.Val.{Val, link_of}
+use Rattle.sdd_script_model.specs.Copies.{ArePlain, MakesQueueOf, MakesStackOf}
+use Rattle.sdd_script_model.specs.ScriptState.{names_from}
 use Rattle.sdd_script_model.proofs.Copying.{first-numbers, queue-copied, queue-few, queue-holds, queue-inside, queue-long, queue-placed, queue-plain, queue-refused, shown-numbers, stack-copied, stack-few, stack-holds, stack-inside, stack-long, stack-placed, stack-plain, stack-refused}
 use Rattle.sdd_script_model.proofs.Filling.{AreAllNumbers}
 use Rattle.sdd_script_model.proofs.QueueGoing.{its-numbers}
 use Rattle.sdd_script_model.proofs.StackGoing.{numbers as stack_numbers}
 use Rattle.sdd_interpreter.specs.Copies.{QueueIsCopied, StackIsCopied}
-use Rattle.sdd_interpreter.specs.Owners.{newest_holding, oldest_holding, stack_holding}
-use Rattle.sdd_interpreter.specs.declared.participants.NamedParticipant.{NamedParticipant}
-use Rattle.sdd_interpreter.specs.Environment.{attending}
-use Rattle.sdd_interpreter.specs.declared.interpreter.Environment.{Environment}
-use Rattle.sdd_interpreter.specs.Interpreter.{IsTied, desk_of}
 use Rattle.sdd_interpreter.proofs.Acts as acts
-use Rattle.sdd_interpreter.proofs.Acts.{Does, does, goes, in_range, is-there, leads, still}
-use Rattle.sdd_interpreter.proofs.Queues.{both-long, queues-more}
-use Rattle.sdd_interpreter.proofs.Stacks.{stacks-more}
 use Rattle.sdd_script.proofs.QueueActs.{is-queue, queue-entries}
 use Rattle.sdd_script.proofs.StackActs.{AreDatedNow, AreDatedSo, AreTold, dated-within, is-stack, stack-entries}
 

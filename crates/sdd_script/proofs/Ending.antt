@@ -1,70 +1,37 @@
 -- How a script lets go of what it holds, where no guard is open, and that then all goes at the end of its world
-use Rattle.std.proofs.Common.{◌≡◌, ◌≢◌, ◌⊎◌, ◌+◌, ◌<◌, inl, inr, ℕ, List, [], ◌∷◌, ◌++◌, length, true, Option, Some, None, IsSome, is_some, map, slice_index_or, slice_set, refl, sym, ap, ◌∙◌, subst, arith, ltb-true}
-use Rattle.std.specs.Prelude.{◌==◌, ◌*◌, ◌^◌, IsTrue, slice_get}
-use Rattle.std.proofs.Math.ListN.{get_or-map}
-use Rattle.std.proofs.lemmas.List.{get_or_default, length-set, map-set}
-use Rattle.std.specs.Option.{option_map}
-use Rattle.std.specs.Global.{Vec}
-use Rattle.sdd_participants.specs.EpochState.{nobody, is_open, phase_at}
+use Rattle.sdd_script.proofs.Words.{◌≡◌, ◌≢◌, ◌⊎◌, ◌+◌, ◌<◌, inl, inr, ℕ, List, [], ◌∷◌, ◌++◌, length, true, Option, Some, None, IsSome, is_some, map, slice_index_or, slice_set, refl, sym, ap, ◌∙◌, subst, arith, ltb-true, ◌==◌, IsTrue, get_or-map, get_or_default, length-set, map-set, option_map, Vec, is_open, phase_at, entry_at, Standing, Raw, Retired, CellContents, Item, Claim, owner_of, right_to, IsLedger, Tally, OwnerOrCell, IsNullCell, is_out, PrivateCollector, World, AnyGuardOpen, place_at, standing_at, value_at, retired, owner_given, with_standing, cell_closed, without_cell, held_in, IsWhole, accounted-owner_given, accounted-without_cell, given-same, held-cell_spent, held-owner_given, one_where, Val, body_of, owner_in, link_of, holdings_of, storage_in, IsStored, NumberBag, ScriptState, OpenSince, IsListCell, IsSecondCell, bag_at, holding_at, shared_cell, opening_at, slot_at, slot_of, cell_of, collector_of, in_world, IsSound, is_of, named, contained, Acts, HasOpen, Meets, guarding, owner_holding, cell_holding, collector_holding, desk_of, IsTied, AnyOwner, AnyCell, NamedGuard, Environment, PlaceName, GuardName, At, Reply, as-each, inside, set-either, spent_twice, spare-as, stocked-as, slots-given, slots-same, are-own, at_home-spent, accounts, owned-out, collectors-spent, number-is, layered-less, less-same, less-shed, has-stored, HasLists}
+use Rattle.std.specs.Prelude.{◌*◌, ◌^◌, slice_get}
+use Rattle.sdd_participants.specs.EpochState.{nobody}
 use Rattle.sdd_participants.specs.EpochState as time
-use Rattle.sdd_participants.specs.Slab.{entry_at, without_entry}
-use Rattle.sdd_participants.specs.declared.standing.Standing.{Standing}
-use Rattle.sdd_participants.specs.declared.standing.Standing.TheVariants.{Raw, Retired, Shared}
-use Rattle.sdd_participants.specs.declared.standing.CellContents.{CellContents}
+use Rattle.sdd_participants.specs.Slab.{without_entry}
+use Rattle.sdd_participants.specs.declared.standing.Standing.TheVariants.{Shared}
 use Rattle.sdd_participants.specs.declared.participant.Participant.{Participant}
-use Rattle.sdd_participants.specs.declared.waiting.LimboEntry.TheVariants.{Item}
-use Rattle.sdd_space.specs.Ledger.{Claim, owner_of, right_to, IsLedger}
-use Rattle.sdd_participants.specs.declared.tally.Tally.{Tally}
-use Rattle.sdd_space.specs.OwnerOrCell.{OwnerOrCell, IsOf}
-use Rattle.sdd_space.specs.Out.{IsNullCell, is_out}
-use Rattle.sdd_space.specs.declared.private_collector.PrivateCollector.{PrivateCollector}
+use Rattle.sdd_space.specs.OwnerOrCell.{IsOf}
 use Rattle.sdd_space.specs.Collector as collector
-use Rattle.sdd_space.specs.World.{World, AnyGuardOpen, place_at, standing_at, value_at}
-use Rattle.sdd_space.specs.WorldChanges.{retired, owner_given, with_standing, cell_closed, without_cell, held_in}
-use Rattle.sdd_space.specs.WorldInvariant.{IsWhole}
 use Rattle.sdd_space.specs.OwnerCounts.{IsAccounted, owner_count, is_of as is_of_slot}
-use Rattle.sdd_space.proofs.Accounts.{accounted-as, accounted-cell_closed, accounted-owner_given, accounted-without_cell}
-use Rattle.sdd_space.proofs.Rights.{given-same, spilled-same, held-cell_closed, held-cell_spent, held-owner_given, once-where}
+use Rattle.sdd_space.proofs.Accounts.{accounted-as, accounted-cell_closed}
+use Rattle.sdd_space.proofs.Rights.{spilled-same, held-cell_closed, once-where}
 use Rattle.sdd_space.proofs.Sheds.{Sheds, sheds-cell, sheds-cell_closed, sheds-owner_given, sheds-same}
-use Rattle.sdd_space.proofs.Whole.{one_where}
 use Rattle.sdd_world.specs.Closing.{AllGo, cell_held, held_by}
 use Rattle.sdd_world.proofs.AllGo.{CellsFall, all-go}
 use Rattle.sdd_world.proofs.Sweeping.{all-uncounted}
-use Rattle.sdd_script_model.specs.Val.{Val, body_of, owner_in, link_of, link_holding, holdings_of, storage_in}
+use Rattle.sdd_script_model.specs.Val.{link_holding}
 use Rattle.sdd_bag.specs.Storages.{StorageName}
-use Rattle.sdd_script_model.specs.Bags.{AreBags, IsStored, is_own_cell, is_stack_cell}
-use Rattle.sdd_script_model.specs.ScriptState.{NumberBag, ScriptState, OpenSince, IsListCell, IsSecondCell, bag_at, holding_at, shared_cell, opening_at, place_in, slot_at, slot_of, cell_of, collector_of, in_world, without_owner}
-use Rattle.sdd_script_model.specs.Sound.{IsSound, SlotsHaveNames, NamesAreAtHome, has_right, is_of, named, named_owners, owns, contained}
-use Rattle.sdd_script_model.specs.Script.{Acts, HasOpen, Meets}
+use Rattle.sdd_script_model.specs.Bags.{AreBags, is_own_cell, is_stack_cell}
+use Rattle.sdd_script_model.specs.ScriptState.{place_in, without_owner}
+use Rattle.sdd_script_model.specs.Sound.{SlotsHaveNames, NamesAreAtHome, has_right, named_owners, owns}
 use Rattle.sdd_script.specs.Leaving.{SpendsOwner, SpendsCell, SpendsCollector, SpendsGuard, LeavesRaw}
-use Rattle.sdd_interpreter.specs.Environment.{guarding}
-use Rattle.sdd_interpreter.specs.Owners.{owner_holding, cell_holding, collector_holding}
-use Rattle.sdd_interpreter.specs.Interpreter.{desk_of, IsTied}
-use Rattle.sdd_interpreter.specs.declared.holding.AnyOwner.{AnyOwner}
-use Rattle.sdd_interpreter.specs.declared.holding.AnyCell.{AnyCell}
-use Rattle.sdd_interpreter.specs.declared.participants.NamedGuard.{NamedGuard}
-use Rattle.sdd_interpreter.specs.declared.interpreter.Environment.{Environment}
-use Rattle.sdd_script_text.specs.declared.name.PlaceName.{PlaceName}
-use Rattle.sdd_script_text.specs.declared.name.GuardName.{GuardName}
-use Rattle.sdd_script_text.specs.declared.call.Call.TheVariants.{At}
 use Rattle.sdd_script_text.specs.declared.call.Action.TheVariants as call
-use Rattle.sdd_script_text.specs.declared.answer.Reply.{Reply}
 use Rattle.sdd_script_text.specs.declared.answer.Reply.TheVariants as reply
-use Rattle.sdd_script_model.proofs.Entry.{at-same, as-each, inside, set-either, spent_twice}
-use Rattle.sdd_script_model.proofs.Storing.{owned-cell, spare-as}
-use Rattle.sdd_script_model.proofs.Stocked.{KeepsStored, out-named, stocked-as, slots-cell_closed, slots-given, slots-same, slots-set}
+use Rattle.sdd_script_model.proofs.Entry.{at-same}
+use Rattle.sdd_script_model.proofs.Storing.{owned-cell}
+use Rattle.sdd_script_model.proofs.Stocked.{KeepsStored, out-named, slots-cell_closed, slots-set}
 use Rattle.sdd_script_model.proofs.SmallSteps.{keeps-closed, keeps-given}
 use Rattle.sdd_script_model.proofs.Attending.{KeepsGuards, attended-same, placed-still}
-use Rattle.sdd_script_model.proofs.Chains.{are-own, at_home-spent}
 use Rattle.sdd_script_model.proofs.JobDates.{job_dates-shut}
-use Rattle.sdd_script_model.proofs.Counting.{accounts, cell-spent, collector-spent, linked, owned-out, owner-spent, some-holding}
-use Rattle.sdd_interpreter.proofs.Collectors.{collectors-spent, number-is}
+use Rattle.sdd_script_model.proofs.Counting.{cell-spent, collector-spent, linked, owner-spent, some-holding}
 use Rattle.sdd_script.proofs.Ranks.{link-falls, rank, value-falls}
-use Rattle.sdd_script_model.proofs.Layers.{layered-less}
-use Rattle.sdd_script_model.proofs.Links.{less-same, less-shed}
-use Rattle.sdd_script_model.proofs.Listed.{has-stored}
 use Rattle.sdd_script_model.proofs.ListChanges.{has-freed}
-use Rattle.sdd_script_model.specs.Listed.{HasLists}
 
 -- ---- what letting go leaves
 

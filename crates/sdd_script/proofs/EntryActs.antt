@@ -1,62 +1,26 @@
 -- What a push onto a container and a pop off it mean, whether they ask for a number first or not
-use Rattle.std.proofs.Common.{◌≡◌, ◌+◌, ◌<◌, ℕ, Bool, List, [], ◌∷◌, ◌++◌, Option, Some, None, map, length, slice_set, refl, sym, ap, ◌∙◌, subst, arith}
-use Rattle.std.specs.Prelude.{Ok, Err}
-use Rattle.std.specs.Option.{option_map}
-use Rattle.std.specs.Global.{Vec}
-use Rattle.std.proofs.lemmas.List.{length-map}
-use Rattle.sdd_core.specs.declared.refused.Refused.{Refused}
-use Rattle.sdd_core.specs.declared.refused.Refused.TheVariants.{TooManyOwners}
+use Rattle.sdd_script.proofs.Words.{◌≡◌, ◌+◌, ◌<◌, ℕ, Bool, List, [], ◌∷◌, ◌++◌, Option, Some, None, map, length, slice_set, refl, sym, ap, ◌∙◌, subst, arith, Ok, Err, option_map, Vec, length-map, Refused, TooManyOwners, IsSharedBy, World, IsPlaceOf, standing_at, value_at, with_standing, IsWhole, Shared, AreLinked, Entry, first_value, left, cells_in, cell_in, index_of, GuardName, ItemName, ListName, OwnerName, PlaceName, At, Number, IsContainer, Begins, IsNumber, Acts, HasOpen, IsListName, Meets, ScriptState, in_world, opening_at, place_of, with_owner, Val, body_of, link_of, same-list, LeavesSound, starts, IsDatedWithin, list_cell, attending, IsTied, desk_of, owner_holding, AnyList, AnyOwner, Share, Environment, NamedParticipant, Does, adds-owner, in_range, leads, owner-more, still, invalid, popping, pushing}
 use Rattle.sdd_participants.specs.declared.standing.Standing.TheVariants as standing
-use Rattle.sdd_standings.specs.Slots.{IsSharedBy}
 use Rattle.sdd_space.specs.OwnerOrCell as holding
 use Rattle.sdd_space.specs.Shared.{slot_of, slots_home}
-use Rattle.sdd_space.specs.World.{World, IsPlaceOf, standing_at, value_at}
-use Rattle.sdd_space.specs.WorldChanges.{with_standing}
-use Rattle.sdd_space.specs.WorldInvariant.{IsWhole}
-use Rattle.sdd_space.specs.declared.shared.Shared.{Shared}
 use Rattle.sdd_lists.specs.Ends.{last_value}
-use Rattle.sdd_lists.specs.Lists.{AreLinked, Entry, first_value, left}
-use Rattle.sdd_lists.specs.Queue.{cells_in}
-use Rattle.sdd_lists.specs.Stack.{cell_in}
 use Rattle.sdd_lists.specs.declared.unpopped.Unpopped.TheVariants.{Kept, Refused as RefusedBy}
 use Rattle.sdd_lists.proofs.Walking.{linked-left}
-use Rattle.sdd_world.specs.Place.{index_of}
-use Rattle.sdd_script_text.specs.declared.name.GuardName.{GuardName}
-use Rattle.sdd_script_text.specs.declared.name.ItemName.{ItemName}
-use Rattle.sdd_script_text.specs.declared.name.ListName.{ListName}
 use Rattle.sdd_script_text.specs.declared.name.ListName.TheVariants as list
-use Rattle.sdd_script_text.specs.declared.name.OwnerName.{OwnerName}
-use Rattle.sdd_script_text.specs.declared.name.PlaceName.{PlaceName}
-use Rattle.sdd_script_text.specs.declared.call.Call.TheVariants.{At}
 use Rattle.sdd_script_text.specs.declared.answer.Reply.TheVariants as reply
-use Rattle.sdd_script_model.specs.declared.val.Body.TheVariants.{Number}
-use Rattle.sdd_script_model.specs.Containers.{HasNewest, HasNumber, IsContainer}
-use Rattle.sdd_script_model.specs.Listed.{Begins, IsNumber}
-use Rattle.sdd_script_model.specs.Script.{Acts, AddsOwner, HasCrowdedFirst, HasOpen, IsDrainedOf, IsListName, Meets, PutsIn, TakesOut}
-use Rattle.sdd_script_model.specs.ScriptState.{ScriptState, in_world, opening_at, place_of, with_item, with_owner}
+use Rattle.sdd_script_model.specs.Containers.{HasNewest, HasNumber}
+use Rattle.sdd_script_model.specs.Script.{AddsOwner, HasCrowdedFirst, IsDrainedOf, PutsIn, TakesOut}
+use Rattle.sdd_script_model.specs.ScriptState.{with_item}
 use Rattle.sdd_script_model.specs.Stacks.{RefusesEntry}
-use Rattle.sdd_script_model.specs.Val.{Val, body_of, link_of}
-use Rattle.sdd_script_model.proofs.Listed.{same-list}
-use Rattle.sdd_script_model.proofs.Chains.{LeavesSound, left-apart, list-apart-from, starts}
+use Rattle.sdd_script_model.proofs.Chains.{left-apart, list-apart-from}
 use Rattle.sdd_script_model.proofs.QueueGoing.{queue_drained-leaves, taken-home, taken-leaves, taken-number, taken-value}
 use Rattle.sdd_script_model.proofs.QueuePushing.{enqueued-leaves}
-use Rattle.sdd_script_model.proofs.StackGoing.{IsDatedWithin, drained-leaves, popped-home, popped-leaves, popped-number, popped-value}
+use Rattle.sdd_script_model.proofs.StackGoing.{drained-leaves, popped-home, popped-leaves, popped-number, popped-value}
 use Rattle.sdd_script_model.proofs.StackPushing.{pushed-leaves}
-use Rattle.sdd_interpreter.specs.Containers.{DrainsList, IsAsked, PopsIf, PushesIf, PutsOn, TakesOff, list_cell, newest_value}
-use Rattle.sdd_interpreter.specs.Environment.{attending}
-use Rattle.sdd_interpreter.specs.Interpreter.{IsTied, desk_of}
-use Rattle.sdd_interpreter.specs.Owners.{owner_holding}
-use Rattle.sdd_interpreter.specs.declared.holding.AnyList.{AnyList}
+use Rattle.sdd_interpreter.specs.Containers.{DrainsList, IsAsked, PopsIf, PushesIf, PutsOn, TakesOff, newest_value}
 use Rattle.sdd_interpreter.specs.declared.holding.AnyList.TheVariants as any
-use Rattle.sdd_interpreter.specs.declared.holding.AnyOwner.{AnyOwner}
-use Rattle.sdd_interpreter.specs.declared.holding.AnyOwner.TheVariants.{Share}
-use Rattle.sdd_interpreter.specs.declared.interpreter.Environment.{Environment}
-use Rattle.sdd_interpreter.specs.declared.participants.NamedParticipant.{NamedParticipant}
 use Rattle.sdd_interpreter.proofs.Acts as acts
-use Rattle.sdd_interpreter.proofs.Acts.{Does, adds-owner, in_range, leads, owner-more, still}
-use Rattle.sdd_interpreter.proofs.Missing.{invalid}
 use Rattle.sdd_interpreter.proofs.Shown.{begun-list, first-number}
-use Rattle.sdd_script.specs.ItemLines.{popping, pushing}
 use Rattle.sdd_script.proofs.ContainerActs.{Names, entries-of, is-list, list-begins}
 use Rattle.sdd_script.proofs.QueueActs.{queue-entries}
 use Rattle.sdd_script.proofs.StackActs.{AreDatedNow, AreTold, dated-within, stack-entries}

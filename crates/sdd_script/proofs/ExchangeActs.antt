@@ -1,60 +1,21 @@
 -- What each action that takes an owner out of a cell, or puts one into it, leaves in hand: it is sound, and it is what the call means
-use Rattle.std.proofs.Common.{◌≡◌, ◌≢◌, ◌⊎◌, ℕ, ◌+◌, ◌^◌, ◌<◌, false, Bor, List, [], ◌∷◌, ◌++◌, Option, Some, None, IsSome, is_some, map, length, slice_index_or, slice_set, inl, inr, refl, sym, ap, ◌∙◌, subst}
-use Rattle.std.specs.Prelude.{IfSome, MatchOption, option_copied}
-use Rattle.std.specs.Option.{option_map}
-use Rattle.std.specs.Global.{Vec}
-use Rattle.std.proofs.Math.ListN.{get_or-map}
-use Rattle.std.proofs.lemmas.List.{length-map, length-set, map-set, map_push, set-get_or, set-set}
-use Rattle.sdd_core.specs.declared.tag.Tag.{Tag}
-use Rattle.sdd_core.specs.declared.refused.Refused.{Refused}
-use Rattle.sdd_core.specs.declared.refused.Refused.TheVariants.{NoCell, TooManyOwners}
-use Rattle.sdd_participants.specs.Slab.{IsEmptyAt, IsFull, entry_at}
-use Rattle.sdd_participants.specs.declared.standing.CellContents.{CellContents}
+use Rattle.sdd_script.proofs.Words.{◌≡◌, ◌≢◌, ◌⊎◌, ℕ, ◌+◌, ◌^◌, ◌<◌, false, List, [], ◌∷◌, ◌++◌, Option, Some, None, IsSome, is_some, map, length, slice_index_or, slice_set, inl, inr, refl, sym, ap, ◌∙◌, subst, IfSome, option_map, Vec, get_or-map, length-map, length-set, map-set, map_push, set-get_or, set-set, Tag, Refused, NoCell, TooManyOwners, IsEmptyAt, IsFull, entry_at, CellContents, IsSharedBy, Shared, OwnerOrCell, with_cell, with_standing, without_cell, IsWhole, World, IsPlaceOf, standing_at, index_of, PlaceName, GuardName, OwnerName, ItemName, CellName, Call, At, Reply, Val, AnyOwner, Share, OwnerKind, AnyCell, CellOwner, NamedParticipant, NamedGuard, Environment, ScriptState, holding_at, cell_of, slot_of, sole_slot, shared_slot, shared_cell, opening_at, Meets, HasOpen, IsCellName, slot_put, IsCell, item_held, attending, named_owner, Fills, FitsIn, given_back, owner_holding, cell_holding, cell_kind, cell_number, filling_holding, desk_of, IsTied, holding_first, held-named, at-default, inside, points, points-not, Does, adds-owner, leads, is-there, in_range, stays-here}
+use Rattle.std.proofs.Common.{Bor}
+use Rattle.std.specs.Prelude.{MatchOption, option_copied}
 use Rattle.sdd_participants.specs.declared.standing.Standing.TheVariants as standing
-use Rattle.sdd_standings.specs.Slots.{IsSharedBy}
-use Rattle.sdd_space.specs.declared.shared.Shared.{Shared}
 use Rattle.sdd_space.specs.declared.atomic_shared.AtomicShared.{AtomicShared}
 use Rattle.sdd_space.specs.OwnerOrCell as holding
-use Rattle.sdd_space.specs.OwnerOrCell.{OwnerOrCell}
-use Rattle.sdd_space.specs.WorldChanges.{with_cell, with_standing, without_cell}
 use Rattle.sdd_space.specs.UnderGuards.{CannotGo}
-use Rattle.sdd_space.specs.WorldInvariant.{IsWhole}
-use Rattle.sdd_space.specs.World.{World, IsPlaceOf, standing_at}
 use Rattle.sdd_space.specs.Shared as shared
-use Rattle.sdd_world.specs.Place.{index_of}
-use Rattle.sdd_script_text.specs.declared.name.PlaceName.{PlaceName}
-use Rattle.sdd_script_text.specs.declared.name.GuardName.{GuardName}
-use Rattle.sdd_script_text.specs.declared.name.OwnerName.{OwnerName}
-use Rattle.sdd_script_text.specs.declared.name.ItemName.{ItemName}
-use Rattle.sdd_script_text.specs.declared.name.CellName.{CellName}
-use Rattle.sdd_script_text.specs.declared.call.Call.{Call}
-use Rattle.sdd_script_text.specs.declared.call.Call.TheVariants.{At}
-use Rattle.sdd_script_text.specs.declared.answer.Reply.{Reply}
 use Rattle.sdd_script_text.specs.declared.call.Action.TheVariants as call
 use Rattle.sdd_script_text.specs.declared.answer.Reply.TheVariants as reply
-use Rattle.sdd_script_model.specs.Val.{Val}
-use Rattle.sdd_interpreter.specs.declared.holding.AnyOwner.{AnyOwner}
-use Rattle.sdd_interpreter.specs.declared.holding.AnyOwner.TheVariants.{Share}
-use Rattle.sdd_script_model.specs.declared.owner_kind.OwnerKind.{OwnerKind}
 use Rattle.sdd_script_model.specs.declared.owner_kind.OwnerKind.TheVariants as ownership
-use Rattle.sdd_interpreter.specs.declared.holding.AnyCell.{AnyCell}
 use Rattle.sdd_interpreter.specs.declared.holding.AnyCell.TheVariants as cell
-use Rattle.sdd_interpreter.specs.declared.holding.CellOwner.{CellOwner}
-use Rattle.sdd_interpreter.specs.declared.participants.NamedParticipant.{NamedParticipant}
-use Rattle.sdd_interpreter.specs.declared.participants.NamedGuard.{NamedGuard}
-use Rattle.sdd_interpreter.specs.declared.interpreter.Environment.{Environment}
-use Rattle.sdd_script_model.specs.ScriptState.{ScriptState, holding_at, cell_of, slot_of, sole_slot, shared_slot, shared_cell, opening_at}
-use Rattle.sdd_script_model.specs.Script.{Meets, HasOpen, IsCellName, IsSharedCell, CanCompare, FitsCell, IsNameOf, IsGivenBack, IsShareFull, MayShare, shared_once_more, slot_compared, slot_put, owner_as, owners_put, owners_taken}
-use Rattle.sdd_script_model.specs.Shown.{IsCell, item_held}
-use Rattle.sdd_interpreter.specs.Environment.{attending, named_owner, Fills, FitsIn, IsGiven, given_back, CanPutBack, owners_back, CanCompareAt}
-use Rattle.sdd_interpreter.specs.Owners.{owner_holding, cell_holding, cell_kind, cell_number, filling_holding, held_as}
-use Rattle.sdd_interpreter.specs.Interpreter.{desk_of, IsTied}
-use Rattle.sdd_script_model.specs.Held.{holding_first}
-use Rattle.sdd_script_model.proofs.CellGoing.{put-fits, held-named, swapped-leaves, taken-leaves, copied-leaves, held-apart}
-use Rattle.sdd_script_model.proofs.Entry.{at-default, inside}
-use Rattle.sdd_interpreter.proofs.Missing.{points, points-not}
+use Rattle.sdd_script_model.specs.Script.{IsSharedCell, CanCompare, FitsCell, IsNameOf, IsGivenBack, IsShareFull, MayShare, shared_once_more, slot_compared, owner_as, owners_put, owners_taken}
+use Rattle.sdd_interpreter.specs.Environment.{IsGiven, CanPutBack, owners_back, CanCompareAt}
+use Rattle.sdd_interpreter.specs.Owners.{held_as}
+use Rattle.sdd_script_model.proofs.CellGoing.{put-fits, swapped-leaves, taken-leaves, copied-leaves, held-apart}
 use Rattle.sdd_script.proofs.CellActs.{numbered, slot-of-put}
-use Rattle.sdd_interpreter.proofs.Acts.{Does, adds-owner, leads, is-there, in_range, stays-here}
 
 -- what a name of a cell stands for
 pub named-cell : (h : Environment) (c : ℕ) (x : AnyCell) → slice_index_or h.cells.entries.items c None ≡ Some x →

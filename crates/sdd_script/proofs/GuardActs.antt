@@ -1,53 +1,29 @@
 -- What coming and going, and each action of a guard leaves in hand: it is sound, and it is what the call means
-use Rattle.std.proofs.Common.{◌≡◌, ◌≢◌, ℕ, ◌+◌, Bool, true, false, if◌then◌else◌, List, [], ◌∷◌, ◌++◌, Option, Some, None, map, length, slice_index_or, slice_set, inl, inr, refl, sym, ap, ◌∙◌, subst, arith}
-use Rattle.std.specs.Prelude.{Contains, IsTrue, ◌↔◌}
-use Rattle.std.specs.List.Sorted.{IsPermutation, IsNonDecreasingBy}
-use Rattle.std.specs.Option.{option_map}
-use Rattle.std.specs.Global.{Vec}
-use Rattle.std.proofs.Math.ListN.{get_or-map}
-use Rattle.std.proofs.lemmas.Bool.{cases_eq}
-use Rattle.std.proofs.lemmas.List.{get_or_past, length-map, map-set, map_push}
+use Rattle.sdd_script.proofs.Words.{◌≡◌, ◌≢◌, ℕ, ◌+◌, Bool, true, false, if◌then◌else◌, List, [], ◌∷◌, ◌++◌, Option, Some, None, map, length, slice_index_or, slice_set, inl, inr, refl, sym, ap, ◌∙◌, subst, arith, IsTrue, ◌↔◌, IsPermutation, IsNonDecreasingBy, option_map, Vec, get_or-map, cases_eq, get_or_past, length-map, map-set, map_push, GuardOpen, IsEmptyAt, IsFull, CanNest, is_open, Item, reader_of, reader_at, opened, closed, IsWhole, World, IsPlaceOf, index_of, PlaceName, GuardName, ItemName, Register, At, NamedParticipant, NamedGuard, Environment, Val, holdings_of, ScriptState, OpenSince, BeginsLine, IsThere, opening_at, place_of, slot_at, in_world, Acts, Answers, HasOpen, IsParticipant, names_in, attending, guarding, desk_of, IsTied, GuardsIn, slots_among, as-each, at-other, at-default, IsDatedWithin, Goes, Does, does, goes, leads, still, place}
+use Rattle.std.specs.Prelude.{Contains}
 use Rattle.sdd_rights.specs.Units as token
 use Rattle.sdd_core.specs.Epoch.{epoch_of}
 use Rattle.sdd_core.specs.declared.epoch.Epoch.{Epoch}
-use Rattle.sdd_core.specs.declared.refused.Refused.TheVariants.{GuardOpen, NoJob, NoPlace, TooManyGuards}
-use Rattle.sdd_participants.specs.Slab.{IsEmptyAt, IsFull}
+use Rattle.sdd_core.specs.declared.refused.Refused.TheVariants.{NoJob, NoPlace, TooManyGuards}
 use Rattle.sdd_participants.specs.EpochState as time
-use Rattle.sdd_participants.specs.EpochState.{CanNest, IsCrowded, IsVacant, has_garbage, is_open}
-use Rattle.sdd_participants.specs.declared.waiting.LimboEntry.TheVariants.{Item, Job}
+use Rattle.sdd_participants.specs.EpochState.{IsCrowded, IsVacant, has_garbage}
+use Rattle.sdd_participants.specs.declared.waiting.LimboEntry.TheVariants.{Job}
 use Rattle.sdd_space.specs.WorldStep.WorldStep.{registers, ends, closes, opens}
-use Rattle.sdd_space.specs.Guard.{reader_of}
-use Rattle.sdd_space.specs.CallerId.{reader_at}
-use Rattle.sdd_space.specs.WorldChanges.{registered, ended, opened, reclaims, closed, stirred, accelerated, deferred}
-use Rattle.sdd_space.specs.WorldInvariant.{IsWhole}
-use Rattle.sdd_space.specs.World.{World, IsPlaceOf}
-use Rattle.sdd_world.specs.Place.{index_of}
+use Rattle.sdd_space.specs.WorldChanges.{registered, ended, reclaims, stirred, accelerated, deferred}
 use Rattle.sdd_world.specs.declared.world.Place.{Place}
-use Rattle.sdd_script_text.specs.declared.name.PlaceName.{PlaceName}
-use Rattle.sdd_script_text.specs.declared.name.GuardName.{GuardName}
-use Rattle.sdd_script_text.specs.declared.name.ItemName.{ItemName}
 use Rattle.sdd_script_text.specs.declared.name.JobName.{JobName}
-use Rattle.sdd_script_text.specs.declared.call.Call.TheVariants.{Register, At}
 use Rattle.sdd_script_text.specs.declared.call.Action.TheVariants as call
 use Rattle.sdd_script_text.specs.declared.answer.Reply.TheVariants as reply
-use Rattle.sdd_interpreter.specs.declared.participants.NamedParticipant.{NamedParticipant}
-use Rattle.sdd_interpreter.specs.declared.participants.NamedGuard.{NamedGuard}
-use Rattle.sdd_interpreter.specs.declared.interpreter.Environment.{Environment}
-use Rattle.sdd_script_model.specs.Val.{Val, holdings_of}
-use Rattle.sdd_script_model.specs.ScriptState.{ScriptState, OpenSince, BeginsLine, IsThere, WaitsAt, with_guard, opening_at, place_of, slot_at, in_world, with_newcomer, without_participant, without_guard}
-use Rattle.sdd_script_model.specs.Script.{Acts, Answers, HasOpen, IsParticipant}
+use Rattle.sdd_script_model.specs.ScriptState.{WaitsAt, with_guard, with_newcomer, without_participant, without_guard}
 use Rattle.sdd_script_model.specs.Script.AreCalls.{none as no_call, one_more}
-use Rattle.sdd_script_model.specs.Shown.{names_in, job_in}
-use Rattle.sdd_interpreter.specs.Environment.{attending, guarding, opened_since}
-use Rattle.sdd_interpreter.specs.Interpreter.{desk_of, IsTied, GuardsIn}
-use Rattle.sdd_script_model.specs.Held.{slots_among, places_among}
-use Rattle.sdd_script_model.proofs.Entry.{as-each, at-other, at-pushed, at-end, at-default}
+use Rattle.sdd_script_model.specs.Shown.{job_in}
+use Rattle.sdd_interpreter.specs.Environment.{opened_since}
+use Rattle.sdd_script_model.specs.Held.{places_among}
+use Rattle.sdd_script_model.proofs.Entry.{at-pushed, at-end}
 use Rattle.sdd_script_model.proofs.Dates.{dated-same}
-use Rattle.sdd_script_model.proofs.StackGoing.{IsDatedWithin}
 use Rattle.sdd_script.proofs.StackActs.{AreDatedNow, AreTold, dated-within}
 use Rattle.sdd_script_model.proofs.Going.{sound-opened, dated-opened, home-opened, names-go, names-run, not-under, not-run-under, deferred-leaves, stirred-leaves, accelerated-leaves, sound-registered, sound-ended, sound-closed}
 use Rattle.sdd_interpreter.proofs.Acts as stage
-use Rattle.sdd_interpreter.proofs.Acts.{Goes, Does, does, goes, leads, still, place}
 
 -- of what is spent nothing is in hand
 spent : {X : Type 0} (P : Option X → Type 0) → P None → (xs : List (Option X)) (k : ℕ) → ((j : ℕ) → P (slice_index_or xs j None)) → (j : ℕ) →

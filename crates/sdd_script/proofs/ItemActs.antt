@@ -1,47 +1,20 @@
 -- What the making of an item leaves in hand, and what an item shows: it is sound, and it is what the call means
-use Rattle.std.proofs.Common.{◌≡◌, ℕ, List, [], ◌∷◌, ◌++◌, Option, Some, None, is_some, map, length, slice_index_or, slice_set, refl, sym, ap, ◌∙◌, subst, IsSome}
-use Rattle.std.specs.Option.{option_map}
-use Rattle.std.specs.Global.{Vec}
-use Rattle.std.proofs.lemmas.List.{length-map, length-set, map-set, map_push}
-use Rattle.sdd_core.specs.declared.refused.Refused.{Refused}
-use Rattle.sdd_participants.specs.Slab.{IsEmptyAt}
-use Rattle.sdd_space.specs.OwnerOrCell.{OwnerOrCell}
-use Rattle.sdd_space.specs.WorldChanges.{made_as, nulled}
-use Rattle.sdd_space.specs.WorldInvariant.{IsWhole}
-use Rattle.sdd_space.specs.World.{World, IsPlaceOf, value_at}
-use Rattle.sdd_world.specs.Place.{index_of}
-use Rattle.sdd_script_text.specs.declared.name.PlaceName.{PlaceName}
-use Rattle.sdd_script_text.specs.declared.name.GuardName.{GuardName}
-use Rattle.sdd_script_text.specs.declared.name.OwnerName.{OwnerName}
-use Rattle.sdd_script_text.specs.declared.name.ItemName.{ItemName}
-use Rattle.sdd_script_text.specs.declared.call.Call.TheVariants.{At}
+use Rattle.sdd_script.proofs.Words.{◌≡◌, ℕ, List, [], ◌∷◌, ◌++◌, Option, Some, None, is_some, map, length, slice_index_or, slice_set, refl, sym, ap, ◌∙◌, subst, IsSome, option_map, Vec, length-map, length-set, map-set, map_push, Refused, IsEmptyAt, OwnerOrCell, nulled, IsWhole, World, IsPlaceOf, value_at, index_of, PlaceName, GuardName, OwnerName, ItemName, At, Value, Of, Body, Val, body_of, link_of, OwnerKind, AnyOwner, Sole, Share, NamedParticipant, Environment, ScriptState, opening_at, holding_at, place_of, slot_at, slot_of, in_world, with_owner, Acts, Meets, HasOpen, IsParticipant, IsThereToPut, IsValid, CanPointTo, told_of, attending, BecomesBody, owner_holding, desk_of, IsTied, making, holding_first, Does, leads, still, place}
+use Rattle.sdd_space.specs.WorldChanges.{made_as}
 use Rattle.sdd_script_text.specs.declared.call.Action.TheVariants as call
 use Rattle.sdd_script_text.specs.declared.call.Action.{Action}
-use Rattle.sdd_script_text.specs.declared.call.Value.{Value}
-use Rattle.sdd_script_text.specs.declared.call.Value.TheVariants.{Number, Of}
+use Rattle.sdd_script_text.specs.declared.call.Value.TheVariants.{Number}
 use Rattle.sdd_script_text.specs.declared.answer.Reply.TheVariants as reply
-use Rattle.sdd_script_model.specs.declared.val.Body.{Body}
-use Rattle.sdd_script_model.specs.Val.{Val, body_of, link_of, link_home}
+use Rattle.sdd_script_model.specs.Val.{link_home}
 use Rattle.sdd_script_model.specs.declared.val.Body.TheVariants as body
-use Rattle.sdd_script_model.specs.declared.owner_kind.OwnerKind.{OwnerKind}
 use Rattle.sdd_script_model.specs.declared.owner_kind.OwnerKind.TheVariants as ownership
-use Rattle.sdd_interpreter.specs.declared.holding.AnyOwner.{AnyOwner}
-use Rattle.sdd_interpreter.specs.declared.holding.AnyOwner.TheVariants.{Sole, Share}
-use Rattle.sdd_interpreter.specs.declared.participants.NamedParticipant.{NamedParticipant}
-use Rattle.sdd_interpreter.specs.declared.interpreter.Environment.{Environment}
-use Rattle.sdd_script_model.specs.ScriptState.{ScriptState, opening_at, holding_at, place_of, slot_at, slot_of, in_world, with_owner, with_item}
-use Rattle.sdd_script_model.specs.Script.{Acts, Meets, HasOpen, IsParticipant, IsThereToPut, IsValid, CanPointTo}
+use Rattle.sdd_script_model.specs.ScriptState.{with_item}
 use Rattle.sdd_script_model.specs.Made.{IsPutIn, RefusesItem, owners_left, put_in}
 use Rattle.sdd_script_model.specs.Script as script
-use Rattle.sdd_script_model.specs.Shown.{RepliesValue, told_of}
-use Rattle.sdd_interpreter.specs.Environment.{attending, BecomesBody}
-use Rattle.sdd_interpreter.specs.Owners.{owner_holding}
-use Rattle.sdd_interpreter.specs.Interpreter.{desk_of, IsTied}
-use Rattle.sdd_script.specs.ItemLines.{making}
-use Rattle.sdd_script_model.specs.Held.{standing_first, holding_first}
+use Rattle.sdd_script_model.specs.Shown.{RepliesValue}
+use Rattle.sdd_script_model.specs.Held.{standing_first}
 use Rattle.sdd_script_model.proofs.Going.{made-leaves}
 use Rattle.sdd_interpreter.proofs.Acts as stage
-use Rattle.sdd_interpreter.proofs.Acts.{Does, leads, still, place}
 
 module _ (h : Environment) (t : IsTied h) (whole : IsWhole h.world) where
   abbrev d : ScriptState

@@ -1,3 +1,4 @@
+pub mod Words
 pub mod ScheduleLines
 pub mod ScheduleTexts
 pub mod ScheduleTaken

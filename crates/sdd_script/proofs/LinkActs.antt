@@ -1,58 +1,26 @@
 -- What a change of a link leaves in hand: it is sound, and it is what the call means
-use Rattle.std.proofs.Common.{◌≡◌, ◌≢◌, ◌+◌, ℕ, Bool, true, false, List, [], ◌∷◌, Option, None, Some, inl, inr, slice_index_or, slice_set, refl, sym, ap, ◌∙◌, subst}
-use Rattle.std.specs.Prelude.{IfSome, IsSome, IsTrue}
-use Rattle.std.specs.Option.{option_map}
-use Rattle.std.specs.Global.{Vec}
-use Rattle.sdd_core.specs.declared.tag.Tag.{Tag}
-use Rattle.sdd_core.specs.declared.tag.Tag.TheVariants.{None as no_tag, Both, Second}
-use Rattle.sdd_participants.specs.Slab.{entry_at}
-use Rattle.sdd_participants.specs.declared.standing.CellContents.{CellContents}
-use Rattle.sdd_space.specs.World.{World, standing_at, value_at}
-use Rattle.sdd_space.specs.WorldInvariant.{IsWhole}
-use Rattle.sdd_space.specs.Ledger.{Claim}
-use Rattle.sdd_space.specs.Out.{is_out}
+use Rattle.sdd_script.proofs.Words.{◌≡◌, ◌≢◌, ◌+◌, ℕ, Bool, true, false, List, [], ◌∷◌, Option, None, Some, inl, inr, slice_index_or, slice_set, refl, sym, ap, ◌∙◌, subst, IfSome, IsTrue, option_map, Vec, Tag, Second, entry_at, CellContents, World, standing_at, value_at, IsWhole, Claim, is_out, held_in, Shared, AreLinked, Entry, first_slot, left, index_of, PlaceName, ItemName, GuardName, OwnerName, At, Val, link_of, IsLooseEntry, item_in, ScriptState, holding_at, in_world, opening_at, shared_slot, slot_at, Acts, CanPointTo, HasOpen, IsUnderGuard, IsValid, Meets, contained, named, NamedParticipant, Environment, attending, owner_holding, AnyOwner, Share, desk_of, IsTied, Does, does, goes, in_range, is, leads, named-owner, owner-spent, still, changing, accounts, owned-out, there-apart, starts}
+use Rattle.std.specs.Prelude.{IsSome}
+use Rattle.sdd_core.specs.declared.tag.Tag.TheVariants.{None as no_tag, Both}
 use Rattle.sdd_space.specs.Shared.{holding_of, slot_of}
-use Rattle.sdd_space.specs.WorldChanges.{held_in}
-use Rattle.sdd_space.specs.declared.shared.Shared.{Shared}
 use Rattle.sdd_lists.specs.Behind.{IsFresh, mark_tag}
 use Rattle.sdd_lists.specs.Ends.{IsAmong}
 use Rattle.sdd_lists.specs.Marks.{says_deleted}
-use Rattle.sdd_lists.specs.Lists.{AreLinked, Entry, IsList, first_slot, left, linked_in, trimmed}
-use Rattle.sdd_world.specs.Place.{index_of}
-use Rattle.sdd_script_text.specs.declared.name.PlaceName.{PlaceName}
-use Rattle.sdd_script_text.specs.declared.name.ItemName.{ItemName}
-use Rattle.sdd_script_text.specs.declared.name.GuardName.{GuardName}
-use Rattle.sdd_script_text.specs.declared.name.OwnerName.{OwnerName}
-use Rattle.sdd_script_text.specs.declared.call.Call.TheVariants.{At}
+use Rattle.sdd_lists.specs.Lists.{IsList, linked_in, trimmed}
 use Rattle.sdd_script_text.specs.declared.call.Action.TheVariants as call
 use Rattle.sdd_script_text.specs.declared.answer.Reply.TheVariants as reply
 use Rattle.sdd_script_model.specs.declared.link_change.LinkChange.{LinkChange}
 use Rattle.sdd_script_model.specs.declared.link_change.LinkChange.TheVariants.{Mark, Unmark, Delete}
-use Rattle.sdd_script_model.specs.Val.{Val, link_of}
-use Rattle.sdd_script_model.specs.Appending.{IsLooseEntry, MayAppend}
+use Rattle.sdd_script_model.specs.Appending.{MayAppend}
 use Rattle.sdd_script_model.specs.Link.{IsBehind, IsLink, may_change, retagged, tag_after}
-use Rattle.sdd_script_model.specs.Shown.{item_in}
-use Rattle.sdd_script_model.specs.ScriptState.{ScriptState, holding_at, in_world, opening_at, shared_slot, slot_at}
-use Rattle.sdd_script_model.specs.Script.{Acts, CanPointTo, HasOpen, IsUnderGuard, IsValid, Meets}
 use Rattle.sdd_script_model.proofs.BehindGoing.{behind-named, behind-there, next-leaves}
-use Rattle.sdd_script_model.specs.Sound.{contained, named}
 use Rattle.sdd_script_model.proofs.CellGoing.{link-leaves}
-use Rattle.sdd_interpreter.specs.declared.participants.NamedParticipant.{NamedParticipant}
-use Rattle.sdd_interpreter.specs.declared.interpreter.Environment.{Environment}
-use Rattle.sdd_interpreter.specs.Environment.{attending}
-use Rattle.sdd_interpreter.specs.Owners.{owner_holding}
-use Rattle.sdd_interpreter.specs.declared.holding.AnyOwner.{AnyOwner}
-use Rattle.sdd_interpreter.specs.declared.holding.AnyOwner.TheVariants.{Share}
-use Rattle.sdd_interpreter.specs.Interpreter.{desk_of, IsTied}
-use Rattle.sdd_interpreter.proofs.Acts.{Does, does, goes, in_range, is, leads, named-owner, owner-spent, still}
-use Rattle.sdd_script.specs.ItemLines.{changing}
 use Rattle.sdd_script.proofs.RawActs.{put-back, same-desk}
 use Rattle.sdd_script.proofs.StackActs.{AreDatedNow, AreTold, dated-within}
 use Rattle.sdd_script_model.proofs.Appending.{appended-leaves}
-use Rattle.sdd_script_model.proofs.Counting.{accounts, owned-out}
 use Rattle.sdd_script_model.proofs.Listed.{apart-item, links-apart}
-use Rattle.sdd_script_model.proofs.Storing.{IsReserved, there-apart}
-use Rattle.sdd_script_model.proofs.Chains.{link-apart-from, starts}
+use Rattle.sdd_script_model.proofs.Storing.{IsReserved}
+use Rattle.sdd_script_model.proofs.Chains.{link-apart-from}
 
 -- no line gives both tags
 no-both : (how : LinkChange) → tag_after how ≢ Both

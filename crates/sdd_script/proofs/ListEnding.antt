@@ -1,53 +1,22 @@
 -- How a script lets go of a queue or a stack, where no guard is open: its entries are let go of, at whatever place is there, and its cell is free
-use Rattle.std.proofs.Common.{◌≡◌, ◌≢◌, ◌+◌, ◌-◌, ◌<◌, ◌≤◌, Bool, ltb-true, inl, inr, ℕ, List, [], ◌∷◌, Option, Some, None, is_some, slice_index_or, slice_set, refl, sym, ap, ◌∙◌, subst, arith}
-use Rattle.std.specs.Prelude.{◌==◌, IsTrue}
-use Rattle.sdd_core.specs.declared.tag.Tag.TheVariants.{None as no_tag, Second}
-use Rattle.sdd_participants.specs.EpochState.{is_open, phase_at}
-use Rattle.sdd_participants.specs.Slab.{entry_at}
-use Rattle.sdd_participants.specs.declared.standing.CellContents.{CellContents}
-use Rattle.sdd_participants.specs.declared.standing.Standing.{Standing}
-use Rattle.sdd_participants.specs.declared.standing.Standing.TheVariants.{Raw, Retired, Shared}
-use Rattle.sdd_participants.specs.declared.tally.Tally.{Tally}
-use Rattle.sdd_space.specs.Ledger.{Claim, owner_of, right_to, nothing, one, IsLedger, Keeps}
-use Rattle.sdd_space.specs.Ledger.Moves.{opens}
-use Rattle.sdd_space.proofs.Ledger.{ledger-laws}
-use Rattle.sdd_space.proofs.Nesting.{guards-closed, one-if, still-live}
-use Rattle.sdd_space.proofs.Housed.{live-is}
-use Rattle.sdd_space.proofs.Sheds.{sheds-opened}
-use Rattle.sdd_participants.proofs.Adopting.{keeps-closed}
+use Rattle.sdd_script.proofs.Words.{◌≡◌, ◌≢◌, ◌+◌, ◌<◌, ◌≤◌, Bool, ltb-true, inl, inr, ℕ, List, [], ◌∷◌, Option, Some, None, is_some, slice_index_or, slice_set, refl, sym, ap, ◌∙◌, subst, arith, ◌==◌, IsTrue, Second, is_open, phase_at, entry_at, CellContents, Standing, Raw, Retired, Tally, Claim, owner_of, right_to, nothing, one, IsLedger, Keeps, opens, ledger-laws, guards-closed, one-if, still-live, live-is, sheds-opened, keeps-closed, get_or-map, cases_eq, OwnerOrCell, World, IsPlaceOf, place_at, standing_at, IsWhole, closed, held_in, opened, owner_given, spilled, with_cell, without_cell, accounted-owner_given, accounted-without_cell, given-same, held-cell_spent, held-owner_given, one_where, Entry, first_slot, let_go_first, AreSpare, IsSpare, IsStored, AreNumbers, Begins, HasLists, ScriptState, IsListCell, IsSecondCell, bag_at, opening_at, AreDeferred, IsSound, contained, named, Val, holdings_of, link_of, live-by, opens-one, deferred-opened, are-own, at-other, inside, set-either, layered-less, HoldsLess, less-same, less-shed, less-then, AreOwn, has-still, has-stored, spare-as, spare-on, has-same, has-seconds, KeepsSlots, slots-given, slots-opened, slots-same, slots-then, stocked-as, IsSingle, revived}
+use Rattle.std.proofs.Common.{◌-◌}
+use Rattle.sdd_core.specs.declared.tag.Tag.TheVariants.{None as no_tag}
+use Rattle.sdd_participants.specs.declared.standing.Standing.TheVariants.{Shared}
 use Rattle.sdd_participants.specs.PlaceStates.{is_live}
 use Rattle.sdd_participants.specs.declared.place_states.PlaceState.TheVariants.{Live}
-use Rattle.std.proofs.Math.ListN.{get_or-map}
-use Rattle.std.proofs.lemmas.Bool.{cases_eq}
 use Rattle.sdd_space.specs.OwnerCounts.{holds_slot, is_of as is_of_slot}
-use Rattle.sdd_space.specs.OwnerOrCell.{OwnerOrCell}
-use Rattle.sdd_space.specs.World.{World, IsPlaceOf, place_at, standing_at}
-use Rattle.sdd_space.specs.WorldInvariant.{IsWhole}
-use Rattle.sdd_space.specs.WorldChanges.{closed, held_in, opened, owner_given, spilled, with_cell, without_cell}
-use Rattle.sdd_space.proofs.Accounts.{accounted-owner_given, accounted-with_cell, accounted-without_cell}
-use Rattle.sdd_space.proofs.Rights.{given-same, held-cell_changed, held-cell_spent, held-owner_given}
+use Rattle.sdd_space.proofs.Accounts.{accounted-with_cell}
+use Rattle.sdd_space.proofs.Rights.{held-cell_changed}
 use Rattle.sdd_space.proofs.Standings.{owner-given}
-use Rattle.sdd_space.proofs.Whole.{one_where}
-use Rattle.sdd_lists.specs.Lists.{Entry, emptied, first_slot, let_go_first}
+use Rattle.sdd_lists.specs.Lists.{emptied}
 use Rattle.sdd_lists.proofs.Lists.{behind}
-use Rattle.sdd_script_model.specs.Bags.{AreSpare, IsSpare, IsStored}
-use Rattle.sdd_script_model.specs.Listed.{AreNumbers, Begins, HasLists}
-use Rattle.sdd_script_model.specs.ScriptState.{ScriptState, IsListCell, IsSecondCell, bag_at, opening_at}
-use Rattle.sdd_script_model.specs.Sound.{AreDeferred, IsSound, contained, named}
-use Rattle.sdd_script_model.specs.Val.{Val, holdings_of, link_of}
-use Rattle.sdd_script_model.proofs.Attending.{OpensOne, live-by, opens-one}
-use Rattle.sdd_script_model.proofs.Deferred.{deferred-opened}
+use Rattle.sdd_script_model.proofs.Attending.{OpensOne}
 use Rattle.sdd_script_model.proofs.SmallSteps.{keeps-opened}
-use Rattle.sdd_script_model.proofs.Chains.{AtHome, are-own}
-use Rattle.sdd_script_model.proofs.Entry.{at-other, inside, set-either}
-use Rattle.sdd_script_model.proofs.Layers.{layered-less}
-use Rattle.sdd_script_model.proofs.Links.{HoldsLess, less-same, less-shed, less-then}
-use Rattle.sdd_script_model.proofs.Listed.{AreOwn, has-still, has-stored, link-apart}
-use Rattle.sdd_script_model.proofs.Storing.{claim-apart, spare-as, spare-claimed, spare-on, spare-was}
-use Rattle.sdd_script_model.proofs.ListChanges.{has-ended, has-let_go, has-same, has-seconds}
-use Rattle.sdd_script_model.proofs.Stocked.{KeepsSlots, slots-given, slots-opened, slots-same, slots-then, stocked-as}
-use Rattle.sdd_script_model.proofs.StackChains.{IsSingle}
-use Rattle.sdd_script.specs.Leaving.{revived}
+use Rattle.sdd_script_model.proofs.Chains.{AtHome}
+use Rattle.sdd_script_model.proofs.Listed.{link-apart}
+use Rattle.sdd_script_model.proofs.Storing.{claim-apart, spare-claimed, spare-was}
+use Rattle.sdd_script_model.proofs.ListChanges.{has-ended, has-let_go}
 use Rattle.sdd_script.proofs.Ending.{LetsGo, lets-given, no-bags, no-guards, no-stored}
 
 -- ---- one after another

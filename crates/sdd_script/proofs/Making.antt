@@ -1,29 +1,10 @@
 -- How an item of a script is made: what goes into it, and its owner
-use Rattle.std.proofs.Common.{◌≡◌, ℕ, List, Option, Some, None, is_some, length, slice_index_or, refl, sym, ap, ◌∙◌}
-use Rattle.std.specs.Option.{option_map}
-use Rattle.std.proofs.Math.ListN.{get_or-map}
-use Rattle.std.proofs.lemmas.List.{length-set}
+use Rattle.sdd_script.proofs.Words.{◌≡◌, ℕ, List, Option, Some, None, is_some, length, slice_index_or, refl, sym, ap, ◌∙◌, option_map, get_or-map, length-set, IsWhole, Value, Of, Body, owner_in, OwnerKind, AnyOwner, Sole, Share, Environment, ScriptState, holding_at, slot_of, IsOwnerName, IsParticipant, IsThereToPut, IsValid, owner_holding, desk_of, IsTied, BecomesBody, holding_first, making, owner-home, no-owner}
 use Rattle.sdd_rights.specs.Units.{GhostName}
 use Rattle.sdd_space.specs.OwnerOrCell.{AreOf}
-use Rattle.sdd_space.specs.WorldInvariant.{IsWhole}
-use Rattle.sdd_script_text.specs.declared.call.Value.{Value}
-use Rattle.sdd_script_text.specs.declared.call.Value.TheVariants.{Number, Of}
-use Rattle.sdd_script_model.specs.declared.val.Body.{Body}
-use Rattle.sdd_script_model.specs.Val.{owner_in}
-use Rattle.sdd_script_model.specs.declared.owner_kind.OwnerKind.{OwnerKind}
+use Rattle.sdd_script_text.specs.declared.call.Value.TheVariants.{Number}
 use Rattle.sdd_script_model.specs.declared.owner_kind.OwnerKind.TheVariants as ownership
-use Rattle.sdd_interpreter.specs.declared.holding.AnyOwner.{AnyOwner}
-use Rattle.sdd_interpreter.specs.declared.holding.AnyOwner.TheVariants.{Sole, Share}
-use Rattle.sdd_interpreter.specs.declared.interpreter.Environment.{Environment}
-use Rattle.sdd_script_model.specs.ScriptState.{ScriptState, holding_at, slot_of}
-use Rattle.sdd_script_model.specs.Script.{IsOwnerName, IsParticipant, IsThereToPut, IsValid}
-use Rattle.sdd_interpreter.specs.Owners.{owner_holding}
-use Rattle.sdd_interpreter.specs.Interpreter.{desk_of, IsTied}
-use Rattle.sdd_interpreter.specs.Environment.{BecomesBody, IsMissing}
-use Rattle.sdd_script_model.specs.Held.{holding_first}
-use Rattle.sdd_script.specs.ItemLines.{making}
-use Rattle.sdd_interpreter.proofs.Acts.{owner-home}
-use Rattle.sdd_interpreter.proofs.Missing.{no-owner}
+use Rattle.sdd_interpreter.specs.Environment.{IsMissing}
 
 -- the slot of the first owner of an item
 pub first-slot : (own : OwnerKind) (k : ℕ) (home : GhostName) (s : ℕ) → slot_of (Some (holding_first own k home)) ≡ Some s → k ≡ s

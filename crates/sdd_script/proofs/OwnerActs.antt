@@ -1,43 +1,14 @@
 -- What each action of an owner leaves in hand: it is sound, and it is what the call means
-use Rattle.std.proofs.Common.{◌≡◌, ℕ, ◌+◌, ◌^◌, ◌<◌, Bool, if◌then◌else◌, [], ◌∷◌, ◌++◌, Option, Some, None, is_some, length, slice_index_or, slice_set, refl, sym, ap, ◌∙◌, subst}
-use Rattle.std.specs.Prelude.{IsTrue, ◌↔◌}
-use Rattle.std.specs.Option.{option_map}
-use Rattle.std.specs.Global.{Vec}
-use Rattle.std.proofs.lemmas.List.{length-map}
+use Rattle.sdd_script.proofs.Words.{◌≡◌, ℕ, ◌+◌, ◌^◌, ◌<◌, Bool, if◌then◌else◌, [], ◌∷◌, ◌++◌, Option, Some, None, is_some, length, slice_index_or, slice_set, refl, sym, ap, ◌∙◌, subst, IsTrue, ◌↔◌, option_map, Vec, length-map, IsSharedBy, Owned, Shared, retired, owner_given, with_standing, IsWhole, World, IsPlaceOf, standing_at, index_of, PlaceName, GuardName, OwnerName, ItemName, At, Val, AnyOwner, Sole, Share, NamedParticipant, Environment, ScriptState, opening_at, place_of, slot_at, sole_slot, shared_slot, slot_of, HasOpen, IsParticipant, CanPointTo, attending, owner_holding, desk_of, IsTied, Does, leads, IsStored, starts, there-apart}
 use Rattle.sdd_participants.specs.declared.standing.Standing.TheVariants as standing
-use Rattle.sdd_standings.specs.Slots.{IsSharedBy}
-use Rattle.sdd_space.specs.declared.owned.Owned.{Owned}
-use Rattle.sdd_space.specs.declared.shared.Shared.{Shared}
-use Rattle.sdd_space.specs.WorldChanges.{retired, owner_given, with_standing}
-use Rattle.sdd_space.specs.WorldInvariant.{IsWhole}
-use Rattle.sdd_space.specs.World.{World, IsPlaceOf, standing_at}
 use Rattle.sdd_space.specs.Owned as owned
 use Rattle.sdd_space.specs.Shared as shared
-use Rattle.sdd_world.specs.Place.{index_of}
-use Rattle.sdd_script_text.specs.declared.name.PlaceName.{PlaceName}
-use Rattle.sdd_script_text.specs.declared.name.GuardName.{GuardName}
-use Rattle.sdd_script_text.specs.declared.name.OwnerName.{OwnerName}
-use Rattle.sdd_script_text.specs.declared.name.ItemName.{ItemName}
-use Rattle.sdd_script_text.specs.declared.call.Call.TheVariants.{At}
 use Rattle.sdd_script_text.specs.declared.call.Action.TheVariants as call
 use Rattle.sdd_script_text.specs.declared.answer.Reply.TheVariants as reply
-use Rattle.sdd_script_model.specs.Val.{Val}
-use Rattle.sdd_interpreter.specs.declared.holding.AnyOwner.{AnyOwner}
-use Rattle.sdd_interpreter.specs.declared.holding.AnyOwner.TheVariants.{Sole, Share}
-use Rattle.sdd_interpreter.specs.declared.participants.NamedParticipant.{NamedParticipant}
-use Rattle.sdd_interpreter.specs.declared.interpreter.Environment.{Environment}
-use Rattle.sdd_script_model.specs.ScriptState.{ScriptState, opening_at, place_of, slot_at, sole_slot, shared_slot, slot_of}
-use Rattle.sdd_script_model.specs.Script.{HasOpen, IsParticipant, CanPointTo}
-use Rattle.sdd_interpreter.specs.Environment.{attending}
-use Rattle.sdd_interpreter.specs.Owners.{owner_holding}
-use Rattle.sdd_interpreter.specs.Interpreter.{desk_of, IsTied}
 use Rattle.sdd_script_model.proofs.Going.{retired-leaves, released-leaves}
 use Rattle.sdd_interpreter.proofs.Acts as stage
-use Rattle.sdd_interpreter.proofs.Acts.{Does, leads}
-use Rattle.sdd_script_model.specs.Bags.{IsStored}
-use Rattle.sdd_script_model.proofs.Chains.{owned-apart, starts}
+use Rattle.sdd_script_model.proofs.Chains.{owned-apart}
 use Rattle.sdd_script_model.proofs.InPlaceGoing.{owner-outside}
-use Rattle.sdd_script_model.proofs.Storing.{there-apart}
 
 module _ (h : Environment) (t : IsTied h) (whole : IsWhole h.world) where
   abbrev d : ScriptState

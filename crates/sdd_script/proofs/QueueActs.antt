@@ -1,37 +1,11 @@
 -- What each action on a queue leaves in hand: it is sound, and it is what the call means
-use Rattle.std.proofs.Common.{◌≡◌, ◌≢◌, ℕ, Bool, List, [], ◌∷◌, ◌++◌, Option, Some, None, is_some, map, length, slice_index_or, slice_set, refl, sym, ap, ◌∙◌, subst}
-use Rattle.std.specs.Option.{option_map}
-use Rattle.std.specs.Global.{Vec}
-use Rattle.std.proofs.lemmas.List.{length-map}
-use Rattle.sdd_core.specs.declared.refused.Refused.TheVariants.{NoCell}
-use Rattle.sdd_participants.specs.Slab.{IsEmptyAt}
+use Rattle.sdd_script.proofs.Words.{◌≡◌, ◌≢◌, ℕ, Bool, List, [], ◌∷◌, ◌++◌, Option, Some, None, is_some, map, length, slice_index_or, slice_set, refl, sym, ap, ◌∙◌, subst, option_map, Vec, length-map, NoCell, IsEmptyAt, World, IsPlaceOf, nulled, IsWhole, Entry, AreOfCells, HasOneAtMost, IsQueue, QueueCells, cells_in, queue_closed, Queue, index_of, PlaceName, QueueName, At, Body, in_world, opening_at, place_of, without_queue, Acts, IsParticipant, IsUnderGuard, IsNamedQueue, Val, link_of, newest_holding, oldest_holding, NamedParticipant, attending, Environment, IsTied, desk_of, Does, in_range, is-there, leads, owner-more, still, both-long, newest-cell, oldest-cell, queues-more, queues-spent}
 use Rattle.sdd_space.specs.OwnerOrCell as holding
-use Rattle.sdd_space.specs.World.{World, IsPlaceOf}
-use Rattle.sdd_space.specs.WorldChanges.{nulled}
-use Rattle.sdd_space.specs.WorldInvariant.{IsWhole}
-use Rattle.sdd_lists.specs.Lists.{Entry}
-use Rattle.sdd_lists.specs.Queue.{AreOfCells, HasOneAtMost, IsQueue, QueueCells, cells_in, queue_closed}
-use Rattle.sdd_lists.specs.declared.queue.Queue.{Queue}
-use Rattle.sdd_world.specs.Place.{index_of}
-use Rattle.sdd_script_text.specs.declared.name.PlaceName.{PlaceName}
-use Rattle.sdd_script_text.specs.declared.name.QueueName.{QueueName}
-use Rattle.sdd_script_text.specs.declared.call.Call.TheVariants.{At}
 use Rattle.sdd_script_text.specs.declared.call.Action.TheVariants as call
 use Rattle.sdd_script_text.specs.declared.answer.Reply.TheVariants as reply
-use Rattle.sdd_script_model.specs.declared.val.Body.{Body}
-use Rattle.sdd_script_model.specs.ScriptState.{in_world, opening_at, place_of, without_queue}
-use Rattle.sdd_script_model.specs.Script.{Acts, IsParticipant, IsQueueName, IsUnderGuard}
-use Rattle.sdd_script_model.specs.Queues.{IsNamedQueue}
-use Rattle.sdd_script_model.specs.Val.{Val, link_of}
+use Rattle.sdd_script_model.specs.Script.{IsQueueName}
 use Rattle.sdd_script_model.proofs.QueueGoing.{queue-there, queue_begun-leaves, queue_closed-leaves}
-use Rattle.sdd_interpreter.specs.Owners.{newest_holding, oldest_holding}
-use Rattle.sdd_interpreter.specs.declared.participants.NamedParticipant.{NamedParticipant}
-use Rattle.sdd_interpreter.specs.Environment.{attending}
-use Rattle.sdd_interpreter.specs.declared.interpreter.Environment.{Environment}
-use Rattle.sdd_interpreter.specs.Interpreter.{IsTied, desk_of}
 use Rattle.sdd_interpreter.proofs.Acts as acts
-use Rattle.sdd_interpreter.proofs.Acts.{Does, in_range, is-there, leads, owner-more, still}
-use Rattle.sdd_interpreter.proofs.Queues.{both-long, newest-cell, oldest-cell, queues-more, queues-spent}
 use Rattle.sdd_script.proofs.StackActs.{AreDatedNow, AreTold, dated-within}
 
 -- the entries of the queue of this name

@@ -1,40 +1,12 @@
 -- How a script lets go of a queue, where no guard is open: its second cell is closed, and then it is as a stack is
-use Rattle.std.proofs.Common.{◌≡◌, ◌+◌, ℕ, inl, inr, List, Option, Some, None, IsSome, is_some, slice_index_or, slice_set, refl, sym, ap, ◌∙◌, subst, arith}
-use Rattle.std.specs.Global.{Vec}
-use Rattle.sdd_participants.specs.EpochState.{phase_at}
-use Rattle.sdd_participants.specs.Slab.{entry_at}
-use Rattle.sdd_participants.specs.declared.standing.Standing.TheVariants.{Raw}
-use Rattle.sdd_space.specs.Ledger.{Claim, right_to, nothing, one, IsLedger, Keeps, Moves}
+use Rattle.sdd_script.proofs.Words.{◌≡◌, ◌+◌, ℕ, inl, inr, List, Option, Some, None, IsSome, is_some, slice_index_or, slice_set, refl, sym, ap, ◌∙◌, subst, arith, Vec, phase_at, entry_at, Raw, Claim, right_to, nothing, one, IsLedger, Keeps, OwnerOrCell, World, IsPlaceOf, standing_at, IsWhole, cell_closed, closed, held_in, opened, spilled, without_cell, ledger-laws, Entry, IsQueue, QueueCells, cells_in, queue_closed, Queue, Body, IsSpare, IsStored, AreNumbers, Begins, HasLists, ScriptState, IsListCell, IsSecondCell, bag_at, holding_at, in_world, opening_at, shared_cell, without_queue, IsSound, contained, named, Val, holdings_of, link_of, are-own, at_home-spent, inside, set-either, less-same, AreOwn, has-still, same-list, has-seconds, spare-as, IsSingle, KeepsSlots, slots-given, slots-same, slots-then, guarding, IsTied, desk_of, Environment, newest-cell, oldest-cell, queues-spent, revived}
+use Rattle.sdd_space.specs.Ledger.{Moves}
 use Rattle.sdd_space.specs.Ledger.Moves.{closes_cell}
-use Rattle.sdd_space.specs.OwnerOrCell.{OwnerOrCell}
-use Rattle.sdd_space.specs.World.{World, IsPlaceOf, standing_at}
-use Rattle.sdd_space.specs.WorldInvariant.{IsWhole}
-use Rattle.sdd_space.specs.WorldChanges.{cell_closed, closed, held_in, opened, spilled, without_cell}
-use Rattle.sdd_space.proofs.Ledger.{ledger-laws}
-use Rattle.sdd_lists.specs.Lists.{Entry}
-use Rattle.sdd_lists.specs.Queue.{IsQueue, QueueCells, cells_in, queue_closed}
-use Rattle.sdd_lists.specs.declared.queue.Queue.{Queue}
 use Rattle.sdd_lists.proofs.Leaving.{spilled-cells, spilled-values}
-use Rattle.sdd_script_model.specs.declared.val.Body.{Body}
-use Rattle.sdd_script_model.specs.Bags.{IsSpare, IsStored}
-use Rattle.sdd_script_model.specs.Listed.{AreNumbers, Begins, HasLists}
-use Rattle.sdd_script_model.specs.ScriptState.{ScriptState, IsListCell, IsSecondCell, bag_at, holding_at, in_world, opening_at, shared_cell, without_queue}
-use Rattle.sdd_script_model.specs.Sound.{IsSound, contained, named}
-use Rattle.sdd_script_model.specs.Val.{Val, holdings_of, link_of}
-use Rattle.sdd_script_model.proofs.Chains.{are-own, at_home-spent}
-use Rattle.sdd_script_model.proofs.Entry.{inside, set-either}
-use Rattle.sdd_script_model.proofs.Links.{less-same}
-use Rattle.sdd_script_model.proofs.Listed.{AreOwn, has-still, list-still, same-list}
-use Rattle.sdd_script_model.proofs.ListChanges.{has-seconds}
-use Rattle.sdd_script_model.proofs.Storing.{spare-as}
+use Rattle.sdd_script_model.proofs.Listed.{list-still}
 use Rattle.sdd_script_model.proofs.QueueGoing.{bare-was, first-less, first-single, kept-first, queue-in, second-less, second-was, was-first}
-use Rattle.sdd_script_model.proofs.StackChains.{IsSingle}
-use Rattle.sdd_script_model.proofs.Stocked.{KeepsSlots, slots-given, slots-same, slots-then}
-use Rattle.sdd_interpreter.specs.Environment.{guarding}
-use Rattle.sdd_interpreter.specs.Interpreter.{IsTied, desk_of}
-use Rattle.sdd_interpreter.specs.declared.interpreter.Environment.{Environment}
-use Rattle.sdd_interpreter.proofs.Queues.{named-oldest, newest-cell, oldest-cell, queues-spent}
-use Rattle.sdd_script.specs.Leaving.{IsQueueUnder, LeavesQueue, SpendsQueue, revived}
+use Rattle.sdd_interpreter.proofs.Queues.{named-oldest}
+use Rattle.sdd_script.specs.Leaving.{IsQueueUnder, LeavesQueue, SpendsQueue}
 use Rattle.sdd_script.proofs.Ending.{none-in}
 use Rattle.sdd_script.proofs.ListEnding.{IsLetting, KeepsTold, last, ledger-open, lets-spilled, lists-open, live-open, own-all, raw-given, sound-left, spare-open, told-left, whole-open}
 

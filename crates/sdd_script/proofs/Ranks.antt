@@ -1,21 +1,11 @@
 -- Where there is no list any more, each item has a higher rank than those whose owners its value and its link hold
-use Rattle.std.proofs.Common.{◌≡◌, ◌⊎◌, ◌+◌, ◌<◌, ◌≤◌, inl, inr, ℕ, List, [], ◌∷◌, length, Option, Some, None, is_some, refl, sym, ap, ◌∙◌, arith}
-use Rattle.sdd_participants.specs.Slab.{entry_at}
-use Rattle.sdd_space.specs.Ledger.{owner_of, claims}
+use Rattle.sdd_script.proofs.Words.{◌≡◌, ◌⊎◌, ◌+◌, ◌<◌, ◌≤◌, inl, inr, ℕ, List, [], ◌∷◌, length, Option, Some, None, is_some, refl, sym, ap, ◌∙◌, arith, entry_at, owner_of, value_at, held_in, AreLinked, Entry, first_slot, IsStored, AreNumbers, IsNumber, ScriptState, IsListCell, IsSound, Val, body_of, holdings_of, link_of, owner_in, Body, Number, inside}
+use Rattle.sdd_space.specs.Ledger.{claims}
 use Rattle.sdd_space.specs.OwnerCounts.{times_held}
-use Rattle.sdd_space.specs.World.{value_at}
-use Rattle.sdd_space.specs.WorldChanges.{held_in}
 use Rattle.sdd_world.proofs.AllGo.{bounded}
-use Rattle.sdd_lists.specs.Lists.{AreLinked, Entry, first_slot}
-use Rattle.sdd_script_model.specs.Bags.{IsStored}
-use Rattle.sdd_script_model.specs.Listed.{AreNumbers, IsNumber}
-use Rattle.sdd_script_model.specs.ScriptState.{ScriptState, IsListCell, name_at}
+use Rattle.sdd_script_model.specs.ScriptState.{name_at}
 use Rattle.sdd_script_model.specs.Shown.{number_in}
-use Rattle.sdd_script_model.specs.Sound.{IsSound}
-use Rattle.sdd_script_model.specs.Val.{Val, body_of, holdings_of, link_of, owner_in}
-use Rattle.sdd_script_model.specs.declared.val.Body.{Body}
-use Rattle.sdd_script_model.specs.declared.val.Body.TheVariants.{Number, Owned, Shared, Storage}
-use Rattle.sdd_script_model.proofs.Entry.{inside}
+use Rattle.sdd_script_model.specs.declared.val.Body.TheVariants.{Owned, Shared, Storage}
 use Rattle.sdd_script_model.proofs.Links.{holds-so}
 use Rattle.sdd_script_model.proofs.Listed.{unique}
 

@@ -1,49 +1,17 @@
 -- What each action on an item in its place, or on a raw one, leaves in hand: it is sound, and it is what the call means
-use Rattle.std.proofs.Common.{◌≡◌, ◌≢◌, ℕ, Bool, true, false, List, [], ◌∷◌, ◌++◌, Option, Some, None, IsSome, is_some, map, length, slice_index_or, slice_set, refl, sym, ap, ◌∙◌, subst, arith}
-use Rattle.std.specs.Option.{option_map}
-use Rattle.std.specs.Global.{Vec}
-use Rattle.std.proofs.Math.ListN.{get_or-map}
-use Rattle.std.proofs.lemmas.List.{length-map, map-set, set-get_or, set-set}
-use Rattle.sdd_core.specs.declared.refused.Refused.{Refused}
-use Rattle.sdd_core.specs.declared.refused.Refused.TheVariants.{GuardOpen}
+use Rattle.sdd_script.proofs.Words.{◌≡◌, ◌≢◌, ℕ, Bool, true, false, List, [], ◌∷◌, ◌++◌, Option, Some, None, IsSome, is_some, map, length, slice_index_or, slice_set, refl, sym, ap, ◌∙◌, subst, arith, option_map, Vec, get_or-map, length-map, map-set, set-get_or, set-set, Refused, GuardOpen, Owned, OwnerOrCell, with_standing, IsWhole, World, standing_at, value_at, index_of, PlaceName, GuardName, OwnerName, ItemName, At, Reply, Body, Val, body_of, ScriptState, IsThere, opening_at, holding_at, slot_at, slot_of, sole_slot, Acts, Meets, HasOpen, IsOwnerName, told_of, AnyOwner, Sole, Share, NamedParticipant, Environment, attending, owner_holding, desk_of, IsTied, item_in, Does, leads, still, is, is-there, in_range, named-owner, owner-spent, owner-more, invalid}
 use Rattle.sdd_participants.specs.declared.standing.Standing.TheVariants as standing
-use Rattle.sdd_space.specs.declared.owned.Owned.{Owned}
 use Rattle.sdd_space.specs.OwnerOrCell as holding
-use Rattle.sdd_space.specs.OwnerOrCell.{OwnerOrCell}
 use Rattle.sdd_space.specs.InPlace.{MayInPlace, RefusedInPlace}
-use Rattle.sdd_space.specs.WorldChanges.{with_standing}
-use Rattle.sdd_space.specs.WorldInvariant.{IsWhole}
-use Rattle.sdd_space.specs.World.{World, standing_at, value_at}
 use Rattle.sdd_space.specs.Owned as owned
 use Rattle.sdd_space.specs.Shared as shared
-use Rattle.sdd_world.specs.Place.{index_of}
-use Rattle.sdd_script_text.specs.declared.name.PlaceName.{PlaceName}
-use Rattle.sdd_script_text.specs.declared.name.GuardName.{GuardName}
-use Rattle.sdd_script_text.specs.declared.name.OwnerName.{OwnerName}
-use Rattle.sdd_script_text.specs.declared.name.ItemName.{ItemName}
-use Rattle.sdd_script_text.specs.declared.call.Call.TheVariants.{At}
 use Rattle.sdd_script_text.specs.declared.call.Action.TheVariants as call
-use Rattle.sdd_script_text.specs.declared.answer.Reply.{Reply}
 use Rattle.sdd_script_text.specs.declared.answer.Reply.TheVariants as reply
-use Rattle.sdd_script_model.specs.declared.val.Body.{Body}
-use Rattle.sdd_script_model.specs.Val.{Val, body_of}
 use Rattle.sdd_script_model.specs.declared.val.Body.TheVariants as body
-use Rattle.sdd_script_model.specs.ScriptState.{ScriptState, IsThere, opening_at, holding_at, slot_at, slot_of, sole_slot}
 use Rattle.sdd_script_model.specs.InPlace.{OwnsNumber, Puts, Drops, RefusesDrop, IsRaw}
-use Rattle.sdd_script_model.specs.Script.{Acts, Meets, HasOpen, IsOwnerName}
-use Rattle.sdd_script_model.specs.Shown.{told_of}
-use Rattle.sdd_interpreter.specs.declared.holding.AnyOwner.{AnyOwner}
-use Rattle.sdd_interpreter.specs.declared.holding.AnyOwner.TheVariants.{Sole, Share}
-use Rattle.sdd_interpreter.specs.declared.participants.NamedParticipant.{NamedParticipant}
-use Rattle.sdd_interpreter.specs.declared.interpreter.Environment.{Environment}
-use Rattle.sdd_interpreter.specs.Environment.{attending, CanPointAt}
-use Rattle.sdd_interpreter.specs.Owners.{owner_holding}
-use Rattle.sdd_interpreter.specs.Interpreter.{desk_of, IsTied}
+use Rattle.sdd_interpreter.specs.Environment.{CanPointAt}
 use Rattle.sdd_script_model.proofs.InPlaceGoing.{raw-leaves, back-leaves, put-leaves, after_drop, drop-leaves}
-use Rattle.sdd_script_model.specs.Shown.{item_in}
 use Rattle.sdd_script.proofs.StackActs.{AreDatedNow, AreTold, dated-within}
-use Rattle.sdd_interpreter.proofs.Acts.{Does, leads, still, is, is-there, in_range, named-owner, owner-spent, owner-more}
-use Rattle.sdd_interpreter.proofs.Missing.{invalid}
 
 some-slot : (x : AnyOwner) (k : ℕ) (o : Option OwnerOrCell) → o ≡ Some (owner_holding x) → slot_of (Some (owner_holding x)) ≡ Some k → slot_of o ≡ Some k
 some-slot x k o e slot = ap slot_of e ∙ slot

@@ -1,10 +1,6 @@
 -- The lines of a text, and the steps that they are
-use Rattle.std.proofs.Common.{◌≡◌, ℕ, ◌+◌, ◌<◌, ◌≤◌, List, ◌∷◌, ◌++◌, length, map}
-use Rattle.std.specs.List.{AllByRecursion}
-use Rattle.sdd_script_text.specs.Script.{lines, most_calls}
+use Rattle.sdd_script.proofs.Words.{◌≡◌, ℕ, ◌+◌, ◌<◌, ◌≤◌, List, ◌∷◌, ◌++◌, length, map, AllByRecursion, lines, most_calls, Step, line_of, HasNumbers, IsStepText}
 use Rattle.sdd_script_text.proofs.Scripts.{first_other, no_other, only_lines}
-use Rattle.sdd_machine.specs.declared.machine.steps.Step.{Step}
-use Rattle.sdd_script.specs.ScheduleLine.{line_of, HasNumbers, IsStepText}
 use Rattle.sdd_script.specs.Schedule.{AreSteps, IsFirstFault}
 use Rattle.sdd_script.proofs.ScheduleLines.{own_texts}
 

@@ -1,42 +1,14 @@
 -- What each action on a stack leaves in hand: it is sound, and it is what the call means
-use Rattle.std.proofs.Common.{◌≡◌, ◌<◌, inr, ℕ, Bool, false, List, [], ◌∷◌, ◌++◌, Option, Some, None, is_some, map, length, slice_index, slice_index_or, slice_set, if◌then◌else◌, refl, sym, ap, ◌∙◌, subst, arith}
-use Rattle.std.specs.Option.{option_map}
-use Rattle.std.specs.Global.{Vec}
-use Rattle.std.proofs.lemmas.List.{length-map}
-use Rattle.sdd_core.specs.declared.refused.Refused.TheVariants.{NoCell}
-use Rattle.sdd_participants.specs.Slab.{IsEmptyAt, IsFull}
-use Rattle.sdd_standings.specs.Slots.{is_waiting}
-use Rattle.sdd_space.specs.OwnerOrCell.{OwnerOrCell}
+use Rattle.sdd_script.proofs.Words.{◌≡◌, ◌<◌, inr, ℕ, Bool, false, List, [], ◌∷◌, ◌++◌, Option, Some, None, is_some, map, length, slice_index, slice_index_or, slice_set, if◌then◌else◌, refl, sym, ap, ◌∙◌, subst, arith, option_map, Vec, length-map, NoCell, IsEmptyAt, IsFull, is_waiting, OwnerOrCell, World, IsPlaceOf, standing_at, nulled, IsWhole, Entry, cell_in, home_in, Stack, index_of, PlaceName, GuardName, StackName, At, Body, Begins, ScriptState, in_world, opening_at, place_of, without_stack, Acts, HasOpen, IsParticipant, IsUnderGuard, IsStack, stack_closed, Val, stack_holding, NamedParticipant, attending, Environment, IsTied, desk_of, Does, does, goes, in_range, is-there, leads, owner-more, still, stack-cell, stacks-more, stacks-spent}
 use Rattle.sdd_space.specs.OwnerOrCell as holding
-use Rattle.sdd_space.specs.World.{World, IsPlaceOf, standing_at}
-use Rattle.sdd_space.specs.WorldChanges.{nulled}
-use Rattle.sdd_space.specs.WorldInvariant.{IsWhole}
-use Rattle.sdd_lists.specs.Lists.{Entry}
-use Rattle.sdd_lists.specs.Stack.{cell_in, home_in, poured}
-use Rattle.sdd_lists.specs.declared.stack.Stack.{Stack}
-use Rattle.sdd_world.specs.Place.{index_of}
-use Rattle.sdd_script_text.specs.declared.name.PlaceName.{PlaceName}
-use Rattle.sdd_script_text.specs.declared.name.GuardName.{GuardName}
-use Rattle.sdd_script_text.specs.declared.name.StackName.{StackName}
-use Rattle.sdd_script_text.specs.declared.call.Call.TheVariants.{At}
+use Rattle.sdd_lists.specs.Stack.{poured}
 use Rattle.sdd_script_text.specs.declared.call.Action.TheVariants as call
 use Rattle.sdd_script_text.specs.declared.answer.Reply.TheVariants as reply
-use Rattle.sdd_script_model.specs.declared.val.Body.{Body}
-use Rattle.sdd_script_model.specs.Listed.{Begins}
-use Rattle.sdd_script_model.specs.ScriptState.{ScriptState, in_world, opening_at, place_of, without_stack}
-use Rattle.sdd_script_model.specs.Script.{Acts, HasOpen, IsParticipant, IsStackName, IsUnderGuard}
-use Rattle.sdd_script_model.specs.Stacks.{IsStack, stack_closed}
-use Rattle.sdd_script_model.specs.Val.{Val}
+use Rattle.sdd_script_model.specs.Script.{IsStackName}
 use Rattle.sdd_script_model.proofs.StackGoing.{begun-leaves, stack_closed-leaves}
 use Rattle.sdd_script_model.proofs.StackPouring.{poured-leaves}
-use Rattle.sdd_interpreter.specs.Owners.{stack_holding}
-use Rattle.sdd_interpreter.specs.declared.participants.NamedParticipant.{NamedParticipant}
-use Rattle.sdd_interpreter.specs.Environment.{attending, date_now}
-use Rattle.sdd_interpreter.specs.declared.interpreter.Environment.{Environment}
-use Rattle.sdd_interpreter.specs.Interpreter.{IsTied, desk_of}
+use Rattle.sdd_interpreter.specs.Environment.{date_now}
 use Rattle.sdd_interpreter.proofs.Acts as acts
-use Rattle.sdd_interpreter.proofs.Acts.{Does, does, goes, in_range, is-there, leads, owner-more, still}
-use Rattle.sdd_interpreter.proofs.Stacks.{stack-cell, stacks-more, stacks-spent}
 
 -- the entries of the stack of this name
 pub stack-entries : (h : Environment) → IsTied h → (s : ℕ) (x : Stack Body) → Some x ≡ slice_index_or h.stacks.entries.items s None →

@@ -1,31 +1,8 @@
 -- How a script lets go of a stack, where no guard is open
-use Rattle.std.proofs.Common.{◌≡◌, ◌+◌, ℕ, List, Option, Some, None, IsSome, is_some, slice_index_or, slice_set, refl, sym, ap, subst, arith}
-use Rattle.std.specs.Global.{Vec}
-use Rattle.sdd_participants.specs.EpochState.{phase_at}
-use Rattle.sdd_space.specs.OwnerOrCell.{OwnerOrCell}
-use Rattle.sdd_space.specs.World.{World, IsPlaceOf}
-use Rattle.sdd_space.specs.WorldInvariant.{IsWhole}
-use Rattle.sdd_space.specs.WorldChanges.{closed, opened}
-use Rattle.sdd_lists.specs.Lists.{Entry}
-use Rattle.sdd_lists.specs.Stack.{cell_in}
-use Rattle.sdd_lists.specs.declared.stack.Stack.{Stack}
-use Rattle.sdd_script_model.specs.declared.val.Body.{Body}
-use Rattle.sdd_script_model.specs.Bags.{IsStored}
-use Rattle.sdd_script_model.specs.Listed.{Begins}
-use Rattle.sdd_script_model.specs.ScriptState.{ScriptState, IsListCell, IsSecondCell, bag_at, holding_at, in_world, opening_at, shared_cell, without_stack}
-use Rattle.sdd_script_model.specs.Sound.{IsSound, contained, named}
-use Rattle.sdd_script_model.specs.Stacks.{stack_closed}
-use Rattle.sdd_script_model.specs.Val.{Val, holdings_of}
-use Rattle.sdd_script_model.proofs.Chains.{at_home-spent}
-use Rattle.sdd_script_model.proofs.Entry.{inside}
-use Rattle.sdd_script_model.proofs.StackChains.{IsSingle}
+use Rattle.sdd_script.proofs.Words.{◌≡◌, ◌+◌, ℕ, List, Option, Some, None, IsSome, is_some, slice_index_or, slice_set, refl, sym, ap, subst, arith, Vec, phase_at, OwnerOrCell, World, IsPlaceOf, IsWhole, closed, opened, Entry, cell_in, Stack, Body, IsStored, Begins, ScriptState, IsListCell, IsSecondCell, bag_at, holding_at, in_world, opening_at, shared_cell, without_stack, IsSound, contained, named, stack_closed, Val, holdings_of, at_home-spent, inside, IsSingle, slots-same, guarding, IsTied, desk_of, Environment, stack-cell, stacks-spent, revived}
 use Rattle.sdd_script_model.proofs.StackGoing.{is-single, kept-other, one-less, was-other}
-use Rattle.sdd_script_model.proofs.Stocked.{slots-same}
-use Rattle.sdd_interpreter.specs.Environment.{guarding}
-use Rattle.sdd_interpreter.specs.Interpreter.{IsTied, desk_of}
-use Rattle.sdd_interpreter.specs.declared.interpreter.Environment.{Environment}
-use Rattle.sdd_interpreter.proofs.Stacks.{named-stack, stack-cell, stacks-spent}
-use Rattle.sdd_script.specs.Leaving.{BeginsUnder, LeavesStack, SpendsStack, revived}
+use Rattle.sdd_interpreter.proofs.Stacks.{named-stack}
+use Rattle.sdd_script.specs.Leaving.{BeginsUnder, LeavesStack, SpendsStack}
 use Rattle.sdd_script.proofs.Ending.{none-in}
 use Rattle.sdd_script.proofs.ListEnding.{IsLetting, KeepsTold, last, ledger-open, lists-open, own-all, sound-left, spare-open, told-left}
 

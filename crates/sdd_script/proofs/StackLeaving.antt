@@ -1,16 +1,7 @@
 -- A queue or a stack is closed under a guard that is opened for it: who is there meanwhile, and whose handles are known
-use Rattle.std.proofs.Common.{◌≡◌, ◌<◌, ℕ, zero, suc, List, sym, ◌∙◌, arith, lt-ltb, Option}
-use Rattle.std.proofs.lemmas.List.{get_or_default}
-use Rattle.sdd_participants.specs.EpochState.{CanNest, nobody}
-use Rattle.sdd_space.specs.World.{World, AnyGuardOpen, IsPlaceOf, place_at}
-use Rattle.sdd_space.specs.WorldChanges.{opened, spilled, without_cell}
-use Rattle.sdd_lists.specs.Lists.{Entry}
-use Rattle.sdd_lists.specs.Queue.{QueueCells, queue_closed}
-use Rattle.sdd_script_model.specs.Stacks.{stack_closed}
-use Rattle.sdd_script_model.specs.Val.{Val, holdings_of, link_of}
-use Rattle.sdd_script_model.proofs.Attending.{live-by, opens-one}
-use Rattle.sdd_script_model.proofs.Stocked.{slots-opened}
-use Rattle.sdd_script.specs.Leaving.{revived}
+use Rattle.sdd_script.proofs.Words.{◌≡◌, ◌<◌, ℕ, zero, suc, List, sym, ◌∙◌, arith, Option, get_or_default, CanNest, World, AnyGuardOpen, IsPlaceOf, place_at, opened, spilled, without_cell, Entry, QueueCells, queue_closed, stack_closed, Val, holdings_of, link_of, live-by, opens-one, slots-opened, revived}
+use Rattle.std.proofs.Common.{lt-ltb}
+use Rattle.sdd_participants.specs.EpochState.{nobody}
 use Rattle.sdd_script.proofs.Ending.{LetsGo}
 use Rattle.sdd_script.proofs.ListEnding.{lets-emptied, lets-spilled, lets-then}
 

@@ -1,29 +1,9 @@
 -- No owner more of an item is given: it has as many as may be, or one that can't be shared
-use Rattle.std.proofs.Common.{◌≡◌, ◌≢◌, ℕ, ◌^◌, Some, None, is_some, slice_index_or, refl, ap}
-use Rattle.sdd_core.specs.declared.refused.Refused.{Refused}
-use Rattle.sdd_core.specs.declared.refused.Refused.TheVariants.{TooManyOwners}
+use Rattle.sdd_script.proofs.Words.{◌≡◌, ◌≢◌, ℕ, ◌^◌, Some, None, is_some, slice_index_or, refl, ap, Refused, TooManyOwners, IsSharedBy, IsWhole, standing_at, Shared, PlaceName, GuardName, OwnerName, ItemName, At, Val, Share, Environment, NamedParticipant, ScriptState, opening_at, shared_slot, slot_at, Acts, HasOpen, CanPointTo, attending, desk_of, IsTied, is-there, named-owner, still}
 use Rattle.sdd_participants.specs.declared.standing.Standing.TheVariants as standing
-use Rattle.sdd_standings.specs.Slots.{IsSharedBy}
-use Rattle.sdd_space.specs.WorldInvariant.{IsWhole}
-use Rattle.sdd_space.specs.World.{standing_at}
-use Rattle.sdd_space.specs.declared.shared.Shared.{Shared}
 use Rattle.sdd_space.specs.Shared as shared
-use Rattle.sdd_script_text.specs.declared.name.PlaceName.{PlaceName}
-use Rattle.sdd_script_text.specs.declared.name.GuardName.{GuardName}
-use Rattle.sdd_script_text.specs.declared.name.OwnerName.{OwnerName}
-use Rattle.sdd_script_text.specs.declared.name.ItemName.{ItemName}
-use Rattle.sdd_script_text.specs.declared.call.Call.TheVariants.{At}
 use Rattle.sdd_script_text.specs.declared.call.Action.TheVariants as call
 use Rattle.sdd_script_text.specs.declared.answer.Reply.TheVariants as reply
-use Rattle.sdd_script_model.specs.Val.{Val}
-use Rattle.sdd_interpreter.specs.declared.holding.AnyOwner.TheVariants.{Share}
-use Rattle.sdd_interpreter.specs.declared.interpreter.Environment.{Environment}
-use Rattle.sdd_interpreter.specs.declared.participants.NamedParticipant.{NamedParticipant}
-use Rattle.sdd_script_model.specs.ScriptState.{ScriptState, opening_at, shared_slot, slot_at}
-use Rattle.sdd_script_model.specs.Script.{Acts, HasOpen, CanPointTo}
-use Rattle.sdd_interpreter.specs.Environment.{attending}
-use Rattle.sdd_interpreter.specs.Interpreter.{desk_of, IsTied}
-use Rattle.sdd_interpreter.proofs.Acts.{is-there, named-owner, still}
 
 module _ (h : Environment) (t : IsTied h) (whole : IsWhole h.world) (name : PlaceName) where
   abbrev d : ScriptState

@@ -1,36 +1,11 @@
 -- An entry comes directly behind an item, and what the script's desk is then
-use Rattle.std.proofs.Common.{◌≡◌, ◌≢◌, ◌⊎◌, ◌+◌, ◌≤◌, inl, inr, eq-eqb, ℕ, zero, suc, Bool, true, false, List, [], ◌∷◌, Option, Some, None, slice_set, refl, sym, ap, ◌∙◌, subst, arith}
-use Rattle.std.specs.Prelude.{◌==◌, if◌then◌else◌}
-use Rattle.std.proofs.lemmas.Bool.{cases_eq}
-use Rattle.std.proofs.lemmas.List.{set_comm}
-use Rattle.sdd_core.specs.declared.tag.Tag.{Tag}
-use Rattle.sdd_core.specs.declared.tag.Tag.TheVariants.{None as no_tag, Second, Both}
-use Rattle.sdd_participants.specs.Slab.{Entries, entry_at}
-use Rattle.sdd_participants.specs.declared.standing.CellContents.{CellContents}
-use Rattle.sdd_space.specs.Ledger.{Claim, IsLedger, owner_of, owner_held, right_to, one}
-use Rattle.sdd_space.specs.Ledger.Moves.{changes_cell}
-use Rattle.sdd_space.specs.OwnerOrCell.{OwnerOrCell}
-use Rattle.sdd_space.specs.World.{World, IsPlaceOf, value_at}
-use Rattle.sdd_space.specs.WorldChanges.{held_in, with_cell}
-use Rattle.sdd_space.specs.WorldInvariant.{IsWhole}
-use Rattle.sdd_lists.specs.Behind.{IsFresh, IsLinkedBehind, entry_made, mark_tag, spliced}
-use Rattle.sdd_lists.specs.Ends.{EndsWith, IsAmong}
-use Rattle.sdd_lists.specs.Lists.{AreLinked, Entry, IsList, first_slot, linked_in}
+use Rattle.sdd_script_model.proofs.Words.{◌≡◌, ◌≢◌, ◌⊎◌, ◌+◌, ◌≤◌, inl, inr, eq-eqb, ℕ, zero, suc, Bool, true, false, List, [], ◌∷◌, Option, Some, None, slice_set, refl, sym, ap, ◌∙◌, subst, arith, ◌==◌, if◌then◌else◌, cases_eq, set_comm, Tag, Second, Both, Entries, entry_at, CellContents, Claim, IsLedger, owner_of, owner_held, right_to, one, changes_cell, OwnerOrCell, World, IsPlaceOf, value_at, held_in, with_cell, IsWhole, spliced, EndsWith, IsAmong, AreLinked, Entry, IsList, first_slot, linked_in, IsLetGo, QueueCells, linked-ends, list-ends, tag_in, list-apart, KeepsGone, gone-then, gone-written, let-go-kept, other-tag, among-spliced, IsStored, AreNumbers, Begins, HasLists, HoldsEntry, IsListed, IsLoose, IsNumber, ScriptState, IsListCell, IsSecondCell, IsThere, holding_at, in_world, shared_cell, shared_slot, slot_at, without_owner, IsSound, contained, named, named_among, Val, body_of, holdings_of, link_of}
+use Rattle.sdd_core.specs.declared.tag.Tag.TheVariants.{None as no_tag}
+use Rattle.sdd_lists.specs.Behind.{IsFresh, IsLinkedBehind, entry_made, mark_tag}
 use Rattle.sdd_lists.specs.Marks.{says_deleted}
-use Rattle.sdd_lists.specs.Queue.{IsLetGo, QueueCells}
-use Rattle.sdd_lists.proofs.Ending.{linked-ends, list-ends}
-use Rattle.sdd_lists.proofs.Fronts.{tag_in}
-use Rattle.sdd_lists.proofs.Leaving.{list-apart}
-use Rattle.sdd_lists.proofs.LetGo.{KeepsGone, gone-then, gone-written, let-go-kept, other-tag}
 use Rattle.sdd_lists.proofs.Linking.{linked-behind, made-list}
-use Rattle.sdd_lists.proofs.Spliced.{among-spliced}
 use Rattle.sdd_script_model.specs.Appending.{IsLooseEntry}
-use Rattle.sdd_script_model.specs.Bags.{IsStored}
 use Rattle.sdd_script_model.specs.Link.{IsLink}
-use Rattle.sdd_script_model.specs.Listed.{AreNumbers, Begins, HasLists, HoldsEntry, IsListed, IsLoose, IsNumber}
-use Rattle.sdd_script_model.specs.ScriptState.{ScriptState, IsListCell, IsSecondCell, IsThere, holding_at, in_world, shared_cell, shared_slot, slot_at, without_owner}
-use Rattle.sdd_script_model.specs.Sound.{IsSound, contained, named, named_among}
-use Rattle.sdd_script_model.specs.Val.{Val, body_of, holdings_of, link_of}
 use Rattle.sdd_script_model.proofs.BehindGoing.{among-behind, numbers-ends, numbers-spliced, spliced-was}
 use Rattle.sdd_script_model.proofs.Chains.{IsMidway, LeavesSound, at_home-spent, finishes, link-apart-from, own-midway, owned-apart, starts}
 use Rattle.sdd_script_model.proofs.Counting.{owner-spent}

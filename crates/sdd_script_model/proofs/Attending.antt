@@ -1,23 +1,13 @@
 -- Who is there, and which guards are open, after each step of a desk
-use Rattle.std.proofs.lemmas.List.Sums.{sum_by-set, sum_by_push}
+use Rattle.sdd_script_model.proofs.Words.{sum_by-set, sum_by_push, Job, Entries, PlaceState, Ended, keeps-closed, Limits, all_awaiting, opened_at, one_where, count-cons, all_awaiting-guards, Gives, Gives-owner_given, Gives-cell_closed, Gives-dropped, how, Nests, IsChange, before, opened-other, live-is, ended-lives, registered-live, registered-lives, registered-apart, one-if, none-if, guards-closed, still-live, IsStart, in_world}
 use Rattle.sdd_participants.specs.EpochState as time
 use Rattle.sdd_participants.specs.PlaceStates.{is_live}
-use Rattle.sdd_participants.specs.declared.waiting.LimboEntry.TheVariants.{Job}
-use Rattle.sdd_participants.specs.Slab.{Entries}
-use Rattle.sdd_participants.specs.declared.place_states.PlaceState.{PlaceState}
-use Rattle.sdd_participants.specs.declared.place_states.PlaceState.TheVariants.{Ended}
-use Rattle.sdd_participants.proofs.Adopting.{keeps-closed}
-use Rattle.sdd_core.specs.declared.limits.Limits.{Limits}
-use Rattle.sdd_space.specs.ParticipantChanges.{all_awaiting, opened_at}
 use Rattle.sdd_space.specs.WorldChanges as steps
-use Rattle.sdd_space.proofs.Whole.{one_where, count-cons, all_awaiting-guards}
-use Rattle.sdd_space.proofs.Own.{Gives, Gives-owner_given, Gives-cell_closed, Gives-dropped, Gives-all_reclaimed}
+use Rattle.sdd_space.proofs.Own.{Gives-all_reclaimed}
 use Rattle.sdd_space.proofs.Own as own
-use Rattle.sdd_space.proofs.Opening.{how, Nests, IsChange, before, in_before, opened-other}
-use Rattle.sdd_space.proofs.Housed.{live-is, ended-lives, registered-live, registered-lives, registered-apart}
-use Rattle.sdd_space.proofs.Nesting.{one-if, none-if, guards-closed, guards-registered, still-live}
+use Rattle.sdd_space.proofs.Opening.{in_before}
+use Rattle.sdd_space.proofs.Nesting.{guards-registered}
 use Rattle.sdd_script_model.specs.ScriptState as desk
-use Rattle.sdd_script_model.specs.ScriptState.{IsStart, in_world}
 use Rattle.sdd_script_model.proofs.Terms.{◌≡◌, ◌≢◌, ◌⊎◌, ℕ, suc, ◌+◌, ◌<◌, ◌≤◌, ◌==◌, Bool, true, false, if◌then◌else◌, List, [], ◌∷◌, ◌++◌, Option, Some, None, IsSome, is_some, map, length, count_by, slice_index_or, slice_set, inl, inr, refl, sym, ap, ◌∙◌, subst, lt-ltb, arith, IsTrue, cases_eq, false≢true, length-set, Item, EpochState, IsLive, IsVacant, is_open, nobody, phase_at, due_next, Participant, Standing, World, IsPlaceOf, place_at, standing_at, retired, owner_given, cell_closed, opened, Val, holdings_of, ScriptState, OpenSince, opening_at, later, ParticipantsMatch, is_of, at-same, at-other, at-pushed, at-end, at-default, as-each, inside}
 
 -- ---- what stands in a list of names

@@ -1,42 +1,11 @@
 -- What is always true of a desk is true after a storage more is put behind a bag
-use Rattle.std.proofs.Common.{◌≡◌, ◌≢◌, ◌+◌, ◌≤◌, inl, inr, ℕ, List, Bool, true, false, Option, Some, None, IsSome, is_some, length, slice_index_or, refl, sym, ap, ◌∙◌, subst, arith}
-use Rattle.std.specs.Prelude.{◌==◌, ◌&&◌, not, if◌then◌else◌}
-use Rattle.std.proofs.lemmas.Bool.{cases_eq, false≢true}
-use Rattle.std.proofs.lemmas.List.{length-set, set-set, set_comm}
+use Rattle.sdd_script_model.proofs.Words.{◌≡◌, ◌≢◌, ◌+◌, ◌≤◌, inl, inr, ℕ, List, Bool, true, false, Option, Some, None, IsSome, is_some, length, slice_index_or, refl, sym, ap, ◌∙◌, subst, arith, ◌==◌, ◌&&◌, not, if◌then◌else◌, cases_eq, false≢true, length-set, set-set, set_comm, Entries, IsEmptyAt, entry_at, CellContents, Standing, Shared, is_waiting, Claim, owner_of, right_to, claims, one, owner_held, IsLedger, Keeps, Moves, changes_cell, makes, makes_cell, times_held, World, IsPlaceOf, standing_at, value_at, held_in, made_as, nulled, owner_given, with_cell, IsWhole, once_if, in_value-out, ledger-laws, once-where, out-some, filled-there, IsAmong, Entry, first_slot, left, linked_in, HasSameCells, IsBag, AddsStorage, StorageName, AreSpare, IsStored, StandsOn, LosesNames, HasLists, BeginsLine, NumberBag, ScriptState, IsListCell, IsSecondCell, bag_at, bag_length, in_world, name_at, with_bag_at, number_in, HoldsOnlyOlder, IsCalled, IsSound, contained, named, named_owners, Val, body_of, holdings_of, link_of, owner_in, storage_in}
 use Rattle.sdd_core.specs.declared.tag.Tag.TheVariants.{None as no_tag}
-use Rattle.sdd_participants.specs.Slab.{Entries, IsEmptyAt, entry_at}
-use Rattle.sdd_participants.specs.declared.standing.CellContents.{CellContents}
-use Rattle.sdd_participants.specs.declared.standing.Standing.{Standing}
-use Rattle.sdd_participants.specs.declared.standing.Standing.TheVariants.{Shared}
-use Rattle.sdd_standings.specs.Slots.{is_waiting}
-use Rattle.sdd_space.specs.Ledger.{Claim, owner_of, right_to, claims, one, owner_held, IsLedger, Keeps, Moves}
-use Rattle.sdd_space.specs.Ledger.Moves.{changes_cell, makes, makes_cell}
-use Rattle.sdd_space.specs.OwnerCounts.{times_held}
 use Rattle.sdd_space.specs.Shared.{slot_of}
-use Rattle.sdd_space.specs.World.{World, IsPlaceOf, standing_at, value_at}
-use Rattle.sdd_space.specs.WorldChanges.{held_in, made_as, nulled, owner_given, with_cell}
-use Rattle.sdd_space.specs.WorldInvariant.{IsWhole, once_if}
 use Rattle.sdd_space.specs.WorldStep.WorldStep.{makes as makes_item}
-use Rattle.sdd_space.proofs.Accounts.{in_value-out}
-use Rattle.sdd_space.proofs.Ledger.{ledger-laws}
-use Rattle.sdd_space.proofs.Rights.{once-where}
-use Rattle.sdd_space.proofs.Standings.{out-some}
-use Rattle.sdd_space.proofs.Whole.{filled-there}
-use Rattle.sdd_lists.specs.Ends.{IsAmong}
-use Rattle.sdd_lists.specs.Lists.{Entry, first_slot, left, linked_in}
-use Rattle.sdd_bag.specs.Bag.{HasSameCells, IsBag}
-use Rattle.sdd_bag.specs.Overflow.{AddsStorage}
 use Rattle.sdd_bag.specs.Storages as storages
 use Rattle.sdd_bag.proofs.Lying.{plain-left}
 use Rattle.sdd_bag.proofs.Standing.{trimmed-plain}
-use Rattle.sdd_bag.specs.Storages.{StorageName}
-use Rattle.sdd_script_model.specs.Bags.{AreSpare, IsStored, StandsOn}
-use Rattle.sdd_script_model.specs.Copies.{LosesNames}
-use Rattle.sdd_script_model.specs.Listed.{HasLists}
-use Rattle.sdd_script_model.specs.ScriptState.{BeginsLine, NumberBag, ScriptState, IsListCell, IsSecondCell, bag_at, bag_length, in_world, name_at, with_bag_at}
-use Rattle.sdd_script_model.specs.Shown.{number_in}
-use Rattle.sdd_script_model.specs.Sound.{HoldsOnlyOlder, IsCalled, IsSound, contained, named, named_owners}
-use Rattle.sdd_script_model.specs.Val.{Val, body_of, holdings_of, link_of, owner_in, storage_in}
 use Rattle.sdd_script_model.proofs.Attending.{keeps-time}
 use Rattle.sdd_script_model.proofs.BagChains.{IsInHand, begins-in_hand, has-apart, own_of, stack_of, with_bag_cells}
 use Rattle.sdd_script_model.proofs.BagGoing.{after, as-many, join, others, shows-sound, split}

@@ -1,31 +1,11 @@
 -- A bag in the middle of a line: its cells are in hand, and its other storages come and go
-use Rattle.std.proofs.Common.{◌≡◌, ◌≢◌, ◌⊎◌, ◌+◌, inl, inr, ℕ, List, [], ◌∷◌, ◌++◌, false, cond, Option, Some, None, IsSome, is_some, slice_index_or, slice_set, refl, sym, ap, ◌∙◌, subst, arith}
-use Rattle.std.specs.Prelude.{◌==◌}
-use Rattle.std.proofs.lemmas.List.{append-nil, set-set}
-use Rattle.std.proofs.lemmas.List.Sums.{sum_by_push}
-use Rattle.sdd_core.specs.declared.tag.Tag.TheVariants.{None as no_tag, Second}
-use Rattle.sdd_participants.specs.Slab.{Entries, entry_at}
-use Rattle.sdd_participants.specs.declared.standing.CellContents.{CellContents}
-use Rattle.sdd_participants.specs.declared.standing.Standing.{Standing}
-use Rattle.sdd_participants.specs.declared.standing.Standing.TheVariants.{Retired, Shared}
-use Rattle.sdd_space.specs.Ledger.{Claim, owner_of, right_to, one}
-use Rattle.sdd_space.specs.World.{World, IsPlaceOf, standing_at, value_at}
-use Rattle.sdd_space.specs.WorldChanges.{held_in, owner_given, retired, with_cell, with_standing}
-use Rattle.sdd_space.proofs.Accounts.{sum-out}
-use Rattle.sdd_space.proofs.Rights.{once-where}
-use Rattle.sdd_lists.specs.Ends.{IsAmong}
-use Rattle.sdd_lists.specs.Lists.{Apart, AreLinked, Entry, IsList, first_slot, is_deleted, is_deleting, let_go_first, removed}
-use Rattle.sdd_lists.specs.Stack.{cell_in}
-use Rattle.sdd_lists.proofs.Lists.{bare, behind}
-use Rattle.sdd_lists.proofs.Popping.{apart-first, removed-head}
+use Rattle.sdd_script_model.proofs.Words.{◌≡◌, ◌≢◌, ◌⊎◌, ◌+◌, inl, inr, ℕ, List, [], ◌∷◌, ◌++◌, false, cond, Option, Some, None, IsSome, is_some, slice_index_or, slice_set, refl, sym, ap, ◌∙◌, subst, arith, ◌==◌, append-nil, set-set, sum_by_push, Second, Entries, entry_at, CellContents, Standing, Retired, Shared, Claim, owner_of, right_to, one, World, IsPlaceOf, standing_at, value_at, held_in, owner_given, retired, with_cell, with_standing, sum-out, once-where, IsAmong, Apart, AreLinked, Entry, IsList, first_slot, is_deleted, is_deleting, let_go_first, removed, cell_in, bare, behind, apart-first, AreShelves, RemovesStorage, RemovesStorages, StandsOn, bagged, is_stack_cell, HasLists, IsListed, IsLoose, NumberBag, ScriptState, bag_at, bag_length, without_bag, IsSound, contained, named, Val, link_of, storage_in, IsWhole}
+use Rattle.sdd_core.specs.declared.tag.Tag.TheVariants.{None as no_tag}
+use Rattle.sdd_lists.proofs.Popping.{removed-head}
 use Rattle.sdd_lists.proofs.Pushing.{go-other}
-use Rattle.sdd_bag.specs.Overflow.{AreElsewhere, AreShelves, RemovesStorage, RemovesStorages}
+use Rattle.sdd_bag.specs.Overflow.{AreElsewhere}
 use Rattle.sdd_bag.proofs.Standing.{keeps-shelves}
-use Rattle.sdd_script_model.specs.Bags.{StandsOn, bagged, is_own_cell, is_stack_cell}
-use Rattle.sdd_script_model.specs.Listed.{HasLists, IsListed, IsLoose}
-use Rattle.sdd_script_model.specs.ScriptState.{NumberBag, ScriptState, bag_at, bag_length, without_bag}
-use Rattle.sdd_script_model.specs.Sound.{IsSound, contained, named}
-use Rattle.sdd_script_model.specs.Val.{Val, link_of, storage_in}
+use Rattle.sdd_script_model.specs.Bags.{is_own_cell}
 use Rattle.sdd_script_model.proofs.Entry.{at-other, at-same}
 use Rattle.sdd_script_model.proofs.Entry.{inside as inside-list}
 use Rattle.sdd_script_model.proofs.Frames.{frames-start}
@@ -34,7 +14,6 @@ use Rattle.sdd_script_model.proofs.Links.{same-once}
 use Rattle.sdd_script_model.proofs.Listed.{StaysGone, as-before, has-kept_so, loose-as}
 use Rattle.sdd_script_model.proofs.StackChains.{IsBetween, first-goes}
 use Rattle.sdd_script_model.proofs.Storing.{BagsStay, IsReserved, off-other}
-use Rattle.sdd_space.specs.WorldInvariant.{IsWhole}
 
 -- ---- a bag is two rights to cells
 

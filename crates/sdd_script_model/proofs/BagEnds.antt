@@ -1,33 +1,12 @@
 -- What is always true of a desk is true after a bag begins, and after one is closed
-use Rattle.std.proofs.Common.{◌≡◌, ◌≢◌, ◌+◌, ◌≤◌, inl, inr, ℕ, List, [], ◌∷◌, ◌++◌, Option, Some, None, IsSome, is_some, true, length, slice_index_or, refl, sym, ap, ◌∙◌, subst, arith}
-use Rattle.std.specs.Prelude.{◌%◌}
-use Rattle.std.proofs.lemmas.Bool.{cases_eq}
-use Rattle.std.proofs.lemmas.List.{append-nil, length-set}
+use Rattle.sdd_script_model.proofs.Words.{◌≡◌, ◌≢◌, ◌+◌, ◌≤◌, inl, inr, ℕ, List, [], ◌∷◌, ◌++◌, Option, Some, None, IsSome, is_some, true, length, slice_index_or, refl, sym, ap, ◌∙◌, subst, arith, ◌%◌, cases_eq, append-nil, length-set, IsEmptyAt, entry_at, is_waiting, Claim, right_to, one, closes_cell, makes_cell, spends_cell, OwnerOrCell, SpaceId, World, IsPlaceOf, standing_at, value_at, cell_closed, held_in, nulled, without_cell, IsWhole, ledger-laws, IsAmong, Apart, Entry, first_slot, spilled-cells, spilled-values, let_go_first, ClosesBag, EmptiesStorages, AreShelves, AreBags, IsStored, StandsOn, holds_nothing, HasLists, NumberBag, ScriptState, IsListCell, IsSecondCell, bag_at, bag_length, in_world, name_at, without_bag, IsCalled, IsSound, contained, named, Val, holdings_of, link_of, storage_in}
 use Rattle.sdd_core.specs.declared.tag.Tag.TheVariants.{None as no_tag}
-use Rattle.sdd_participants.specs.Slab.{IsEmptyAt, entry_at}
-use Rattle.sdd_standings.specs.Slots.{is_waiting}
-use Rattle.sdd_space.specs.Ledger.{Claim, right_to, one}
-use Rattle.sdd_space.specs.Ledger.Moves.{closes_cell, makes_cell, spends_cell}
-use Rattle.sdd_space.specs.OwnerOrCell.{OwnerOrCell, SpaceId}
-use Rattle.sdd_space.specs.World.{World, IsPlaceOf, standing_at, value_at}
-use Rattle.sdd_space.specs.WorldChanges.{cell_closed, held_in, nulled, without_cell}
-use Rattle.sdd_space.specs.WorldInvariant.{IsWhole}
-use Rattle.sdd_space.proofs.Ledger.{ledger-laws}
-use Rattle.sdd_lists.specs.Ends.{IsAmong}
-use Rattle.sdd_lists.specs.Lists.{Apart, Entry, first_slot}
 use Rattle.sdd_lists.proofs.Fronts.{empty-of}
-use Rattle.sdd_lists.proofs.Leaving.{spilled-cells, spilled-values}
 use Rattle.sdd_bag.specs.Bag as bag_specs
 use Rattle.sdd_lists.specs.Lists as lists_specs
-use Rattle.sdd_lists.specs.Lists.{let_go_first}
-use Rattle.sdd_bag.specs.Closing.{ClosesBag, EmptiesStorages, values_given}
-use Rattle.sdd_bag.specs.Overflow.{AreShelves}
-use Rattle.sdd_script_model.specs.Bags.{AreBags, IsStored, StandsOn}
-use Rattle.sdd_script_model.specs.BagLines.{BeginsBag, holds_nothing}
-use Rattle.sdd_script_model.specs.Listed.{HasLists}
-use Rattle.sdd_script_model.specs.ScriptState.{NumberBag, ScriptState, IsListCell, IsSecondCell, bag_at, bag_length, in_world, name_at, with_bag, without_bag}
-use Rattle.sdd_script_model.specs.Sound.{IsCalled, IsSound, contained, named}
-use Rattle.sdd_script_model.specs.Val.{Val, holdings_of, link_of, storage_in}
+use Rattle.sdd_bag.specs.Closing.{values_given}
+use Rattle.sdd_script_model.specs.BagLines.{BeginsBag}
+use Rattle.sdd_script_model.specs.ScriptState.{with_bag}
 use Rattle.sdd_script_model.proofs.Attending.{keeps-live}
 use Rattle.sdd_script_model.proofs.BagChains.{IsInHand, bag-given, bag-less, begins-in_hand, goes-many, has-apart, let_go_many, many-bare, many-other, many-values, many-waits, own_of, removes-one, shelves-behind, stack_of}
 use Rattle.sdd_script_model.proofs.BagGoing.{join-others, others-were, split}

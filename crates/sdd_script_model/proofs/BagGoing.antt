@@ -1,26 +1,10 @@
 -- What is always true of a desk is true after a bag begins or ends, and after numbers come into it and go
-use Rattle.std.proofs.Common.{◌≡◌, ◌≢◌, ◌⊎◌, ◌+◌, ◌≤◌, inl, inr, ℕ, List, [], ◌∷◌, ◌++◌, Option, Some, None, IsSome, is_some, length, slice_index_or, slice_set, refl, sym, ap, ◌∙◌, subst, arith}
-use Rattle.std.specs.Prelude.{◌*◌, ◌^◌, not}
-use Rattle.std.proofs.lemmas.Bool.{cases_eq}
+use Rattle.sdd_script_model.proofs.Words.{◌≡◌, ◌≢◌, ◌⊎◌, ◌+◌, ◌≤◌, inl, inr, ℕ, List, [], ◌∷◌, ◌++◌, Option, Some, None, IsSome, is_some, length, slice_index_or, slice_set, refl, sym, ap, ◌∙◌, subst, arith, ◌*◌, ◌^◌, not, cases_eq, entry_at, is_waiting, Claim, right_to, one, IsLedger, World, IsPlaceOf, standing_at, value_at, held_in, IsWhole, IsAmong, Apart, Entry, cell_in, HasSameCells, IsBag, AreBags, AreSpare, HasStorages, IsKept, IsStored, StandsOn, HasLists, NumberBag, ScriptState, IsDated, IsListCell, IsSecondCell, bag_at, bag_length, name_at, with_bag_at, without_bag, number_in, HoldsOnlyOlder, IsCalled, IsSound, SlotsHaveNames, contained, named, Val, holdings_of, link_of, storage_in}
 use Rattle.sdd_core.specs.declared.tag.Tag.TheVariants.{None as no_tag}
-use Rattle.sdd_participants.specs.Slab.{entry_at}
-use Rattle.sdd_standings.specs.Slots.{is_waiting}
-use Rattle.sdd_space.specs.Ledger.{Claim, right_to, one, IsLedger}
-use Rattle.sdd_space.specs.World.{World, IsPlaceOf, standing_at, value_at}
-use Rattle.sdd_space.specs.WorldChanges.{held_in}
-use Rattle.sdd_space.specs.WorldInvariant.{IsWhole}
-use Rattle.sdd_lists.specs.Ends.{IsAmong}
-use Rattle.sdd_lists.specs.Lists.{Apart, Entry}
-use Rattle.sdd_lists.specs.Stack.{cell_in, home_in}
-use Rattle.sdd_bag.specs.Bag.{HasSameCells, IsBag, IsOfCells}
+use Rattle.sdd_lists.specs.Stack.{home_in}
+use Rattle.sdd_bag.specs.Bag.{IsOfCells}
 use Rattle.sdd_script_model.specs.Bags as bags_specs
-use Rattle.sdd_script_model.specs.Bags.{AreBags, AreSpare, HasStorages, IsKept, IsStored, StandsOn}
-use Rattle.sdd_script_model.specs.Listed.{HasLists}
-use Rattle.sdd_script_model.specs.ScriptState.{NumberBag, ScriptState, IsDated, IsListCell, IsSecondCell, bag_at, bag_length, name_at, with_bag_at, without_bag}
-use Rattle.sdd_script_model.specs.Shown.{number_in}
-use Rattle.sdd_script_model.specs.Sound.{HoldsOnlyOlder, IsCalled, IsSound, SlotsHaveNames, contained, named}
 use Rattle.sdd_script_model.proofs.Frames.{Passes}
-use Rattle.sdd_script_model.specs.Val.{Val, holdings_of, link_of, storage_in}
 use Rattle.sdd_script_model.proofs.BagChains.{IsInHand, bag-changed, bag-less, begins-in_hand, goes-many, has-apart, let_go_many, many-bare, many-other, many-values, many-waits, own_of, stack_of}
 use Rattle.sdd_script_model.proofs.Chains.{IsMidway, LeavesSound, among-apart, link-apart-from, list-apart-from, list-right, second-apart-from, second-right, sound-after, starts}
 use Rattle.sdd_script_model.proofs.Entry.{at-other, at-same}

@@ -1,22 +1,9 @@
 -- What is always true of a desk is true after each line on a bag
-use Rattle.std.proofs.Common.{◌≡◌, inl, inr, ℕ, List, [], ◌∷◌, ◌++◌, Option, Some, None, length, slice_index_or, slice_set, refl, sym, ap, subst}
-use Rattle.std.proofs.lemmas.List.{append-nil}
-use Rattle.sdd_space.specs.World.{World, IsPlaceOf}
-use Rattle.sdd_space.specs.WorldInvariant.{IsWhole}
-use Rattle.sdd_lists.specs.Lists.{Entry}
-use Rattle.sdd_bag.specs.Bag.{HasSameCells, IsBag}
+use Rattle.sdd_script_model.proofs.Words.{◌≡◌, inl, inr, ℕ, List, [], ◌∷◌, ◌++◌, Option, Some, None, length, slice_index_or, slice_set, refl, sym, ap, subst, append-nil, World, IsPlaceOf, IsWhole, Entry, HasSameCells, IsBag, Body, PutsNumber, TakesNumber, StandsOn, LosesNames, BeginsLine, NumberBag, ScriptState, IsDated, bag_at, bag_length, with_bag_at, cell_in, Begins, IsSound, Val, storage_in}
 use Rattle.sdd_bag.specs.Overflow.{LiesOn, OverflowParts}
 use Rattle.sdd_bag.specs.Storage.{AreEmpty}
-use Rattle.sdd_script_model.specs.declared.val.Body.{Body}
-use Rattle.sdd_script_model.specs.BagLines.{PutsNumber, PutsBehind, TakesAll, TakesNumber}
-use Rattle.sdd_script_model.specs.Bags.{StandsOn}
-use Rattle.sdd_script_model.specs.Copies.{LosesNames}
-use Rattle.sdd_script_model.specs.ScriptState.{BeginsLine, NumberBag, ScriptState, IsDated, bag_at, bag_length, with_bag_at}
-use Rattle.sdd_lists.specs.Stack.{cell_in}
+use Rattle.sdd_script_model.specs.BagLines.{PutsBehind, TakesAll}
 use Rattle.sdd_lists.specs.declared.stack.Stack.{Stack}
-use Rattle.sdd_script_model.specs.Listed.{Begins}
-use Rattle.sdd_script_model.specs.Sound.{IsSound}
-use Rattle.sdd_script_model.specs.Val.{Val, storage_in}
 use Rattle.sdd_script_model.proofs.BagAdding.{added-dated, added-leaves, added-long}
 use Rattle.sdd_script_model.proofs.BagChains.{let_go_many, removes-all, removes-one, stack_of}
 use Rattle.sdd_script_model.proofs.BagGoing.{gone-leaves, renumbered-leaves}

@@ -1,21 +1,8 @@
 -- What a line on a bag gives a participant: what it lets go of waits there, and nothing else of the time changes
-use Rattle.std.proofs.Common.{◌≡◌, ◌+◌, inl, inr, ◌<◌, ℕ, List, [], ◌∷◌, length, refl, sym, ap, ◌∙◌, subst}
-use Rattle.std.specs.Prelude.{◌%◌}
-use Rattle.std.proofs.lemmas.Bool.{cases_eq}
+use Rattle.sdd_script_model.proofs.Words.{◌≡◌, ◌+◌, inl, inr, ◌<◌, ℕ, List, [], ◌∷◌, length, refl, sym, ap, ◌∙◌, subst, ◌%◌, cases_eq, Shared, World, standing_at, made_as, nulled, owner_given, with_standing, without_cell, Gives, Gives-cell_closed, Gives-owner_given, Gives-range, Gives-retired, Entry, first_slot, left, linked_in, trimmed, cell_in, ClosesBag, EmptiesStorages, AddsStorage, RemovesStorage, RemovesStorages, PutsNumber, TakesNumber, holds_nothing, NumberBag, bag_length, Val, link_of, storage_in}
 use Rattle.sdd_core.specs.declared.tag.Tag.TheVariants.{None as no_tag}
-use Rattle.sdd_participants.specs.declared.standing.Standing.TheVariants.{Shared}
 use Rattle.sdd_space.specs.Shared.{slot_of}
-use Rattle.sdd_space.specs.World.{World, standing_at}
 use Rattle.sdd_space.specs.WorldChanges as world_changes
-use Rattle.sdd_space.specs.WorldChanges.{made_as, nulled, owner_given, with_standing, without_cell}
-use Rattle.sdd_space.proofs.Own.{Gives, Gives-cell_closed, Gives-owner_given, Gives-range, Gives-retired}
-use Rattle.sdd_lists.specs.Lists.{Entry, first_slot, left, linked_in, trimmed}
-use Rattle.sdd_lists.specs.Stack.{cell_in}
-use Rattle.sdd_bag.specs.Closing.{ClosesBag, EmptiesStorages}
-use Rattle.sdd_bag.specs.Overflow.{AddsStorage, RemovesStorage, RemovesStorages}
-use Rattle.sdd_script_model.specs.BagLines.{PutsNumber, TakesNumber, holds_nothing}
-use Rattle.sdd_script_model.specs.ScriptState.{NumberBag, bag_length}
-use Rattle.sdd_script_model.specs.Val.{Val, link_of, storage_in}
 use Rattle.sdd_script_model.proofs.BagEnds.{values-none}
 use Rattle.sdd_script_model.proofs.StackTurns.{gives-nothing, gives-removed, gives-then, gives-trimmed}
 

@@ -1,34 +1,9 @@
 -- The deleted entries behind an item are let go of, and what the script's desk is then
-use Rattle.std.proofs.Common.{◌≡◌, ◌≢◌, ◌⊎◌, ◌+◌, ◌≤◌, inl, inr, ℕ, Bool, true, false, List, [], ◌∷◌, Option, Some, None, is_some, slice_index_or, refl, sym, ap, ◌∙◌, subst, arith}
-use Rattle.std.specs.Prelude.{◌==◌, if◌then◌else◌}
-use Rattle.std.proofs.lemmas.Bool.{cases_eq}
-use Rattle.sdd_core.specs.declared.tag.Tag.{Tag}
-use Rattle.sdd_core.specs.declared.tag.Tag.TheVariants.{None as no_tag, Both, Second}
-use Rattle.sdd_participants.specs.Slab.{entry_at}
-use Rattle.sdd_participants.specs.declared.standing.CellContents.{CellContents}
-use Rattle.sdd_standings.specs.Slots.{is_waiting}
-use Rattle.sdd_space.specs.Ledger.{Claim, IsLedger, right_to}
-use Rattle.sdd_space.specs.World.{World, IsPlaceOf, value_at}
-use Rattle.sdd_space.specs.WorldChanges.{held_in}
-use Rattle.sdd_space.specs.WorldInvariant.{IsWhole}
-use Rattle.sdd_space.proofs.Entries.{once-waits}
-use Rattle.sdd_space.proofs.Ledger.{ledger-laws}
-use Rattle.sdd_lists.specs.Behind.{spliced}
-use Rattle.sdd_lists.specs.Ends.{EndsWith, IsAmong}
-use Rattle.sdd_lists.specs.Lists.{AreLinked, Entry, IsList, first_slot, is_deleted, left, trimmed}
-use Rattle.sdd_lists.specs.Queue.{IsLetGo, QueueCells}
-use Rattle.sdd_lists.proofs.Ending.{linked-ends, list-ends, trimmed-list}
-use Rattle.sdd_lists.proofs.Fronts.{tag_in}
-use Rattle.sdd_lists.proofs.LetGo.{gone-trimmed, let-go-kept, trimmed-or}
+use Rattle.sdd_script_model.proofs.Words.{◌≡◌, ◌≢◌, ◌⊎◌, ◌+◌, ◌≤◌, inl, inr, ℕ, Bool, true, false, List, [], ◌∷◌, Option, Some, None, is_some, slice_index_or, refl, sym, ap, ◌∙◌, subst, arith, ◌==◌, if◌then◌else◌, cases_eq, Tag, Both, Second, entry_at, CellContents, is_waiting, Claim, IsLedger, right_to, World, IsPlaceOf, value_at, held_in, IsWhole, once-waits, ledger-laws, spliced, EndsWith, IsAmong, AreLinked, Entry, IsList, first_slot, is_deleted, left, trimmed, IsLetGo, QueueCells, linked-ends, list-ends, trimmed-list, tag_in, let-go-kept, trim-other, trim-values, among-spliced, IsStored, AreNumbers, Begins, HasLists, HoldsEntry, IsListed, IsLoose, ScriptState, IsListCell, IsSecondCell, in_world, name_at, slot_at, IsThere, IsSound, contained, named, Val, holdings_of, link_of}
+use Rattle.sdd_core.specs.declared.tag.Tag.TheVariants.{None as no_tag}
+use Rattle.sdd_lists.proofs.LetGo.{gone-trimmed, trimmed-or}
 use Rattle.sdd_lists.proofs.Linking.{tail-cut, trimmed-around, trimmed-queue}
-use Rattle.sdd_lists.proofs.Pushing.{trim-other, trim-values}
-use Rattle.sdd_lists.proofs.Spliced.{among-spliced}
 use Rattle.sdd_script_model.specs.Link.{IsBehind}
-use Rattle.sdd_script_model.specs.Bags.{IsStored}
-use Rattle.sdd_script_model.specs.Listed.{AreNumbers, Begins, HasLists, HoldsEntry, IsListed, IsLoose}
-use Rattle.sdd_script_model.specs.ScriptState.{ScriptState, IsListCell, IsSecondCell, in_world, name_at, slot_at, IsThere}
-use Rattle.sdd_script_model.specs.Sound.{IsSound, contained, named}
-use Rattle.sdd_script_model.specs.Val.{Val, holdings_of, link_of}
 use Rattle.sdd_script_model.proofs.Chains.{IsMidway, LeavesSound, finishes, link-apart-from, own-midway, starts}
 use Rattle.sdd_script_model.proofs.Listed.{AreOwn, StaysGone, StaysLoose, among-inside, among-link, apart-item, apart-own, as-before, has-changed, has-kept, link-apart, link-inside, links-apart, loose-as, loose-on, same-list, unique}
 use Rattle.sdd_script_model.proofs.ListChanges.{among-or}

@@ -1,23 +1,14 @@
 -- What waits, after a step in which nobody comes or goes and no guard is opened or closed
-use Rattle.std.specs.Prelude.{sum_by}
-use Rattle.std.proofs.Math.ListN.{get_or-map}
-use Rattle.std.proofs.lemmas.List.{length-map}
+use Rattle.sdd_script_model.proofs.Words.{sum_by, get_or-map, length-map, with_place, Waiting, having_seen, Job, without, collector_closed, is_for, without_collector, all_awaiting, listed-without, all_awaiting-waiting, Gives, Gives-collector_closed, one_where, all_awaiting-guards, is_waiting_in}
 use Rattle.std.proofs.lemmas.List.Elements.{Contains-push}
 use Rattle.sdd_participants.specs.EpochState as time
-use Rattle.sdd_participants.specs.EpochState.{with_place}
-use Rattle.sdd_participants.specs.Waiting.{Waiting, fresh, having_seen}
-use Rattle.sdd_participants.specs.declared.waiting.LimboEntry.TheVariants.{Job}
-use Rattle.sdd_participants.specs.Collecting.{without}
-use Rattle.sdd_space.specs.Collecting.{collector_closed, is_for, without_collector}
-use Rattle.sdd_space.specs.ParticipantChanges.{all_awaiting}
+use Rattle.sdd_participants.specs.Waiting.{fresh}
 use Rattle.sdd_space.specs.WorldChanges as steps
 use Rattle.sdd_space.proofs.Collecting.{goes}
 use Rattle.sdd_space.proofs.Housed.{each-place}
-use Rattle.sdd_space.proofs.Listed.{listed-awaiting, listed-place, listed-without, rest-contains}
-use Rattle.sdd_space.proofs.Opening.{all_awaiting-waiting, still-waits}
-use Rattle.sdd_space.proofs.Own.{Gives, Gives-collector_closed, all_awaiting-found}
-use Rattle.sdd_space.proofs.Whole.{one_where, all_awaiting-guards}
-use Rattle.sdd_script_model.specs.Due.{is_waiting_in}
+use Rattle.sdd_space.proofs.Listed.{listed-awaiting, listed-place, rest-contains}
+use Rattle.sdd_space.proofs.Opening.{still-waits}
+use Rattle.sdd_space.proofs.Own.{all_awaiting-found}
 use Rattle.sdd_script_model.proofs.Awaiting.{AwaitsAt, awaits-waits, is_of, of-same, one-place, times_waiting, times_with, whole-once}
 use Rattle.sdd_script_model.proofs.Terms.{◌≡◌, ◌⊎◌, ℕ, ◌<◌, ◌≤◌, Bool, true, false, List, [], ◌∷◌, length, count_by, inl, inr, refl, sym, ap, ◌∙◌, subst, arith, false≢true, Contains, LimboEntry, Item, EpochState, nobody, Participant, is_waiting, World, place_at, IsWhole, Val, holdings_of, length-set, at-same}
 

@@ -1,33 +1,16 @@
 -- What is always true of a desk is true after each call of a cell
-use Rattle.std.proofs.Common.{◌≡◌, ◌≢◌, subst, ℕ, ◌+◌, ◌<◌, ◌≤◌, true, if◌then◌else◌, List, [], ◌∷◌, ◌++◌, Option, Some, None, IsSome, length, slice_set, refl, sym, ap, ◌∙◌, arith, inl}
-use Rattle.sdd_core.specs.declared.tag.Tag.{Tag}
-use Rattle.sdd_core.specs.declared.tag.Tag.TheVariants.{None as no_tag, Both, Second}
-use Rattle.sdd_participants.specs.Slab.{IsEmptyAt, entry_at}
-use Rattle.sdd_participants.specs.declared.standing.CellContents.{CellContents}
-use Rattle.sdd_participants.specs.declared.standing.Standing.TheVariants.{Shared}
-use Rattle.sdd_standings.specs.Slots.{is_waiting}
-use Rattle.sdd_space.specs.Ledger.{Claim, right_to, one, owner_held}
-use Rattle.sdd_space.specs.Ledger.Moves.{makes_cell, changes_cell, spends_cell, closes_cell}
-use Rattle.sdd_space.specs.OwnerOrCell.{OwnerOrCell, IsOf}
+use Rattle.sdd_script_model.proofs.Words.{◌≡◌, ◌≢◌, subst, ℕ, ◌+◌, ◌<◌, ◌≤◌, true, List, [], ◌∷◌, ◌++◌, Option, Some, None, IsSome, length, slice_set, refl, sym, ap, ◌∙◌, arith, inl, Tag, Both, Second, IsEmptyAt, entry_at, CellContents, Shared, is_waiting, Claim, right_to, one, owner_held, makes_cell, changes_cell, spends_cell, closes_cell, OwnerOrCell, IsOf, is_out, held_in, with_cell, without_cell, cell_closed, IsWhole, World, IsPlaceOf, standing_at, value_at, out-some, out-waits-not, OwnerName, Val, link_of, ScriptState, IsDated, holding_at, name_at, cell_of, slot_of, sole_slot, shared_slot, in_world, shared_once_more, slot_put, owners_put, owners_taken, cell_as, owner_as, IsSound, named, named_among, IsStored}
+use Rattle.std.proofs.Common.{if◌then◌else◌}
+use Rattle.sdd_core.specs.declared.tag.Tag.TheVariants.{None as no_tag}
 use Rattle.sdd_space.specs.OwnerOrCell as holding
-use Rattle.sdd_space.specs.Out.{is_out}
-use Rattle.sdd_space.specs.WorldChanges.{held_in, with_cell, without_cell, cell_closed}
-use Rattle.sdd_space.specs.WorldInvariant.{IsWhole}
-use Rattle.sdd_space.specs.World.{World, IsPlaceOf, standing_at, value_at}
-use Rattle.sdd_space.proofs.Standings.{out-some, out-waits-not}
-use Rattle.sdd_script_text.specs.declared.name.OwnerName.{OwnerName}
-use Rattle.sdd_script_model.specs.Val.{Val, link_of}
-use Rattle.sdd_script_model.specs.ScriptState.{ScriptState, IsDated, holding_at, name_at, cell_of, slot_of, sole_slot, shared_slot, in_world}
-use Rattle.sdd_script_model.specs.Script.{FitsSole, FitsShared, FitsCell, MayShare, shared_once_more, slot_put, owners_put, owners_taken, cell_as, owner_as}
+use Rattle.sdd_script_model.specs.Script.{FitsSole, FitsShared, FitsCell, MayShare}
 use Rattle.sdd_script_model.specs.Shown.{IsCell}
-use Rattle.sdd_script_model.specs.Sound.{IsSound, named, named_among}
 use Rattle.sdd_script_model.proofs.Stocked.{name-some, slot-inside}
 use Rattle.sdd_script_model.proofs.Dates.{closed-other, dated-same, dated-stands, dated-either}
 use Rattle.sdd_script_model.proofs.Counting.{IsPut, accounts, cell-given, cell-out, cell-spent, put-spent, some-holding, taken-given, tells}
 use Rattle.sdd_script_model.proofs.Links.{closed-bare, same-once}
 use Rattle.sdd_script_model.proofs.Chains.{AtHome, IsMidway, LeavesSound, at_home-given, at_home-spent, finishes, midway-as, moves, retags, retags-link, shares-one, starts}
 use Rattle.sdd_script_model.proofs.Storing.{BagsStay, off-held, off-other}
-use Rattle.sdd_script_model.specs.Bags.{IsStored}
 
 -- ---- what goes into a cell
 

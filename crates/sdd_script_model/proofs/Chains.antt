@@ -1,32 +1,9 @@
 -- A line as a chain of calls of its world, each with what it takes from outside and what it gives
-use Rattle.std.specs.Prelude.{◌*◌, ◌^◌, max, if◌then◌else◌}
-use Rattle.std.proofs.Common.{◌≡◌, ◌≢◌, Bool, true, false, ℕ, ◌+◌, ◌≤◌, List, [], ◌∷◌, ◌++◌, Option, Some, None, is_some, length, slice_set, inl, inr, refl, sym, ap, ◌∙◌, subst, arith}
-use Rattle.sdd_core.specs.declared.tag.Tag.{Tag}
-use Rattle.sdd_core.specs.declared.tag.Tag.TheVariants.{Both, Second}
-use Rattle.sdd_participants.specs.Slab.{entry_at}
-use Rattle.sdd_participants.specs.declared.standing.Standing.TheVariants.{Owned, Shared}
-use Rattle.sdd_participants.specs.declared.standing.CellContents.{CellContents}
-use Rattle.sdd_space.specs.Ledger.{Claim, owner_of, right_to, claims, one, times_kept, HasOwners, IsLedger, Keeps, Moves, Sets}
-use Rattle.sdd_space.specs.Ledger.Moves.{changes_cell, edits, shares}
-use Rattle.sdd_space.specs.OwnerCounts.{holds_slot, is_of, times_held}
-use Rattle.sdd_space.specs.OwnerOrCell.{OwnerOrCell, SpaceId, IsOf}
-use Rattle.sdd_space.specs.InPlace.{IsAlone, MayInPlace}
-use Rattle.sdd_space.specs.World.{World, IsPlaceOf, standing_at, value_at}
-use Rattle.sdd_space.specs.WorldChanges.{held_in, with_cell, with_standing, with_value}
-use Rattle.sdd_space.specs.WorldInvariant.{IsWhole}
+use Rattle.sdd_script_model.proofs.Words.{◌*◌, ◌^◌, max, if◌then◌else◌, ◌≡◌, ◌≢◌, Bool, true, false, ℕ, ◌+◌, ◌≤◌, List, [], ◌∷◌, ◌++◌, Option, Some, None, is_some, length, slice_set, inl, inr, refl, sym, ap, ◌∙◌, subst, arith, Tag, Both, Second, entry_at, Owned, Shared, CellContents, Claim, owner_of, right_to, claims, one, times_kept, IsLedger, Keeps, Moves, Sets, changes_cell, edits, shares, holds_slot, is_of, times_held, OwnerOrCell, SpaceId, IsOf, IsAlone, MayInPlace, World, IsPlaceOf, standing_at, value_at, held_in, with_cell, with_standing, with_value, IsWhole, ledger-laws, one_where, Val, body_of, holdings_of, link_of, owner_in, IsSharedBy, IsAmong, Entry, IsList, is_deleted, left as left_of, AreBags, AreSpare, IsStored, HasLists, ScriptState, IsDated, IsListCell, IsSecondCell, holding_at, shared_cell, AreCalls, IsSound, HoldsOnlyOlder, SlotsHaveNames, named, named_among, contained, stacked}
+use Rattle.sdd_space.specs.Ledger.{HasOwners}
 use Rattle.sdd_space.proofs.Accounts.{accounted-with_cell, accounted-with_value}
-use Rattle.sdd_space.proofs.Ledger.{ledger-laws}
 use Rattle.sdd_space.proofs.Rights.{held-cell_changed, held-with_value}
-use Rattle.sdd_space.proofs.Whole.{one_where}
-use Rattle.sdd_script_model.specs.Val.{Val, body_of, holdings_of, link_of, owner_in}
-use Rattle.sdd_standings.specs.Slots.{IsSharedBy}
-use Rattle.sdd_lists.specs.Ends.{IsAmong}
-use Rattle.sdd_lists.specs.Lists.{Entry, IsList, is_deleted, left as left_of}
-use Rattle.sdd_script_model.specs.Bags.{AreBags, AreSpare, IsStored}
-use Rattle.sdd_script_model.specs.Listed.{HasLists}
-use Rattle.sdd_script_model.specs.ScriptState.{ScriptState, IsDated, IsListCell, IsSecondCell, holding_at, shared_cell}
-use Rattle.sdd_script_model.specs.Script.{AreCalls}
-use Rattle.sdd_script_model.specs.Sound.{IsSound, HoldsOnlyOlder, NamesAreAtHome, SlotsHaveNames, named, named_among, contained, stacked}
+use Rattle.sdd_script_model.specs.Sound.{NamesAreAtHome}
 use Rattle.sdd_script_model.proofs.Attending.{attended-acts, left-entry, pushed-entry}
 use Rattle.sdd_script_model.proofs.Dates.{early-dated}
 use Rattle.sdd_script_model.proofs.Entry.{at-other, inside as inside-list}

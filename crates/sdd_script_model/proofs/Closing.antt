@@ -1,29 +1,6 @@
 -- A queue or a stack that a line filled is closed in it, and its items lose their names
-use Rattle.std.proofs.Common.{◌≡◌, ◌⊎◌, ◌+◌, ◌<◌, ◌≤◌, inl, inr, ℕ, List, [], ◌∷◌, ◌++◌, Bool, true, false, Option, Some, None, IsSome, is_some, length, map, slice_index_or, slice_set, if◌then◌else◌, refl, sym, ap, ◌∙◌, subst, arith}
-use Rattle.std.specs.Prelude.{◌*◌, ◌^◌, ◌&&◌, not}
-use Rattle.std.proofs.Common.{zero, suc}
-use Rattle.std.proofs.lemmas.Bool.{cases_eq, cases_lt, false≢true}
-use Rattle.std.proofs.lemmas.List.{length-append, length-set}
-use Rattle.sdd_core.specs.declared.tag.Tag.{Tag}
-use Rattle.sdd_core.specs.declared.tag.Tag.TheVariants.{Second}
-use Rattle.sdd_participants.specs.declared.standing.Standing.{Standing}
-use Rattle.sdd_participants.specs.declared.standing.Standing.TheVariants.{Owned, Raw, Shared, Retired, Private}
-use Rattle.sdd_standings.specs.Slots.{is_waiting}
-use Rattle.sdd_space.specs.Ledger.{Claim}
-use Rattle.sdd_space.specs.OwnerOrCell.{OwnerOrCell}
-use Rattle.sdd_space.specs.OwnerCounts.{times_held}
-use Rattle.sdd_space.specs.World.{World, standing_at, value_at}
-use Rattle.sdd_space.specs.WorldChanges.{owner_given, with_cell}
-use Rattle.sdd_space.proofs.Accounts.{in_value-out}
-use Rattle.sdd_space.proofs.Standings.{out-waits-not}
-use Rattle.sdd_lists.specs.Ends.{IsAmong}
-use Rattle.sdd_lists.specs.Lists.{Entry, emptied, first_slot, let_go_first}
-use Rattle.sdd_script_model.specs.Copies.{LosesNames}
-use Rattle.sdd_script_model.specs.Bags.{IsStored}
-use Rattle.sdd_script_model.specs.ScriptState.{ScriptState, IsListCell, holding_at, name_at, names_from, shared_cell}
-use Rattle.sdd_script_model.specs.Shown.{number_in}
-use Rattle.sdd_script_model.specs.Sound.{IsCalled, IsSound, contained, named, named_owners, stacked}
-use Rattle.sdd_script_model.specs.Val.{Val, holdings_of, link_of}
+use Rattle.sdd_script_model.proofs.Words.{◌≡◌, ◌⊎◌, ◌+◌, ◌<◌, ◌≤◌, inl, inr, ℕ, List, [], ◌∷◌, ◌++◌, Bool, true, false, Option, Some, None, IsSome, is_some, length, map, slice_index_or, slice_set, refl, sym, ap, ◌∙◌, subst, arith, ◌*◌, ◌^◌, ◌&&◌, not, zero, suc, cases_eq, cases_lt, false≢true, length-append, length-set, Tag, Second, Standing, Owned, Raw, Shared, Retired, Private, is_waiting, Claim, OwnerOrCell, times_held, World, standing_at, value_at, owner_given, with_cell, in_value-out, out-waits-not, IsAmong, Entry, emptied, first_slot, let_go_first, LosesNames, IsStored, ScriptState, IsListCell, holding_at, name_at, names_from, shared_cell, number_in, IsCalled, IsSound, contained, named, named_owners, stacked, Val, holdings_of, link_of}
+use Rattle.std.proofs.Common.{if◌then◌else◌}
 use Rattle.sdd_script_model.proofs.Counting.{accounts, stack-given, stack-spent}
 use Rattle.sdd_script_model.proofs.Entry.{at-end, at-other, at-same}
 use Rattle.sdd_script_model.proofs.Entry.{inside as inside-list}

@@ -1,30 +1,11 @@
 -- What is always true of a desk is true after each call of a collector that closes none
-use Rattle.std.proofs.Common.{◌≡◌, ℕ, ◌+◌, ◌-◌, ◌<◌, Bool, true, false, nat_lt, if◌then◌else◌, Some, None, length, slice_set, inl, inr, refl, sym, ap, ◌∙◌, subst, ltb-true, arith}
-use Rattle.std.specs.Prelude.{IsTrue, ◌↔◌}
-use Rattle.std.proofs.lemmas.List.{length-set}
-use Rattle.std.proofs.lemmas.Bool.{false≢true}
-use Rattle.std.proofs.lemmas.Bool.Decides.{nat_tests}
-use Rattle.sdd_participants.specs.Slab.{IsEmptyAt}
-use Rattle.sdd_participants.specs.declared.standing.Standing.TheVariants.{Owned, Shared, Private as privately}
-use Rattle.sdd_standings.specs.Slots.{IsSharedBy, is_waiting}
+use Rattle.sdd_script_model.proofs.Words.{◌≡◌, ℕ, ◌+◌, ◌-◌, ◌<◌, Bool, true, false, nat_lt, Some, None, length, slice_set, inl, inr, refl, sym, ap, ◌∙◌, subst, arith, IsTrue, ◌↔◌, length-set, false≢true, nat_tests, IsEmptyAt, Owned, Shared, Private as privately, IsSharedBy, is_waiting, collected, owner_collected, IsAlone, right_to, one, makes_cell, changes_pointers, collects, OwnerOrCell, atomic_raw, is_out, nulled, retired, with_standing, IsWhole, World, IsPlaceOf, standing_at, out-inside, out-waits-not, Val, ScriptState, IsDated, holding_at, shared_slot, slot_of, in_world, without_owner, Reply, Collects, IsSound, named, named_among}
+use Rattle.std.proofs.Common.{if◌then◌else◌, ltb-true}
 use Rattle.sdd_standings.specs.Cells.{null_pointer}
-use Rattle.sdd_space.specs.Collecting.{collected, owner_collected}
-use Rattle.sdd_space.specs.InPlace.{IsAlone}
-use Rattle.sdd_space.specs.Ledger.{right_to, one}
-use Rattle.sdd_space.specs.Ledger.Moves.{makes_cell, changes_pointers, collects}
-use Rattle.sdd_space.specs.OwnerOrCell.{OwnerOrCell, atomic_raw}
 use Rattle.sdd_space.specs.OwnerOrCell as holding
-use Rattle.sdd_space.specs.Out.{is_out}
-use Rattle.sdd_space.specs.WorldChanges.{nulled, pointing, retired, with_standing}
-use Rattle.sdd_space.specs.WorldInvariant.{IsWhole}
-use Rattle.sdd_space.specs.World.{World, IsPlaceOf, standing_at}
-use Rattle.sdd_space.proofs.Standings.{out-inside, out-waits-not}
-use Rattle.sdd_script_model.specs.Val.{Val}
-use Rattle.sdd_script_model.specs.ScriptState.{ScriptState, IsDated, holding_at, shared_slot, slot_of, in_world, with_collector, without_owner}
-use Rattle.sdd_script_text.specs.declared.answer.Reply.{Reply}
+use Rattle.sdd_space.specs.WorldChanges.{pointing}
+use Rattle.sdd_script_model.specs.ScriptState.{with_collector}
 use Rattle.sdd_script_text.specs.declared.answer.Reply.TheVariants as reply
-use Rattle.sdd_script_model.specs.Collecting.{Collects}
-use Rattle.sdd_script_model.specs.Sound.{IsSound, named, named_among}
 use Rattle.sdd_script_model.proofs.Chains.{LeavesSound, at_home-given, at_home-spent, finishes, moves, starts}
 use Rattle.sdd_script_model.proofs.Counting.{accounts, collector-given, owned-out, owner-spent}
 use Rattle.sdd_script_model.proofs.Dates.{dated-same, dated-either}

@@ -1,29 +1,11 @@
 -- What is always true of a desk is true after a collector is closed, where no guard is open
-use Rattle.std.proofs.Common.{◌≡◌, ℕ, List, [], Option, Some, None, IsSome, slice_set, refl, sym, ap, ◌∙◌, subst, lt-ltb, arith}
-use Rattle.std.specs.Prelude.{Contains}
-use Rattle.std.specs.List.Sorted.{IsPermutation, IsNonDecreasingBy}
-use Rattle.sdd_participants.specs.Slab.{entry_at}
-use Rattle.sdd_participants.specs.declared.standing.CellContents.{CellContents}
-use Rattle.sdd_participants.specs.declared.waiting.LimboEntry.TheVariants.{Item}
-use Rattle.sdd_space.specs.Collecting.{collector_closed, waiting_for}
-use Rattle.sdd_space.specs.Ledger.{right_to}
-use Rattle.sdd_space.specs.Ledger.Moves.{closes_collector}
+use Rattle.sdd_script_model.proofs.Words.{◌≡◌, ℕ, List, [], Option, Some, None, IsSome, slice_set, refl, sym, ap, ◌∙◌, subst, lt-ltb, arith, Contains, IsPermutation, IsNonDecreasingBy, entry_at, CellContents, Item, collector_closed, waiting_for, right_to, closes_collector, held_in, IsWhole, AnyGuardOpen, IsPlaceOf, place_at, ItemName, PlaceName, At, holdings_of, ScriptState, OpenSince, holding_at, collector_of, in_world, opening_at, slot_at, NamesWhatGoes, NamesWhatRuns, names_in, IsSound, named_among}
 use Rattle.sdd_space.specs.Out.{IsNullCell}
-use Rattle.sdd_space.specs.WorldChanges.{held_in}
-use Rattle.sdd_space.specs.WorldInvariant.{IsWhole}
-use Rattle.sdd_space.specs.World.{AnyGuardOpen, IsPlaceOf, place_at}
 use Rattle.sdd_space.proofs.Guarded.{guarded}
 use Rattle.sdd_script_text.specs.declared.name.CollectorName.{CollectorName}
-use Rattle.sdd_script_text.specs.declared.name.ItemName.{ItemName}
-use Rattle.sdd_script_text.specs.declared.name.PlaceName.{PlaceName}
 use Rattle.sdd_script_text.specs.declared.call.Action.TheVariants as call
-use Rattle.sdd_script_text.specs.declared.call.Call.TheVariants.{At}
 use Rattle.sdd_script_text.specs.declared.answer.Reply.TheVariants as reply
-use Rattle.sdd_script_model.specs.Val.{holdings_of}
-use Rattle.sdd_script_model.specs.ScriptState.{ScriptState, OpenSince, holding_at, collector_of, in_world, opening_at, slot_at, without_collector}
-use Rattle.sdd_script_model.specs.Script.{NamesWhatGoes, NamesWhatRuns}
-use Rattle.sdd_script_model.specs.Shown.{names_in}
-use Rattle.sdd_script_model.specs.Sound.{IsSound, named_among}
+use Rattle.sdd_script_model.specs.ScriptState.{without_collector}
 use Rattle.sdd_script_model.proofs.Chains.{LeavesSound, at_home-spent, finishes, moves, starts}
 use Rattle.sdd_script_model.proofs.Counting.{collector-spent, some-holding, tells}
 use Rattle.sdd_script_model.proofs.Going.{open-guard}

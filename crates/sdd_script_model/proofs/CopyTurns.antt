@@ -1,20 +1,7 @@
 -- What a line that copies a queue or a stack gives a participant: what it lets go of waits there, and nothing else of the time changes
-use Rattle.std.proofs.Common.{◌<◌, ℕ, List, Option, length, refl, sym, subst}
+use Rattle.sdd_script_model.proofs.Words.{◌<◌, ℕ, List, Option, length, refl, sym, subst, Shared as shared_by, World, standing_at, made_as, nulled, owner_given, Gives, Gives-owner_given, Gives-range, End, appended, end_of, Entry, QueueCells, queue_closed, AddsAllBehind, AddsBehind, adds_behind, begins_behind, AppendsAll, AppendsTo, appends, starts, Body, MakesQueueOf, MakesStackOf, stack_closed, Val, link_of}
 use Rattle.sdd_core.specs.declared.tag.Tag.TheVariants.{None as no_tag}
-use Rattle.sdd_participants.specs.declared.standing.Standing.TheVariants.{Shared as shared_by}
 use Rattle.sdd_space.specs.Shared.{slot_of}
-use Rattle.sdd_space.specs.World.{World, standing_at}
-use Rattle.sdd_space.specs.WorldChanges.{made_as, nulled, owner_given}
-use Rattle.sdd_space.proofs.Own.{Gives, Gives-owner_given, Gives-range}
-use Rattle.sdd_lists.specs.Ends.{End, appended, end_of}
-use Rattle.sdd_lists.specs.Lists.{Entry}
-use Rattle.sdd_lists.specs.Queue.{QueueCells, queue_closed}
-use Rattle.sdd_lists.specs.QueueFilling.{AddsAllBehind, AddsBehind, adds_behind, begins_behind}
-use Rattle.sdd_lists.specs.StackCloning.{AppendsAll, AppendsTo, appends, starts}
-use Rattle.sdd_script_model.specs.declared.val.Body.{Body}
-use Rattle.sdd_script_model.specs.Copies.{MakesQueueOf, MakesStackOf}
-use Rattle.sdd_script_model.specs.Stacks.{stack_closed}
-use Rattle.sdd_script_model.specs.Val.{Val, link_of}
 use Rattle.sdd_script_model.proofs.QueueTurns.{gives-behind, gives-queue_closed}
 use Rattle.sdd_script_model.proofs.StackTurns.{gives-closed, gives-nothing, gives-then, gives-trimmed}
 

@@ -1,31 +1,14 @@
 -- What is always true of a desk is true after a line that copies a queue or a stack, whether it is refused or not
-use Rattle.std.proofs.Common.{◌≡◌, ◌≢◌, ◌+◌, ◌<◌, ◌≤◌, inl, inr, ℕ, List, [], ◌∷◌, ◌++◌, Bool, true, false, if◌then◌else◌, Option, Some, None, length, map, count_by, slice_index_or, slice_set, refl, sym, zero, suc, ap, ◌∙◌, subst, arith}
-use Rattle.std.specs.Prelude.{◌*◌, ◌^◌, not}
-use Rattle.std.proofs.lemmas.Bool.{cases_eq}
-use Rattle.std.proofs.lemmas.List.{length_push, length-set}
+use Rattle.sdd_script_model.proofs.Words.{◌≡◌, ◌≢◌, ◌+◌, ◌<◌, ◌≤◌, inl, inr, ℕ, List, [], ◌∷◌, ◌++◌, Bool, true, false, Option, Some, None, length, map, count_by, slice_index_or, slice_set, refl, sym, zero, suc, ap, ◌∙◌, subst, arith, ◌*◌, ◌^◌, not, cases_eq, length_push, length-set, OwnerOrCell, is_owner_of, times_held, World, IsPlaceOf, standing_at, value_at, nulled, spilled, without_cell, IsWhole, IsAmong, AreLinked, Entry, is_deleted, shown_of, IsQueue, QueueCells, queue_closed, Body, Number, Storage, ArePlain, LosesNames, MakesQueueOf, MakesStackOf, AreNumbers, Begins, IsNumber, IsNamedQueue, BeginsLine, ScriptState, holding_at, in_world, shared_cell, with_items, with_queue, with_stack, IsSound, stacked, IsStack, stack_closed, Val, body_of, holdings_of, link_of, owner_in}
+use Rattle.std.proofs.Common.{if◌then◌else◌}
 use Rattle.sdd_core.specs.declared.tag.Tag.TheVariants.{None as no_tag}
-use Rattle.sdd_space.specs.OwnerOrCell.{OwnerOrCell}
 use Rattle.sdd_space.specs.OwnerOrCell as holding
-use Rattle.sdd_space.specs.OwnerCounts.{is_owner_of, times_held}
-use Rattle.sdd_space.specs.World.{World, IsPlaceOf, standing_at, value_at}
-use Rattle.sdd_space.specs.WorldChanges.{nulled, spilled, without_cell}
-use Rattle.sdd_space.specs.WorldInvariant.{IsWhole}
-use Rattle.sdd_lists.specs.Ends.{IsAmong}
 use Rattle.sdd_lists.specs.Entries.{value_of}
-use Rattle.sdd_lists.specs.Lists.{AreLinked, Entry, content, is_deleted}
-use Rattle.sdd_lists.specs.Walk.{shown_of}
-use Rattle.sdd_lists.specs.Queue.{IsQueue, QueueCells, queue_closed}
+use Rattle.sdd_lists.specs.Lists.{content}
 use Rattle.sdd_lists.proofs.Few.{no-longer}
 use Rattle.sdd_lists.proofs.Lists.{inside}
-use Rattle.sdd_script_model.specs.declared.val.Body.{Body}
-use Rattle.sdd_script_model.specs.declared.val.Body.TheVariants.{Number, Owned, Shared, Storage}
-use Rattle.sdd_script_model.specs.Copies.{ArePlain, LosesNames, MakesQueueOf, MakesStackOf, entry_slots}
-use Rattle.sdd_script_model.specs.Listed.{AreNumbers, Begins, IsNumber}
-use Rattle.sdd_script_model.specs.Queues.{IsNamedQueue}
-use Rattle.sdd_script_model.specs.ScriptState.{BeginsLine, ScriptState, holding_at, in_world, shared_cell, with_items, with_queue, with_stack}
-use Rattle.sdd_script_model.specs.Sound.{IsSound, stacked}
-use Rattle.sdd_script_model.specs.Stacks.{IsStack, stack_closed}
-use Rattle.sdd_script_model.specs.Val.{Val, body_of, holdings_of, link_of, owner_in}
+use Rattle.sdd_script_model.specs.declared.val.Body.TheVariants.{Owned, Shared}
+use Rattle.sdd_script_model.specs.Copies.{entry_slots}
 use Rattle.sdd_script_model.proofs.Chains.{LeavesSound}
 use Rattle.sdd_script_model.proofs.Closing.{IsForgotten, IsLone, emptied-waits, forgotten-sound, spent-counts, spent-last}
 use Rattle.sdd_script_model.proofs.Counting.{times-held}

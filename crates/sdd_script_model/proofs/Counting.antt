@@ -1,37 +1,14 @@
 -- How many owners and rights to cells have names, as names are given and spent, and what that tells of a script's world
-use Rattle.std.proofs.Common.{◌≡◌, ◌⊎◌, List, ℕ, suc, inl, inr, ◌+◌, ◌≤◌, [], ◌∷◌, ◌++◌, true, Option, Some, None, IsSome, is_some, count_by, sum_by, slice_index_or, slice_set, refl, sym, ap, ◌∙◌, arith}
-use Rattle.std.specs.Prelude.{◌==◌}
-use Rattle.std.proofs.lemmas.List.Sums.{sum_by-cons, sum_by_push}
-use Rattle.std.proofs.lemmas.Bool.{cases_lt}
-use Rattle.std.proofs.lemmas.Bool.Decides.{nat_tests}
-use Rattle.sdd_participants.specs.Slab.{entry_at}
-use Rattle.sdd_space.specs.Ledger.{Claim, owner_of, right_to, is_right_to, claims, one, owner_held, times_kept, Tells}
-use Rattle.sdd_space.specs.WorldInvariant.{once_if}
+use Rattle.sdd_script_model.proofs.Words.{◌≡◌, ◌⊎◌, List, ℕ, suc, inl, inr, ◌+◌, ◌≤◌, [], ◌∷◌, ◌++◌, true, Option, Some, None, IsSome, is_some, count_by, slice_index_or, slice_set, refl, sym, ap, ◌∙◌, arith, ◌==◌, sum_by-cons, sum_by_push, cases_lt, nat_tests, entry_at, Claim, owner_of, right_to, is_right_to, claims, one, owner_held, times_kept, Tells, once_if, OwnerOrCell, owned, shared, atomic_owned, atomic_shared, atomic_raw, is_out, World, standing_at, value_at, held_in, is_owner_of, times_held, one_where, count-cons, out-some, sum-out, outside-out, in_value-out, ledger-laws, once-where, OwnerName, Value, Of, Body, Val, body_of, owner_in, holdings_of, link_of, storage_in, ScriptState, holding_at, slot_of, cell_of, shared_cell, collector_of, StorageName, IsSpare, IsPutIn, owners_left, owner_as, owners_put, owners_taken, slot_put, IsSound, owns, has_right, named, named_among, named_owners, contained, stacked}
+use Rattle.std.proofs.Common.{sum_by}
 use Rattle.sdd_space.specs.Owned as owned_of
 use Rattle.sdd_space.specs.Shared as shared_of
-use Rattle.sdd_space.specs.OwnerOrCell.{OwnerOrCell, owned, shared, atomic_owned, atomic_shared, atomic_raw}
-use Rattle.sdd_space.specs.Out.{is_out}
-use Rattle.sdd_space.specs.World.{World, standing_at, value_at}
-use Rattle.sdd_space.specs.WorldChanges.{held_in}
-use Rattle.sdd_space.specs.OwnerCounts.{is_owner_of, times_held, IsAccounted}
-use Rattle.sdd_space.proofs.Whole.{one_where, count-cons}
-use Rattle.sdd_space.proofs.Standings.{out-some}
-use Rattle.sdd_space.proofs.Accounts.{sum-out, outside-out, in_value-out, in_cell-out}
-use Rattle.sdd_space.proofs.Ledger.{ledger-laws}
-use Rattle.sdd_space.proofs.Rights.{once-where}
-use Rattle.sdd_script_text.specs.declared.name.OwnerName.{OwnerName}
-use Rattle.sdd_script_text.specs.declared.call.Value.{Value}
-use Rattle.sdd_script_text.specs.declared.call.Value.TheVariants.{Number, Of}
-use Rattle.sdd_script_model.specs.declared.val.Body.{Body}
-use Rattle.sdd_script_model.specs.Val.{Val, body_of, owner_in, holdings_of, link_of, storage_in}
+use Rattle.sdd_space.specs.OwnerCounts.{IsAccounted}
+use Rattle.sdd_space.proofs.Accounts.{in_cell-out}
+use Rattle.sdd_script_text.specs.declared.call.Value.TheVariants.{Number}
 use Rattle.sdd_script_model.specs.declared.val.Body.TheVariants as body
-use Rattle.sdd_script_model.specs.ScriptState.{ScriptState, holding_at, slot_of, cell_of, shared_cell, collector_of}
 use Rattle.sdd_script_model.proofs.Links.{holds-so}
-use Rattle.sdd_bag.specs.Storages.{StorageName}
-use Rattle.sdd_script_model.specs.Bags.{IsSpare}
-use Rattle.sdd_script_model.specs.Made.{IsPutIn, owners_left}
-use Rattle.sdd_script_model.specs.Script.{IsOwnerName, owner_as, owners_put, owners_taken, slot_put}
-use Rattle.sdd_script_model.specs.Sound.{IsSound, owns, has_right, named, named_among, named_owners, contained, stacked}
+use Rattle.sdd_script_model.specs.Script.{IsOwnerName}
 
 -- the owners of a desk are accounted for, where these have names and the world is this
 abbrev pub AreCounted : ScriptState → World Val → Type 0

@@ -1,23 +1,10 @@
 -- When an item began to wait, after each step of a desk
-use Rattle.std.specs.Prelude.{◌*◌, ◌^◌, ◌&&◌}
+use Rattle.sdd_script_model.proofs.Words.{◌*◌, ◌^◌, ◌&&◌, get_or_past, set_past, entry_at, with_entry, WorldStep, IsFirst, registers, ends, closes, defers, Limits, IsAlone, with_standing, without_cell, spilled, held_in, dropped_out, vacated, value_at, is_of_slot, is_for, waiting_for, without_collector, listed-without, times_among, times-aged, one-place, out-inside, out-waits-not, how, keeps-given_all, BeginsLine, IsStart, job_date_at}
 use Rattle.std.proofs.Math.ListN.{replicate, length-replicate}
-use Rattle.std.proofs.lemmas.List.{get_or-replicate, get_or_past, set_past}
-use Rattle.sdd_participants.specs.Slab.{entry_at, with_entry}
+use Rattle.std.proofs.lemmas.List.{get_or-replicate}
 use Rattle.sdd_participants.proofs.Adopting.{same-or-not}
-use Rattle.sdd_space.specs.WorldStep.{WorldStep, IsFirst}
-use Rattle.sdd_space.specs.WorldStep.WorldStep.{registers, ends, opens, closes, stirs, accelerates, makes, shares, retires, releases, defers, collects, closes_collector, edits, drops, puts_out_raw, takes_back_raw, changes_cells, changes_pointers, closes_cell}
-use Rattle.sdd_core.specs.declared.limits.Limits.{Limits}
-use Rattle.sdd_space.specs.InPlace.{IsAlone}
-use Rattle.sdd_space.specs.WorldChanges.{with_standing, without_cell, spilled, held_in, dropped_out, vacated}
-use Rattle.sdd_space.specs.World.{value_at}
-use Rattle.sdd_space.specs.WorldInvariant.{is_of_slot}
-use Rattle.sdd_space.specs.Collecting.{is_for, waiting_for, without_collector}
-use Rattle.sdd_space.proofs.Listed.{listed-without}
-use Rattle.sdd_space.proofs.Whole.{times_among, times-aged}
-use Rattle.sdd_space.proofs.Entries.{one-place}
-use Rattle.sdd_space.proofs.Standings.{out-inside, out-waits-not}
-use Rattle.sdd_space.proofs.Opening.{Stands, how, all-stands, opened-stays, owner_given-stands, closed-stands, keeps-given_all}
-use Rattle.sdd_script_model.specs.ScriptState.{BeginsLine, IsStart, job_date_at}
+use Rattle.sdd_space.specs.WorldStep.WorldStep.{opens, stirs, accelerates, makes, shares, retires, releases, collects, closes_collector, edits, drops, puts_out_raw, takes_back_raw, changes_cells, changes_pointers, closes_cell}
+use Rattle.sdd_space.proofs.Opening.{Stands, all-stands, opened-stays, owner_given-stands, closed-stands}
 use Rattle.sdd_script_model.proofs.Terms.{◌≡◌, ◌≢◌, ◌⊎◌, ℕ, ◌+◌, ◌-◌, ◌<◌, ◌≤◌, ◌==◌, Bool, true, false, nat_lt, if◌then◌else◌, List, Option, Some, None, length, count_by, slice_index, slice_index_or, slice_set, inl, inr, refl, sym, ap, ◌∙◌, lt-ltb, ltb-true, arith, cases_lt, false≢true, length-set, due_next, Standing, Owned, Raw, Shared, Retired, privately, is_waiting, World, place_at, standing_at, retired, owner_given, cell_closed, reclaims, IsWhole, is_out, Val, holdings_of, ScriptState, IsDated, date_at, later, at-same, at-other}
 
 -- ---- what begins to wait was out

@@ -1,25 +1,15 @@
 -- The names of the jobs that wait, after each call; and which of them an opening runs
+use Rattle.sdd_script_model.proofs.Words.{IsPermutation, IsNonDecreasingBy, IsStrictlyIncreasing, Contains-get_or, sum_by-IsPermutation, IsPermutation-sym, Contains-permutation, get_or-le-sum_by, due_next, nobody, owner_given, cell_closed, given_all, opened, is_of_job, jobs_with, IsPlaceOf, runs-once, how, before, keeps-owner_given, keeps-given_all, JobName, ScriptState, WaitsAt, job_in, places_among}
 use Rattle.std.specs.Prelude.{slice_index}
-use Rattle.std.specs.List.Sorted.{IsPermutation, IsNonDecreasingBy, IsStrictlyIncreasing}
-use Rattle.std.proofs.lemmas.List.Elements.{Contains-get_or}
-use Rattle.std.proofs.lemmas.List.Sorted.{sum_by-IsPermutation, IsPermutation-sym, Contains-permutation}
-use Rattle.std.proofs.lemmas.List.Sums.{get_or-le-sum_by}
-use Rattle.sdd_participants.specs.EpochState.{due_next, nobody}
 use Rattle.sdd_space.specs.Jobs.{RunsJobsOnce}
-use Rattle.sdd_space.specs.WorldChanges.{owner_given, cell_closed, given_all, opened}
 use Rattle.sdd_space.specs.WorldChanges as steps
-use Rattle.sdd_space.specs.WorldInvariant.{is_of_job, jobs_with}
-use Rattle.sdd_space.specs.World.{IsPlaceOf}
-use Rattle.sdd_space.proofs.Jobs.{runs-once, length-all_reclaimed}
+use Rattle.sdd_space.proofs.Jobs.{length-all_reclaimed}
 use Rattle.sdd_space.proofs.Listed.{listed-aged}
-use Rattle.sdd_space.proofs.Opening.{how, before, keeps-owner_given, keeps-cell_closed, keeps-given_all}
-use Rattle.sdd_script_text.specs.declared.name.JobName.{JobName}
+use Rattle.sdd_space.proofs.Opening.{keeps-cell_closed}
 use Rattle.sdd_script_model.proofs.Entry.{at-same, at-other, inside, not-free}
 use Rattle.sdd_script_model.proofs.StockWords.{◌≡◌, ◌⊎◌, ℕ, zero, suc, ◌+◌, ◌<◌, ◌≤◌, ◌==◌, ◌↔◌, Bool, true, false, List, [], ◌∷◌, Option, Some, None, IsSome, is_some, map, length, count_by, slice_index_or, slice_set, inl, inr, refl, sym, ap, ◌∙◌, eq-eqb, cases_eq, cases_lt, arith, nat_tests, All, Contains, length-set, Entries, IsEmptyAt, entry_at, with_entry, LimboEntry, Item, Job, Standing, reclaims, IsWhole, OwnerOrCell, World, place_at, standing_at, one_where, count-cons, Val, holdings_of}
-use Rattle.sdd_script_model.specs.ScriptState.{ScriptState, WaitsAt, job_at}
-use Rattle.sdd_script_model.specs.Shown.{job_in}
+use Rattle.sdd_script_model.specs.ScriptState.{job_at}
 use Rattle.sdd_script_model.specs.Sound.{AreDeferred}
-use Rattle.sdd_script_model.specs.Held.{places_among}
 use Rattle.sdd_script_model.proofs.Gone.{times_in, counts-le, count-map, contains-map, map-contains, once-bound, rises}
 
 -- ---- what changes no job

@@ -1,27 +1,14 @@
 -- Each opening of a run names exactly what is due by the lines before it
-use Rattle.std.specs.Prelude.{replicate, sum_by}
-use Rattle.std.specs.Option.{option_map}
-use Rattle.std.proofs.Common.{zero}
-use Rattle.sdd_core.specs.declared.limits.Limits.{Limits}
+use Rattle.sdd_script_model.proofs.Words.{replicate, sum_by, option_map, zero, Limits, Item, Job, Tally, jobs_with, once_if, ItemName, JobName, Answer, Reply, Call, At, Line, is_waiting_in, opens, AreCalls, LineStep, NamesWhatGoes, NamesWhatRuns, Runs, none as no_call, one_more, IsStart, slot_at}
 use Rattle.sdd_participants.specs.EpochState as time
-use Rattle.sdd_participants.specs.declared.waiting.LimboEntry.TheVariants.{Item, Job}
-use Rattle.sdd_participants.specs.declared.tally.Tally.{Tally}
 use Rattle.sdd_space.specs.World.{IsNew}
-use Rattle.sdd_space.specs.WorldInvariant.{KeepsUp, times_with, jobs_with, once_if}
+use Rattle.sdd_space.specs.WorldInvariant.{KeepsUp, times_with}
 use Rattle.sdd_space.proofs.Housed.{housed-none}
 use Rattle.sdd_space.proofs.Waning.{Whole-called}
-use Rattle.sdd_script_text.specs.declared.name.ItemName.{ItemName}
-use Rattle.sdd_script_text.specs.declared.name.JobName.{JobName}
-use Rattle.sdd_script_text.specs.declared.answer.Answer.{Answer}
-use Rattle.sdd_script_text.specs.declared.answer.Reply.{Reply}
 use Rattle.sdd_script_text.specs.declared.answer.Reply.TheVariants as reply
-use Rattle.sdd_script_text.specs.declared.call.Call.{Call}
-use Rattle.sdd_script_text.specs.declared.call.Call.TheVariants.{At}
 use Rattle.sdd_script_text.specs.declared.call.Action.TheVariants as call
-use Rattle.sdd_script_model.specs.Due.{Line, NamesDue, NamesWhatIsDue, is_waiting_in, opens}
-use Rattle.sdd_script_model.specs.Script.{AreCalls, EachNamesWhatIsDue, LineStep, NamesWhatGoes, NamesWhatRuns, Runs}
-use Rattle.sdd_script_model.specs.Script.AreCalls.{none as no_call, one_more}
-use Rattle.sdd_script_model.specs.ScriptState.{IsStart, slot_at}
+use Rattle.sdd_script_model.specs.Due.{NamesDue, NamesWhatIsDue}
+use Rattle.sdd_script_model.specs.Script.{EachNamesWhatIsDue}
 use Rattle.sdd_script_model.proofs.Entering.{due-is, tells-opens}
 use Rattle.sdd_script_model.proofs.History.{home, Tells}
 use Rattle.sdd_script_model.proofs.Layers.{blank-at}

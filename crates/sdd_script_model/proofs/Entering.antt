@@ -1,35 +1,12 @@
 -- What the lines so far say of a desk, after a line that opens a guard; and that its answer names exactly what is due
-use Rattle.std.specs.Prelude.{◌&&◌, ◌↔◌, not}
-use Rattle.std.specs.Option.{option_map}
-use Rattle.std.proofs.Common.{eq-eqb, ne_eqb}
-use Rattle.sdd_core.specs.Epoch.{epoch_of}
-use Rattle.sdd_core.specs.declared.epoch.Epoch.{Epoch}
-use Rattle.sdd_participants.specs.PlaceStates.{is_ended}
-use Rattle.sdd_participants.specs.Waiting.{having_seen}
-use Rattle.sdd_participants.specs.declared.waiting.LimboEntry.TheVariants.{Job}
-use Rattle.sdd_space.specs.World.{value_at}
-use Rattle.sdd_space.specs.ParticipantChanges.{opened_at}
-use Rattle.sdd_space.specs.WorldInvariant.{is_of_slot}
+use Rattle.sdd_script_model.proofs.Words.{◌&&◌, ◌↔◌, not, option_map, eq-eqb, ne_eqb, epoch_of, Epoch, is_ended, having_seen, Job, value_at, opened_at, is_of_slot, live-is, runs-once, one-if, none-if, how, IsChange, Nests, opened-other, opens-keeps, out-waits-not, filled-there, some-waits, GuardName, ItemName, JobName, PlaceName, At, Line, changes, count_shown, is_waiting_in, last_found, open_guards, opens, opens_first, start_of, IsParticipant, place_of}
 use Rattle.sdd_space.specs.WorldStep.WorldStep.{opens as opens_one}
-use Rattle.sdd_space.proofs.Housed.{live-is}
-use Rattle.sdd_space.proofs.Jobs.{runs-once}
-use Rattle.sdd_space.proofs.Nesting.{one-if, none-if}
-use Rattle.sdd_space.proofs.Opening.{how, IsChange, Nests, opened-goes, opened-other}
+use Rattle.sdd_space.proofs.Opening.{opened-goes}
 use Rattle.sdd_space.proofs.Own as own
-use Rattle.sdd_space.proofs.Safe.{opens-keeps}
-use Rattle.sdd_space.proofs.Standings.{out-waits-not}
-use Rattle.sdd_space.proofs.Whole.{filled-there, some-waits}
-use Rattle.sdd_script_text.specs.declared.name.GuardName.{GuardName}
-use Rattle.sdd_script_text.specs.declared.name.ItemName.{ItemName}
-use Rattle.sdd_script_text.specs.declared.name.JobName.{JobName}
-use Rattle.sdd_script_text.specs.declared.name.PlaceName.{PlaceName}
 use Rattle.sdd_script_text.specs.declared.answer.Reply.TheVariants as reply
-use Rattle.sdd_script_text.specs.declared.call.Call.TheVariants.{At}
 use Rattle.sdd_script_text.specs.declared.call.Action.TheVariants as call
-use Rattle.sdd_script_model.specs.Due.{IsDueAt, Line, changes, count_shown, is_change, is_waiting_in, last_found, open_guards, opens, opens_first, start_of}
-use Rattle.sdd_script_model.specs.Script.{IsParticipant}
+use Rattle.sdd_script_model.specs.Due.{IsDueAt, is_change}
 use Rattle.sdd_script_model.specs.ScriptState as desk
-use Rattle.sdd_script_model.specs.ScriptState.{place_of}
 use Rattle.sdd_script_model.proofs.Attending.{live-by, opens-one}
 use Rattle.sdd_script_model.proofs.Dates.{begins-out}
 use Rattle.sdd_script_model.proofs.Deferred.{taken-before}

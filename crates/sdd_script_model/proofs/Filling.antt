@@ -1,34 +1,11 @@
 -- What is always true of a desk is true after a new queue or stack is filled with numbers, each of which it owns alone
-use Rattle.std.proofs.Common.{◌≡◌, ◌≢◌, ◌⊎◌, ◌+◌, inl, inr, ℕ, List, [], ◌∷◌, ◌++◌, Option, Some, None, length, map, slice_index_or, slice_set, refl, sym, ap, ◌∙◌, append_assoc, append-nil, subst, ◌-◌, ◌<◌, ◌≤◌, nat_lt, if◌then◌else◌, true, false, is_some, IsSome, arith}
-use Rattle.std.proofs.lemmas.Bool.{cases_eq}
-use Rattle.std.proofs.lemmas.List.{length-append, length-set, length_push, map-append}
+use Rattle.sdd_script_model.proofs.Words.{◌≡◌, ◌≢◌, ◌⊎◌, ◌+◌, inl, inr, ℕ, List, [], ◌∷◌, ◌++◌, Option, Some, None, length, map, slice_index_or, slice_set, refl, sym, ap, ◌∙◌, subst, ◌-◌, ◌<◌, ◌≤◌, nat_lt, true, false, is_some, IsSome, arith, cases_eq, length-append, length-set, length_push, Standing, Shared as shared_by, is_waiting, Claim, World, IsPlaceOf, standing_at, made_as, nulled, owner_given, retired, spilled, with_cell, with_standing, IsWhole, ledger-laws, IsAmong, appended, through_last, Entry, IsQueue, QueueCells, AddsAllBehind, AddsBehind, adds_behind, begins_behind, AppendsAll, AppendsTo, appends, starts as starts_stack, among-last, bare, list-same, Body, Number, Storage, ArePlain, Begins, IsListed, IsNumber, Enqueues, IsNamedQueue, ScriptState, IsListCell, holding_at, in_world, names_from, shared_cell, with_item, with_items, none as no_call, IsSound, contained, named, Appends, IsStack, Val, holdings_of, link_of}
+use Rattle.std.proofs.Common.{append_assoc, append-nil, if◌then◌else◌}
+use Rattle.std.proofs.lemmas.List.{map-append}
 use Rattle.sdd_core.specs.declared.tag.Tag.TheVariants.{None as no_tag}
-use Rattle.sdd_participants.specs.declared.standing.Standing.{Standing}
-use Rattle.sdd_participants.specs.declared.standing.Standing.TheVariants.{Shared as shared_by}
-use Rattle.sdd_standings.specs.Slots.{is_waiting}
-use Rattle.sdd_space.specs.Ledger.{Claim}
-use Rattle.sdd_space.specs.World.{World, IsPlaceOf, standing_at}
 use Rattle.sdd_space.specs.Shared.{slot_of}
-use Rattle.sdd_space.specs.WorldChanges.{made_as, nulled, owner_given, retired, spilled, with_cell, with_standing}
-use Rattle.sdd_space.specs.WorldInvariant.{IsWhole}
-use Rattle.sdd_space.proofs.Ledger.{ledger-laws}
-use Rattle.sdd_lists.specs.Ends.{IsAmong, appended, through_last}
-use Rattle.sdd_lists.specs.Lists.{Entry}
-use Rattle.sdd_lists.specs.Queue.{IsQueue, QueueCells, made_newest}
-use Rattle.sdd_lists.specs.QueueFilling.{AddsAllBehind, AddsBehind, adds_behind, begins_behind}
-use Rattle.sdd_lists.specs.StackCloning.{AppendsAll, AppendsTo, appends, starts as starts_stack}
-use Rattle.sdd_lists.proofs.Ending.{among-last}
-use Rattle.sdd_lists.proofs.Lists.{bare, list-same}
-use Rattle.sdd_script_model.specs.declared.val.Body.{Body}
-use Rattle.sdd_script_model.specs.declared.val.Body.TheVariants.{Number, Owned, Shared, Storage}
-use Rattle.sdd_script_model.specs.Copies.{ArePlain}
-use Rattle.sdd_script_model.specs.Listed.{Begins, IsListed, IsNumber}
-use Rattle.sdd_script_model.specs.Queues.{Enqueues, IsNamedQueue}
-use Rattle.sdd_script_model.specs.ScriptState.{ScriptState, IsListCell, holding_at, in_world, names_from, shared_cell, with_item, with_items}
-use Rattle.sdd_script_model.specs.Script.AreCalls.{none as no_call}
-use Rattle.sdd_script_model.specs.Sound.{IsSound, contained, named}
-use Rattle.sdd_script_model.specs.Stacks.{Appends, IsStack}
-use Rattle.sdd_script_model.specs.Val.{Val, holdings_of, link_of}
+use Rattle.sdd_lists.specs.Queue.{made_newest}
+use Rattle.sdd_script_model.specs.declared.val.Body.TheVariants.{Owned, Shared}
 use Rattle.sdd_script_model.proofs.Attending.{KeepsGuards, keeps-live}
 use Rattle.sdd_script_model.proofs.Chains.{IsMidway, LeavesSound, starts}
 use Rattle.sdd_script_model.proofs.Dates.{dated-kept}

@@ -1,37 +1,12 @@
 -- What a call of a world leaves as before: one record, by cases over calls, for one call after another
-use Rattle.std.proofs.Common.{◌≡◌, ℕ, ◌+◌, Bool, true, false, List, [], ◌∷◌, ◌++◌, Option, Some, None, IsSome, is_some, refl, sym, ap, ◌∙◌, subst}
-use Rattle.std.specs.Prelude.{IsTrue, nat_lt, if◌then◌else◌}
-use Rattle.std.proofs.Math.ListN.{get_or-map}
-use Rattle.std.proofs.lemmas.Bool.{false≢true}
-use Rattle.std.proofs.lemmas.List.{length-map, length-set}
-use Rattle.sdd_participants.specs.Collecting.{chosen_of, chosen_among, without}
+use Rattle.sdd_script_model.proofs.Words.{◌≡◌, ℕ, ◌+◌, Bool, true, false, List, [], ◌∷◌, ◌++◌, Option, Some, None, IsSome, is_some, refl, sym, ap, ◌∙◌, subst, IsTrue, if◌then◌else◌, get_or-map, false≢true, length-map, length-set, without, nobody, is_open, with_entry, without_entry, Waiting, Participant, Standing, Private as privately, LimboEntry, Item, Job, is_waiting, collected, is_for, waiting_for, without_collector, IsAlone, Claim, Moves, stirs, accelerates, changes_pointers, makes, shares, retires, releases, collects, drops, puts_out_raw, takes_back_raw, edits, makes_cell, changes_cell, spends_cell, closes_cell, closes_collector, is_out, World, place_at, standing_at, value_at, accelerated, all_reclaimed, dropped_out, freed, reclaimed, retired, stirred, taken_out, vacated, waiting_value, with_value, IsWhole, WorldStep, Gives-collector_closed, safe-call, out-some, AreCalls, none as no_call, one_more, Val, holdings_of, body_of, link_of, owner_in}
+use Rattle.std.specs.Prelude.{nat_lt}
+use Rattle.sdd_participants.specs.Collecting.{chosen_of, chosen_among}
 use Rattle.sdd_participants.specs.EpochState as time
-use Rattle.sdd_participants.specs.EpochState.{nobody, is_open}
-use Rattle.sdd_participants.specs.Slab.{with_entry, without_entry}
-use Rattle.sdd_participants.specs.Waiting.{Waiting}
-use Rattle.sdd_participants.specs.declared.participant.Participant.{Participant}
-use Rattle.sdd_participants.specs.declared.standing.Standing.{Standing}
 use Rattle.sdd_participants.specs.declared.standing.Standing.TheVariants as standing
-use Rattle.sdd_participants.specs.declared.standing.Standing.TheVariants.{Private as privately}
-use Rattle.sdd_participants.specs.declared.waiting.LimboEntry.{LimboEntry}
-use Rattle.sdd_participants.specs.declared.waiting.LimboEntry.TheVariants.{Item, Job}
-use Rattle.sdd_standings.specs.Slots.{is_waiting}
-use Rattle.sdd_space.specs.Collecting.{collected, is_for, waiting_for, without_collector}
-use Rattle.sdd_space.specs.InPlace.{IsAlone}
-use Rattle.sdd_space.specs.Ledger.{Claim, Moves}
-use Rattle.sdd_space.specs.Ledger.Moves.{registers, ends, opens, closes, stirs, accelerates, defers, changes_pointers, makes, shares, retires, releases, collects, drops, puts_out_raw, takes_back_raw, edits, makes_cell, changes_cell, spends_cell, closes_cell, closes_collector}
-use Rattle.sdd_space.specs.Out.{is_out}
-use Rattle.sdd_space.specs.World.{World, place_at, standing_at, value_at}
-use Rattle.sdd_space.specs.WorldChanges.{accelerated, all_reclaimed, dropped_out, freed, reclaimed, retired, stirred, taken_out, vacated, waiting_value, with_value}
-use Rattle.sdd_space.specs.WorldInvariant.{IsWhole}
-use Rattle.sdd_space.specs.WorldStep.{WorldStep}
-use Rattle.sdd_space.proofs.Own.{Gives-collector_closed}
-use Rattle.sdd_space.proofs.Safe.{safe-call}
+use Rattle.sdd_space.specs.Ledger.Moves.{registers, ends, opens, closes, defers}
 use Rattle.sdd_space.proofs.Sheds.{sheds-owner_given, sheds-cell_closed, sheds-dropped, sheds-collector_closed}
-use Rattle.sdd_space.proofs.Standings.{out-some, alone-out}
-use Rattle.sdd_script_model.specs.Script.{AreCalls}
-use Rattle.sdd_script_model.specs.Script.AreCalls.{none as no_call, one_more}
-use Rattle.sdd_script_model.specs.Val.{Val, holdings_of, body_of, link_of, owner_in}
+use Rattle.sdd_space.proofs.Standings.{alone-out}
 use Rattle.sdd_script_model.proofs.Attending.{KeepsGuards, keeps-time, keeps-place, keeps-gives, keeps-retired, keeps-owner_given, keeps-cell_closed, keeps-dropped, keeps-stirred, keeps-accelerated}
 use Rattle.sdd_script_model.proofs.Dates.{begins-out}
 use Rattle.sdd_script_model.proofs.Deferred.{jobs-given, jobs-closed, jobs-given_all}

@@ -1,47 +1,21 @@
 -- What is always true of a desk is true after each call
-use Rattle.std.proofs.Common.{◌≡◌, ◌≢◌, ◌⊎◌, ℕ, zero, suc, ◌+◌, ◌<◌, ◌≤◌, Bool, true, false, nat_lt, if◌then◌else◌, List, Option, Some, None, IsSome, is_some, map, length, count_by, slice_index_or, slice_set, inl, inr, refl, sym, ap, ◌∙◌, subst, arith}
-use Rattle.std.specs.Prelude.{All, Contains, IsTrue, replicate, ◌↔◌}
-use Rattle.std.specs.List.Sorted.{IsPermutation, IsNonDecreasingBy, IsStrictlyIncreasing}
-use Rattle.std.proofs.lemmas.List.{length_push, length-replicate}
-use Rattle.std.proofs.lemmas.Bool.{cases_eq}
-use Rattle.std.proofs.lemmas.Bool.Decides.{nat_tests}
-use Rattle.sdd_participants.specs.EpochState.{EpochState}
-use Rattle.sdd_participants.specs.Slab.{IsEmptyAt, entry_at}
-use Rattle.sdd_participants.specs.EpochState.{IsVacant, is_open}
-use Rattle.sdd_participants.specs.declared.waiting.LimboEntry.TheVariants.{Item, Job}
+use Rattle.sdd_script_model.proofs.Words.{◌≡◌, ◌≢◌, ◌⊎◌, ℕ, zero, suc, ◌+◌, ◌<◌, ◌≤◌, Bool, true, false, nat_lt, List, Option, Some, None, IsSome, is_some, map, length, count_by, slice_index_or, slice_set, inl, inr, refl, sym, ap, ◌∙◌, subst, arith, Contains, IsTrue, replicate, ◌↔◌, IsPermutation, IsNonDecreasingBy, IsStrictlyIncreasing, length_push, length-replicate, cases_eq, nat_tests, EpochState, IsEmptyAt, entry_at, is_open, Item, Job, IsSharedBy, is_waiting, Claim, owner_of, right_to, IsLedger, Keeps, claims, one, stirs, accelerates, makes, retires, releases, makes_cell, IsFirst, WorldStep, registers, ends, closes, defers, OwnerOrCell, IsOf, is_out, registered, ended, opened, reclaims, made_as, nulled, retired, closed, stirred, accelerated, deferred, held_in, owner_given, with_standing, CannotGo, IsWhole, Limits, IsPlaceOf, place_at, standing_at, value_at, times_held, Tally, ledger-laws, ItemName, JobName, Value, Of, Val, holdings_of, body_of, link_of, storage_in, ScriptState, OpenSince, BeginsLine, bag_at, IsDated, IsListCell, IsSecondCell, IsStart, IsThere, WaitsAt, shared_cell, date_at, job_date_at, opening_at, holding_at, slot_at, slot_of, sole_slot, shared_slot, in_world, with_owner, without_owner, with_item, later, none as no_call, one_more, HasLists, IsPutIn, owners_left, names_in, job_in, IsSound, ParticipantsMatch, contained, has_right, named, named_among, named_owners, owns, slots_among, places_among, AreSpare, IsStored, bagged, filled-there}
+use Rattle.std.proofs.Common.{if◌then◌else◌}
+use Rattle.std.specs.Prelude.{All}
+use Rattle.sdd_participants.specs.EpochState.{IsVacant}
 use Rattle.sdd_participants.specs.declared.standing.Standing.TheVariants as standing
-use Rattle.sdd_standings.specs.Slots.{IsSharedBy, is_waiting}
-use Rattle.sdd_space.specs.Ledger.{Claim, owner_of, right_to, IsLedger, Keeps, claims, nothing, one}
-use Rattle.sdd_space.specs.Ledger.Moves.{opens, stirs, accelerates, makes, retires, releases, makes_cell}
-use Rattle.sdd_space.specs.WorldStep.{IsFirst, WorldStep}
-use Rattle.sdd_space.specs.WorldStep.WorldStep.{registers, ends, closes, defers, makes as makes_item}
-use Rattle.sdd_space.specs.OwnerOrCell.{OwnerOrCell, IsOf}
+use Rattle.sdd_space.specs.Ledger.{nothing}
+use Rattle.sdd_space.specs.Ledger.Moves.{opens}
+use Rattle.sdd_space.specs.WorldStep.WorldStep.{makes as makes_item}
 use Rattle.sdd_space.specs.OwnerOrCell as holding
-use Rattle.sdd_space.specs.Out.{is_out}
-use Rattle.sdd_space.specs.WorldChanges.{registered, ended, opened, reclaims, made_as, nulled, retired, closed, stirred, accelerated, deferred, held_in, owner_given, with_standing}
-use Rattle.sdd_space.specs.UnderGuards.{CannotGo}
-use Rattle.sdd_space.specs.WorldInvariant.{IsWhole}
-use Rattle.sdd_core.specs.declared.limits.Limits.{Limits}
 use Rattle.sdd_core.specs.Limits.{AreInRange}
-use Rattle.sdd_space.specs.World.{IsPlaceOf, place_at, standing_at, value_at}
-use Rattle.sdd_space.specs.OwnerCounts.{times_held}
-use Rattle.sdd_participants.specs.declared.tally.Tally.{Tally}
-use Rattle.sdd_space.proofs.Ledger.{ledger-laws}
 use Rattle.sdd_space.proofs.Sheds.{sheds-opened}
-use Rattle.sdd_script_text.specs.declared.name.ItemName.{ItemName}
-use Rattle.sdd_script_text.specs.declared.name.JobName.{JobName}
-use Rattle.sdd_script_text.specs.declared.call.Value.{Value}
-use Rattle.sdd_script_text.specs.declared.call.Value.TheVariants.{Number, Of}
+use Rattle.sdd_script_text.specs.declared.call.Value.TheVariants.{Number}
 use Rattle.sdd_script_model.specs.declared.owner_kind.OwnerKind.{OwnerKind}
 use Rattle.sdd_script_model.specs.declared.owner_kind.OwnerKind.TheVariants as ownership
-use Rattle.sdd_script_model.specs.Val.{Val, holdings_of, body_of, link_of, storage_in}
-use Rattle.sdd_script_model.specs.ScriptState.{ScriptState, OpenSince, BeginsLine, bag_at, IsDated, IsListCell, IsSecondCell, IsStart, IsThere, WaitsAt, shared_cell, date_at, job_date_at, opening_at, holding_at, slot_at, slot_of, sole_slot, shared_slot, in_world, with_guard, with_newcomer, without_participant, without_guard, with_owner, without_owner, with_item, with_job, later}
-use Rattle.sdd_script_model.specs.Script.AreCalls.{none as no_call, one_more}
-use Rattle.sdd_script_model.specs.Listed.{HasLists}
-use Rattle.sdd_script_model.specs.Made.{IsPutIn, owners_left, put_in}
-use Rattle.sdd_script_model.specs.Shown.{names_in, job_in}
-use Rattle.sdd_script_model.specs.Sound.{IsSound, ParticipantsMatch, contained, has_right, named, named_among, named_owners, owns}
-use Rattle.sdd_script_model.specs.Held.{slots_among, places_among, standing_first, holding_first}
+use Rattle.sdd_script_model.specs.ScriptState.{with_guard, with_newcomer, without_participant, without_guard, with_job}
+use Rattle.sdd_script_model.specs.Made.{put_in}
+use Rattle.sdd_script_model.specs.Held.{standing_first, holding_first}
 use Rattle.sdd_script_model.proofs.Entry.{at-other, at-same, not-free}
 use Rattle.sdd_script_model.proofs.Stocked.{stocked-as, stocked-made, slots-same, slots-opened}
 use Rattle.sdd_script_model.proofs.Links.{holds-so, less-shed, null, less-same}
@@ -50,14 +24,12 @@ use Rattle.sdd_script_model.proofs.Listed.{has-still, has-stored}
 use Rattle.sdd_script_model.proofs.Frames.{Passes, passes-on}
 use Rattle.sdd_script_model.proofs.Chains.{AtHome, IsMidway, LeavesSound, at_home-given, at_home-spent, finishes, moves, shares-one, sound-after, are-own, starts}
 use Rattle.sdd_script_model.proofs.Storing.{BagsStay, bags-still, off-owned, off-standing, off-valued, put-plain, spare-on, stays-as, stays-on, stored-still, spare-as}
-use Rattle.sdd_script_model.specs.Bags.{AreSpare, IsStored, bagged}
 use Rattle.sdd_script_model.proofs.Attending.{keeps-time, keeps-deferred, attended-acts, attended-later, attended-start, attended-registered, attended-ended, attended-closed, attended-opened}
 use Rattle.sdd_script_model.proofs.Attending as attending
 use Rattle.sdd_script_model.proofs.Kept as kept
 use Rattle.sdd_script_model.proofs.Kept.{WereOpen, kept-call, kept-later, kept-start, kept-opened, were-same, were-registered, were-ended, were-closed, unguarded}
 use Rattle.sdd_script_model.proofs.Dates.{first-waits-not, dated-same, dated-stands, early-dated, early-later, early-start, begins-line}
 use Rattle.sdd_script_model.proofs.Dates as dates
-use Rattle.sdd_space.proofs.Whole.{filled-there}
 use Rattle.sdd_script_model.proofs.Counting.{accounts, owner-given, owner-spent, value-spent}
 use Rattle.sdd_script_model.proofs.Layers.{filled-long, layered-less, layered-made}
 use Rattle.sdd_script_model.proofs.Gone as gone

@@ -1,25 +1,13 @@
 -- What an opening does to a script's slots: which are freed, and which names it answers
+use Rattle.sdd_script_model.proofs.Words.{option_map, IsPermutation, IsNonDecreasingBy, IsStrictlyIncreasing, get_or-map, Contains-get_or, sum_by-IsPermutation, IsPermutation-sym, Contains-permutation, get_or-le-sum_by, Shared as standing_shared, Retired, owner_given, one-place, some-waits, times-aged, ItemName, ScriptState, IsThere, slot_at, name_at, names_in, SlotsHaveNames, slots_among}
 use Rattle.std.specs.List.{cons_option, filter_map}
-use Rattle.std.specs.Option.{option_map}
-use Rattle.std.specs.List.Sorted.{IsPermutation, IsNonDecreasingBy, IsStrictlyIncreasing}
 use Rattle.std.proofs.lemmas.List.{get_or-map as get_or-map_in}
-use Rattle.std.proofs.Math.ListN.{get_or-map}
-use Rattle.std.proofs.lemmas.List.Elements.{Contains-get_or}
 use Rattle.std.proofs.lemmas.List.Recursion.{is_sum_by}
-use Rattle.std.proofs.lemmas.List.Sorted.{sum_by-IsPermutation, IsPermutation-sym, Contains-permutation}
-use Rattle.std.proofs.lemmas.List.Sums.{get_or-le-sum_by, sum_by_more, sum_by_more_le}
-use Rattle.sdd_participants.specs.declared.standing.Standing.TheVariants.{Shared as standing_shared, Retired}
-use Rattle.sdd_space.specs.WorldChanges.{owner_given}
-use Rattle.sdd_space.proofs.Entries.{one-place}
+use Rattle.std.proofs.lemmas.List.Sums.{sum_by_more, sum_by_more_le}
 use Rattle.sdd_space.proofs.Standings.{owner-given}
-use Rattle.sdd_space.proofs.Whole.{some-waits, times-aged}
-use Rattle.sdd_script_text.specs.declared.name.ItemName.{ItemName}
 use Rattle.sdd_script_model.proofs.Entry.{at-other}
 use Rattle.sdd_script_model.proofs.StockWords.{◌≡◌, ◌≢◌, ℕ, suc, ◌+◌, ◌-◌, ◌<◌, ◌≤◌, ◌==◌, ◌↔◌, Bool, true, false, List, [], ◌∷◌, Option, Some, None, IsSome, is_some, map, length, count_by, slice_index_or, inl, inr, refl, sym, ap, ◌∙◌, eq-eqb, ne_eqb, arith, nat_tests, All, Contains, cases_eq, length-map, LimboEntry, Item, Job, Standing, is_waiting, reclaims, IsWhole, is_of_slot, once_if, World, place_at, standing_at, value_at, one_where, times_among, count-cons, some-waits, filled-there, Val, zero, subst}
-use Rattle.sdd_script_model.specs.ScriptState.{ScriptState, IsThere, slot_at, name_at}
-use Rattle.sdd_script_model.specs.Shown.{named_in, names_in}
-use Rattle.sdd_script_model.specs.Sound.{SlotsHaveNames}
-use Rattle.sdd_script_model.specs.Held.{slots_among}
+use Rattle.sdd_script_model.specs.Shown.{named_in}
 use Rattle.sdd_script_model.proofs.Stocked.{item-there, slot-inside}
 
 -- ---- how often a list names something

@@ -1,14 +1,7 @@
 -- What one line more makes of what the lines so far say
-use Rattle.std.specs.Prelude.{◌&&◌, ◌||◌, not}
-use Rattle.std.specs.List.{list_all}
-use Rattle.std.specs.Option.{option_map}
-use Rattle.std.proofs.Common.{zero}
-use Rattle.sdd_participants.specs.PlaceStates.{is_ended}
-use Rattle.sdd_participants.specs.EpochState.{NobodyEnded}
-use Rattle.sdd_participants.specs.Slab.{Entries}
-use Rattle.sdd_participants.specs.declared.place_states.PlaceState.{PlaceState}
-use Rattle.sdd_participants.specs.declared.waiting.LimboEntry.TheVariants.{Job}
-use Rattle.sdd_script_model.specs.Due.{Line, Start, adopts, begins, caller, changes, closes, count_shown, ends, has_ended, is_waiting_in, last_found, leaves_none_ended, open_guards, opens, opens_first, start_of}
+use Rattle.sdd_script_model.proofs.Words.{◌&&◌, not, list_all, option_map, zero, is_ended, NobodyEnded, Entries, PlaceState, Job, Line, adopts, caller, changes, count_shown, has_ended, is_waiting_in, last_found, leaves_none_ended, open_guards, opens, opens_first, start_of}
+use Rattle.std.specs.Prelude.{◌||◌}
+use Rattle.sdd_script_model.specs.Due.{Start, begins, closes, ends}
 use Rattle.sdd_script_model.proofs.Awaiting.{AwaitsAt}
 use Rattle.sdd_script_model.proofs.Terms.{◌≡◌, ◌⊎◌, ℕ, suc, ◌+◌, ◌<◌, ◌≤◌, ◌==◌, Bool, true, false, List, [], ◌∷◌, Option, Some, None, IsSome, is_some, length, slice_index_or, inl, inr, refl, sym, ap, ◌∙◌, subst, false≢true, LimboEntry, Item, is_waiting, World, IsPlaceOf, place_at, phase_at, IsWhole, Val, ScriptState, OpenSince, opening_at, inside}
 

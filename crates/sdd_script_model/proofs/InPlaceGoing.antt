@@ -1,24 +1,12 @@
 -- What is always true of a desk is true after an item is changed or dropped in its place, goes raw or comes back
-use Rattle.std.proofs.Common.{◌≡◌, ℕ, ◌-◌, ◌<◌, ◌≤◌, Bool, true, false, if◌then◌else◌, List, [], Some, None, slice_set, inl, inr, refl, sym, ap, ◌∙◌, subst, lt-ltb, arith}
-use Rattle.sdd_participants.specs.declared.standing.Standing.TheVariants.{Owned, Raw, Shared}
-use Rattle.sdd_standings.specs.Slots.{IsSharedBy}
-use Rattle.sdd_space.specs.Ledger.{owner_of}
-use Rattle.sdd_space.specs.WorldChanges.{held_in}
-use Rattle.sdd_space.specs.Ledger.Moves.{puts_out_raw, releases, takes_back_raw, drops}
-use Rattle.sdd_space.specs.OwnerOrCell.{OwnerOrCell}
+use Rattle.sdd_script_model.proofs.Words.{◌≡◌, ℕ, ◌-◌, ◌<◌, ◌≤◌, Bool, true, false, List, [], Some, None, slice_set, inl, inr, refl, sym, ap, ◌∙◌, subst, lt-ltb, arith, Owned, Raw, Shared, IsSharedBy, owner_of, held_in, puts_out_raw, releases, takes_back_raw, drops, OwnerOrCell, IsAlone, MayInPlace, with_standing, with_value, vacated, dropped, dropped_out, owner_given, given_all, IsWhole, World, AnyGuardOpen, IsPlaceOf, standing_at, Reply, Val, holdings_of, body_of, owner_in, ScriptState, holding_at, slot_of, sole_slot, shared_slot, in_world, with_owner, without_owner, Drops, IsSound, named, named_among}
+use Rattle.std.proofs.Common.{if◌then◌else◌}
 use Rattle.sdd_space.specs.OwnerOrCell as holding
-use Rattle.sdd_space.specs.InPlace.{IsAlone, MayInPlace}
 use Rattle.sdd_space.specs.WorldChanges as steps
-use Rattle.sdd_space.specs.WorldChanges.{with_standing, with_value, vacated, dropped, dropped_out, owner_given, given_all}
-use Rattle.sdd_space.specs.WorldInvariant.{IsWhole}
-use Rattle.sdd_space.specs.World.{World, AnyGuardOpen, IsPlaceOf, standing_at}
-use Rattle.sdd_script_text.specs.declared.answer.Reply.{Reply}
 use Rattle.sdd_script_text.specs.declared.answer.Reply.TheVariants as reply
-use Rattle.sdd_script_model.specs.Val.{Val, holdings_of, body_of, owner_in, renumbered}
+use Rattle.sdd_script_model.specs.Val.{renumbered}
 use Rattle.sdd_script_model.specs.declared.val.Body.TheVariants as body
-use Rattle.sdd_script_model.specs.ScriptState.{ScriptState, holding_at, slot_of, sole_slot, shared_slot, in_world, with_owner, without_owner}
-use Rattle.sdd_script_model.specs.InPlace.{Puts, Drops}
-use Rattle.sdd_script_model.specs.Sound.{IsSound, named, named_among}
+use Rattle.sdd_script_model.specs.InPlace.{Puts}
 use Rattle.sdd_script_model.proofs.Dates.{dated-same, dated-stands}
 use Rattle.sdd_script_model.proofs.Links.{same-once}
 use Rattle.sdd_script_model.proofs.Counting.{owner-given, owner-spent, some-holding}

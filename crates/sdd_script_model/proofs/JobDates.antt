@@ -1,24 +1,11 @@
 -- When a job was deferred, after each step of a desk; and that what runs was deferred before any guard was opened that is open
-use Rattle.std.proofs.Common.{◌≡◌, ◌≢◌, ℕ, ◌<◌, ◌≤◌, Some, None, IsSome, length, slice_index, slice_set, inl, inr, refl, sym, ap, ◌∙◌, subst, arith}
-use Rattle.std.specs.Prelude.{Contains, IsTrue}
-use Rattle.std.proofs.lemmas.Bool.{cases_eq, cases_lt}
-use Rattle.std.proofs.lemmas.List.{length-set, length-replicate}
-use Rattle.sdd_core.specs.declared.limits.Limits.{Limits}
-use Rattle.sdd_participants.specs.Slab.{Entries, IsEmptyAt, entry_at, with_entry}
-use Rattle.sdd_participants.specs.EpochState.{is_open}
-use Rattle.sdd_participants.specs.declared.waiting.LimboEntry.TheVariants.{Job}
+use Rattle.sdd_script_model.proofs.Words.{◌≡◌, ◌≢◌, ℕ, ◌<◌, ◌≤◌, Some, None, IsSome, length, slice_set, inl, inr, refl, sym, ap, ◌∙◌, subst, arith, Contains, IsTrue, cases_eq, cases_lt, length-set, length-replicate, Limits, Entries, IsEmptyAt, entry_at, with_entry, is_open, Job, World, IsPlaceOf, place_at, deferred, opened, reclaims, IsWhole, WorldStep, defers, Val, holdings_of, ScriptState, OpenSince, BeginsLine, IsDated, IsStart, job_date_at, later, opening_at, ParticipantsMatch}
+use Rattle.std.proofs.Common.{slice_index}
 use Rattle.sdd_space.specs.UnderGuards.{CallsUnder}
 use Rattle.sdd_space.specs.UnderGuards.CallsUnder.{none, more_calls}
-use Rattle.sdd_space.specs.World.{World, IsPlaceOf, place_at}
-use Rattle.sdd_space.specs.WorldChanges.{deferred, opened, reclaims}
-use Rattle.sdd_space.specs.WorldInvariant.{IsWhole}
-use Rattle.sdd_space.specs.WorldStep.{WorldStep}
-use Rattle.sdd_space.specs.WorldStep.WorldStep.{defers}
 use Rattle.sdd_space.proofs.UnderJobs.{keeps-jobs-under-guards}
-use Rattle.sdd_script_model.specs.Val.{Val, holdings_of}
 use Rattle.sdd_script_model.specs.ScriptState as desk
-use Rattle.sdd_script_model.specs.ScriptState.{ScriptState, OpenSince, BeginsLine, IsDated, IsStart, job_date_at, later, opening_at}
-use Rattle.sdd_script_model.specs.Sound.{JobsHaveDates, KeepsRecentItems, ParticipantsMatch, WasDeferredUnder}
+use Rattle.sdd_script_model.specs.Sound.{JobsHaveDates, KeepsRecentItems, WasDeferredUnder}
 use Rattle.sdd_script_model.proofs.Attending.{entry-before, open-place}
 use Rattle.sdd_script_model.proofs.Dates.{zero-there}
 use Rattle.sdd_script_model.proofs.Deferred.{runs-taken, table-long, taken-before}

@@ -1,17 +1,10 @@
 -- What began to wait under a guard can't go as long as it is open
-use Rattle.std.proofs.lemmas.List.Sums.{get_or-le-sum_by}
+use Rattle.sdd_script_model.proofs.Words.{get_or-le-sum_by, Limits, WorldStep, CannotGo, is_of_slot, one_where, times_among, none-if, safe-call, opens-keeps, out-waits-not, BeginsLine, IsStart}
 use Rattle.sdd_participants.specs.EpochState as time
-use Rattle.sdd_core.specs.declared.limits.Limits.{Limits}
-use Rattle.sdd_space.specs.WorldStep.{WorldStep}
 use Rattle.sdd_space.specs.WorldStep.WorldStep.{opens}
-use Rattle.sdd_space.specs.UnderGuards.{IsSafe, CannotGo}
-use Rattle.sdd_space.specs.WorldInvariant.{is_of_slot}
-use Rattle.sdd_space.proofs.Whole.{one_where, times_among}
-use Rattle.sdd_space.proofs.Nesting.{none-if}
-use Rattle.sdd_space.proofs.Safe.{safe-call, safe-not-due, opens-keeps}
-use Rattle.sdd_space.proofs.Standings.{out-waits-not}
+use Rattle.sdd_space.specs.UnderGuards.{IsSafe}
+use Rattle.sdd_space.proofs.Safe.{safe-not-due}
 use Rattle.sdd_script_model.specs.ScriptState as desk
-use Rattle.sdd_script_model.specs.ScriptState.{BeginsLine, IsStart}
 use Rattle.sdd_script_model.proofs.Attending.{pushed-entry, left-entry, place, opens-one, open-place, vacant-apart, registered-guards, closed-guards, shut, entry-before}
 use Rattle.sdd_script_model.proofs.Dates.{idle-not-due, begins-out, date-before}
 use Rattle.sdd_script_model.proofs.Terms.{◌≡◌, ◌≢◌, ℕ, ◌<◌, ◌≤◌, Bool, true, false, nat_lt, List, Option, Some, None, IsSome, length, inl, inr, refl, sym, ap, ◌∙◌, subst, lt-ltb, ltb-true, arith, Contains, IsTrue, cases_eq, cases_lt, false≢true, nat_tests, LimboEntry, Item, EpochState, IsVacant, is_open, Standing, Owned, Raw, Shared, Retired, privately, is_waiting, World, IsPlaceOf, place_at, standing_at, opened, reclaims, IsWhole, is_out, Val, holdings_of, ScriptState, OpenSince, IsDated, opening_at, date_at, later, ParticipantsMatch, KeepsRecentItems}

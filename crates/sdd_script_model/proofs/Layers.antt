@@ -1,20 +1,5 @@
 -- Which item is older, after each call
-use Rattle.std.proofs.Common.{◌≡◌, ◌≢◌, ◌⊎◌, inl, inr, ℕ, zero, suc, ◌+◌, ◌<◌, ◌≤◌, List, length, Bool, true, false, Option, Some, None, map, is_some, slice_index_or, slice_set, count_by, refl, sym, ap, ◌∙◌, arith}
-use Rattle.std.specs.Prelude.{replicate}
-use Rattle.std.proofs.lemmas.Bool.{cases_eq}
-use Rattle.std.proofs.lemmas.List.{length-map, get_or-set_same, get_or-set_other}
-use Rattle.sdd_participants.specs.Slab.{IsEmptyAt}
-use Rattle.sdd_participants.specs.declared.standing.Standing.{Standing}
-use Rattle.sdd_space.specs.Out.{is_out}
-use Rattle.sdd_space.specs.World.{standing_at, value_at}
-use Rattle.sdd_space.specs.OwnerCounts.{times_held, is_owner_of}
-use Rattle.sdd_space.specs.WorldChanges.{made_as, nulled}
-use Rattle.sdd_space.proofs.Accounts.{outside-out, in_value-out}
-use Rattle.sdd_script_model.specs.Val.{Val, body_of, holdings_of}
-use Rattle.sdd_script_model.specs.ScriptState.{ScriptState, name_at}
-use Rattle.sdd_script_model.specs.Shown.{number_in}
-use Rattle.sdd_script_model.specs.Bags.{IsStored}
-use Rattle.sdd_script_model.specs.Sound.{HoldsOnlyOlder, SlotsHaveNames, named_owners}
+use Rattle.sdd_script_model.proofs.Words.{◌≡◌, ◌≢◌, ◌⊎◌, inl, inr, ℕ, zero, suc, ◌+◌, ◌<◌, ◌≤◌, List, length, Bool, true, false, Option, Some, None, map, is_some, slice_index_or, slice_set, count_by, refl, sym, ap, ◌∙◌, arith, replicate, cases_eq, length-map, get_or-set_same, get_or-set_other, IsEmptyAt, Standing, is_out, standing_at, value_at, times_held, is_owner_of, made_as, nulled, outside-out, in_value-out, Val, body_of, holdings_of, ScriptState, name_at, number_in, IsStored, HoldsOnlyOlder, SlotsHaveNames, named_owners}
 use Rattle.sdd_script_model.proofs.Counting.{AreCounted, times_in, times-held}
 use Rattle.sdd_script_model.proofs.Links.{HoldsLess}
 use Rattle.sdd_script_model.proofs.Stocked.{out-named}

@@ -1,32 +1,15 @@
 -- What the lines so far say of a desk, after a line that closes a guard
-use Rattle.std.specs.Prelude.{◌&&◌, not}
-use Rattle.std.specs.List.{list_all}
-use Rattle.std.proofs.Common.{eq-eqb, ne_eqb}
+use Rattle.sdd_script_model.proofs.Words.{◌&&◌, not, list_all, eq-eqb, ne_eqb, NobodyEnded, with_place, rested, is_ended, having_seen, Entries, PlaceState, keeps-closed, closed, live-is, nothing-waits, guards-closed, one-if, still-live, GuardName, ItemName, JobName, PlaceName, At, Line, adopts, count_shown, has_ended, is_waiting_in, leaves_none_ended, open_guards, start_of, IsParticipant, place_of}
 use Rattle.sdd_participants.specs.EpochState as time
-use Rattle.sdd_participants.specs.EpochState.{NobodyEnded, with_place, rested, passes, last_count}
-use Rattle.sdd_participants.specs.PlaceStates.{is_ended}
-use Rattle.sdd_participants.specs.Waiting.{having_seen}
+use Rattle.sdd_participants.specs.EpochState.{passes, last_count}
 use Rattle.sdd_participants.specs.Bags.{Bags}
-use Rattle.sdd_participants.specs.Slab.{Entries}
-use Rattle.sdd_participants.specs.declared.place_states.PlaceState.{PlaceState}
-use Rattle.sdd_participants.proofs.Adopting.{keeps-closed, none-left}
+use Rattle.sdd_participants.proofs.Adopting.{none-left}
 use Rattle.sdd_space.specs.Adopting.{IsToScan}
-use Rattle.sdd_space.specs.WorldChanges.{closed}
 use Rattle.sdd_space.proofs.Adopted.{adopts-what-is-left}
 use Rattle.sdd_space.proofs.Closes.{how-closed, put-same}
-use Rattle.sdd_space.proofs.Housed.{live-is, nothing-waits}
-use Rattle.sdd_space.proofs.Nesting.{guards-closed, one-if, still-live}
 use Rattle.sdd_space.proofs.Under.{closed-persists}
-use Rattle.sdd_script_text.specs.declared.name.GuardName.{GuardName}
-use Rattle.sdd_script_text.specs.declared.name.ItemName.{ItemName}
-use Rattle.sdd_script_text.specs.declared.name.JobName.{JobName}
-use Rattle.sdd_script_text.specs.declared.name.PlaceName.{PlaceName}
 use Rattle.sdd_script_text.specs.declared.answer.Reply.TheVariants as reply
-use Rattle.sdd_script_text.specs.declared.call.Call.TheVariants.{At}
 use Rattle.sdd_script_text.specs.declared.call.Action.TheVariants as call
-use Rattle.sdd_script_model.specs.Due.{Line, adopts, count_shown, has_ended, is_waiting_in, leaves_none_ended, open_guards, start_of}
-use Rattle.sdd_script_model.specs.Script.{IsParticipant}
-use Rattle.sdd_script_model.specs.ScriptState.{place_of}
 use Rattle.sdd_script_model.proofs.History.{home, home-apart, home-inside, begins-not, not-adopted, quiet-guards, none-ended, seen-as, waits-same, start-adopted, start-kept, HasSeen, HoldsAt, Tells}
 use Rattle.sdd_script_model.proofs.History as history
 use Rattle.sdd_script_model.proofs.Telling.{home-is, line, held-on}

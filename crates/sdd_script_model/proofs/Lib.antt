@@ -1,3 +1,4 @@
+pub mod Words
 pub mod StockWords
 pub mod Terms
 pub mod Entry

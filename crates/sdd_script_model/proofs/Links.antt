@@ -1,29 +1,13 @@
 -- What values hold: what a body does, and a link
-use Rattle.std.proofs.Common.{◌≡◌, inl, inr, ℕ, ◌+◌, ◌≤◌, ◌∷◌, [], ◌++◌, Option, Some, None, is_some, slice_index_or, slice_set, refl, sym, ap, ◌∙◌, arith}
-use Rattle.std.specs.Prelude.{◌==◌}
-use Rattle.std.proofs.lemmas.Bool.{cases_eq}
-use Rattle.std.proofs.lemmas.Bool.Decides.{nat_tests}
-use Rattle.std.proofs.lemmas.List.Sums.{sum_by_push}
+use Rattle.sdd_script_model.proofs.Words.{◌≡◌, inl, inr, ℕ, ◌+◌, ◌≤◌, ◌∷◌, [], ◌++◌, Option, Some, None, is_some, slice_index_or, slice_set, refl, sym, ap, ◌∙◌, arith, ◌==◌, cases_eq, nat_tests, sum_by_push, Entries, entry_at, without_entry, CellContents, Standing, Claim, owner_of, right_to, is_right_to, claims, one, atomic_shared, is_owner_of, World, standing_at, value_at, held_in, owner_given, cell_closed, spilled, given_all, waiting_value, once_if, once-where, one_where, Body, StorageName, Val, holdings_of, body_of, link_of, owner_in, storage_in, Number, Storage}
 use Rattle.sdd_core.specs.declared.tag.Tag.TheVariants.{None as no_tag}
 use Rattle.sdd_rights.specs.Units.{GhostName}
-use Rattle.sdd_participants.specs.Slab.{Entries, entry_at, without_entry}
-use Rattle.sdd_participants.specs.declared.standing.CellContents.{CellContents}
-use Rattle.sdd_participants.specs.declared.standing.Standing.{Standing}
 use Rattle.sdd_space.specs.Owned as owned
 use Rattle.sdd_space.specs.Shared as shared
-use Rattle.sdd_space.specs.Ledger.{Claim, owner_of, right_to, is_right_to, claims, one}
-use Rattle.sdd_space.specs.OwnerOrCell.{atomic_shared}
-use Rattle.sdd_space.specs.OwnerCounts.{is_owner_of}
-use Rattle.sdd_space.specs.World.{World, standing_at, value_at}
-use Rattle.sdd_space.specs.WorldChanges.{held_in, owner_given, cell_closed, spilled, given_all, waiting_value}
-use Rattle.sdd_space.specs.WorldInvariant.{once_if}
-use Rattle.sdd_space.proofs.Rights.{given-same, once-where}
+use Rattle.sdd_space.proofs.Rights.{given-same}
 use Rattle.sdd_space.proofs.Sheds.{Sheds}
-use Rattle.sdd_space.proofs.Whole.{one_where}
-use Rattle.sdd_script_model.specs.declared.val.Body.{Body}
-use Rattle.sdd_bag.specs.Storages.{StorageName}
-use Rattle.sdd_script_model.specs.Val.{Val, holdings_of, link_holding, body_of, link_of, owner_in, storage_in}
-use Rattle.sdd_script_model.specs.declared.val.Body.TheVariants.{Number, Owned, Shared, Storage}
+use Rattle.sdd_script_model.specs.Val.{link_holding}
+use Rattle.sdd_script_model.specs.declared.val.Body.TheVariants.{Owned, Shared}
 use Rattle.sdd_script_model.proofs.Entry.{at-same, at-other, inside, set-either}
 
 -- each value that is there was there, but for a number

@@ -1,30 +1,10 @@
 -- What lets go of a list's first entry, puts one in front, changes a tag, and begins and ends a list, leaves all lists there
-use Rattle.std.proofs.Common.{◌≡◌, ◌≢◌, ◌⊎◌, ◌+◌, ◌≤◌, ◌<◌, inl, inr, length, ℕ, List, [], ◌∷◌, Bool, true, false, Option, Some, None, is_some, slice_index_or, slice_set, refl, sym, ap, ◌∙◌, subst, arith}
-use Rattle.std.specs.Prelude.{◌==◌, if◌then◌else◌}
-use Rattle.std.proofs.lemmas.Bool.{cases_eq}
-use Rattle.sdd_core.specs.declared.tag.Tag.{Tag}
-use Rattle.sdd_core.specs.declared.tag.Tag.TheVariants.{None as no_tag, Second, Both}
-use Rattle.sdd_participants.specs.Slab.{Entries, IsEmptyAt, entry_at}
-use Rattle.sdd_participants.specs.declared.standing.CellContents.{CellContents}
-use Rattle.sdd_space.specs.Ledger.{Claim, right_to, IsLedger}
-use Rattle.sdd_space.specs.Ledger.{inside as inner}
-use Rattle.sdd_space.specs.World.{World, standing_at, value_at}
-use Rattle.sdd_space.specs.WorldChanges.{held_in, nulled, with_cell, with_value, without_cell}
-use Rattle.sdd_lists.specs.Ends.{IsAmong}
-use Rattle.sdd_lists.specs.Lists.{Apart, AreLinked, Entry, IsList, first_slot, let_go_first, linked_in}
-use Rattle.sdd_lists.specs.Marks.{retagged}
-use Rattle.sdd_lists.proofs.Ending.{linked-ends}
-use Rattle.sdd_lists.proofs.Leaving.{list-apart, list-without}
-use Rattle.sdd_lists.proofs.Lists.{bare, behind, list-same}
-use Rattle.sdd_lists.proofs.Marking.{retagged-list}
+use Rattle.sdd_script_model.proofs.Words.{◌≡◌, ◌≢◌, ◌⊎◌, ◌+◌, ◌≤◌, ◌<◌, inl, inr, length, ℕ, List, [], ◌∷◌, Bool, true, false, Option, Some, None, is_some, slice_index_or, slice_set, refl, sym, ap, ◌∙◌, subst, arith, ◌==◌, if◌then◌else◌, cases_eq, Tag, Second, Both, Entries, IsEmptyAt, entry_at, CellContents, Claim, right_to, IsLedger, inside as inner, World, standing_at, value_at, held_in, nulled, with_cell, with_value, without_cell, IsAmong, Apart, AreLinked, Entry, IsList, first_slot, let_go_first, linked_in, retagged, linked-ends, list-apart, list-without, bare, behind, list-same, retagged-list, KeepsGone, gone-same, gone-then, gone-written, let-go-kept, other-free, other-tag, second-kept, IsSecond, AreNumbers, Begins, HasLists, HoldsEntry, IsListed, IsLoose, IsNumber, Val, body_of, holdings_of, link_of, once-waits}
+use Rattle.sdd_core.specs.declared.tag.Tag.TheVariants.{None as no_tag}
 use Rattle.sdd_lists.proofs.Pushing.{pushed}
-use Rattle.sdd_lists.proofs.LetGo.{KeepsGone, gone-first, gone-same, gone-then, gone-written, let-go-kept, other-free, other-tag, second-kept}
-use Rattle.sdd_lists.specs.Queue.{IsSecond}
-use Rattle.sdd_script_model.specs.Listed.{AreNumbers, Begins, HasLists, HoldsEntry, IsListed, IsLoose, IsNumber}
-use Rattle.sdd_script_model.specs.Val.{Val, body_of, holdings_of, link_of}
+use Rattle.sdd_lists.proofs.LetGo.{gone-first}
 use Rattle.sdd_script_model.proofs.Entry.{at-other, at-same, inside, set-either}
 use Rattle.sdd_script_model.proofs.Links.{null}
-use Rattle.sdd_space.proofs.Entries.{once-waits}
 use Rattle.sdd_script_model.proofs.Listed.{AreOwn, StaysGone, StaysLoose, still-among, link-inside, IsAsBefore, among-link, apart-item, apart-own, as-before, has-changed, has-kept, held-by, link-apart, links-apart, loose-as, loose-on, same-list}
 
 -- two cells are written, and nothing else changes in cells and values: what list stays, and what a third cell holds

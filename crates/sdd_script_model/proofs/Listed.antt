@@ -1,25 +1,6 @@
 -- Lists that begin in known cells stay over calls, and change where an entry comes or goes
-use Rattle.std.proofs.Common.{◌≡◌, ◌≢◌, ◌⊎◌, ◌+◌, ◌≤◌, inl, inr, ℕ, List, [], ◌∷◌, Option, Some, None, is_some, slice_index_or, slice_set, refl, sym, ap, ◌∙◌, subst, arith}
-use Rattle.std.proofs.lemmas.Bool.{cases_eq}
-use Rattle.std.proofs.lemmas.List.Sums.{get_or-le-sum_by}
-use Rattle.sdd_core.specs.declared.tag.Tag.{Tag}
-use Rattle.sdd_core.specs.declared.tag.Tag.TheVariants.{Both}
-use Rattle.sdd_participants.specs.Slab.{entry_at}
-use Rattle.sdd_participants.specs.declared.standing.CellContents.{CellContents}
-use Rattle.sdd_space.specs.Ledger.{Claim, owner_of, right_to, inside, times_kept, IsLedger, Keeps, Moves, Sets, Tells}
-use Rattle.sdd_space.specs.World.{World, value_at}
-use Rattle.sdd_space.specs.WorldChanges.{held_in}
-use Rattle.sdd_space.specs.WorldInvariant.{IsWhole}
-use Rattle.sdd_space.proofs.Accounts.{sum-out}
-use Rattle.sdd_space.proofs.Entries.{once-bound}
-use Rattle.sdd_space.proofs.Ledger.{ledger-laws}
-use Rattle.sdd_lists.specs.Ends.{EndsWith, IsAmong}
-use Rattle.sdd_lists.specs.Lists.{Apart, AreLinked, Entry, IsList, first_slot}
-use Rattle.sdd_lists.specs.Queue.{IsLetGo, IsSecond}
-use Rattle.sdd_lists.proofs.Ending.{among-ends, linked-ends}
-use Rattle.sdd_lists.proofs.Fronts.{tag_in}
-use Rattle.sdd_script_model.specs.Listed.{AreNumbers, Begins, HasLists, HoldsEntry, IsListed, IsLoose}
-use Rattle.sdd_script_model.specs.Val.{Val, holdings_of, link_of}
+use Rattle.sdd_script_model.proofs.Words.{◌≡◌, ◌≢◌, ◌⊎◌, ◌+◌, ◌≤◌, inl, inr, ℕ, List, [], ◌∷◌, Option, Some, None, is_some, slice_index_or, slice_set, refl, sym, ap, ◌∙◌, subst, arith, cases_eq, get_or-le-sum_by, Tag, Both, entry_at, CellContents, Claim, owner_of, right_to, inside, times_kept, IsLedger, Keeps, Moves, Sets, Tells, World, value_at, held_in, IsWhole, sum-out, once-bound, ledger-laws, EndsWith, IsAmong, Apart, AreLinked, Entry, IsList, first_slot, IsLetGo, IsSecond, linked-ends, tag_in, AreNumbers, Begins, HasLists, HoldsEntry, IsListed, IsLoose, Val, holdings_of, link_of}
+use Rattle.sdd_lists.proofs.Ending.{among-ends}
 use Rattle.sdd_script_model.proofs.Entry.{at-other}
 use Rattle.sdd_script_model.proofs.Entry.{inside as inside-list}
 use Rattle.sdd_script_model.proofs.Links.{HoldsLess, link-claimed}

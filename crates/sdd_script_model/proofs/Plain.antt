@@ -1,13 +1,6 @@
 -- Lists of entries none of which is marked or deleted
-use Rattle.std.proofs.Common.{◌≡◌, ℕ, List, [], ◌∷◌, ◌++◌, false, refl, ap, ◌∙◌}
-use Rattle.std.specs.Prelude.{if◌then◌else◌}
-use Rattle.sdd_core.specs.declared.tag.Tag.{Tag}
+use Rattle.sdd_script_model.proofs.Words.{◌≡◌, ℕ, List, [], ◌∷◌, ◌++◌, false, refl, ap, ◌∙◌, if◌then◌else◌, Tag, World, appended, end_of, is_spent, through_last, Entry, is_deleting, trimmed, ArePlain, Val, link_of}
 use Rattle.sdd_core.specs.declared.tag.Tag.TheVariants.{None as no_tag}
-use Rattle.sdd_space.specs.World.{World}
-use Rattle.sdd_lists.specs.Ends.{appended, end_of, is_spent, through_last}
-use Rattle.sdd_lists.specs.Lists.{Entry, is_deleting, trimmed}
-use Rattle.sdd_script_model.specs.Copies.{ArePlain}
-use Rattle.sdd_script_model.specs.Val.{Val, link_of}
 
 pub plain-last : (es : List (Entry Val)) (e : Entry Val) → ArePlain es → e.tag ≡ no_tag → ArePlain (es ++ e ∷ [])
 plain-last [] e all last = (last, tt)

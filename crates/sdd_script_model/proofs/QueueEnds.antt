@@ -1,23 +1,8 @@
 -- What is kept where an entry is put at the end of a list, and what is there let go of
-use Rattle.std.proofs.Common.{◌≡◌, ◌≢◌, ◌⊎◌, ◌+◌, inl, inr, ℕ, List, [], ◌∷◌, ◌++◌, Bool, true, false, Option, Some, None, is_some, slice_index_or, refl, sym, ap, ◌∙◌, subst, arith}
-use Rattle.std.specs.Prelude.{if◌then◌else◌}
-use Rattle.sdd_core.specs.declared.tag.Tag.{Tag}
-use Rattle.sdd_core.specs.declared.tag.Tag.TheVariants.{Second}
-use Rattle.sdd_participants.specs.Slab.{Entries, entry_at}
-use Rattle.sdd_participants.specs.declared.standing.CellContents.{CellContents}
-use Rattle.sdd_space.specs.Ledger.{Claim, owner_of, one}
-use Rattle.sdd_space.specs.Ledger.Moves.{changes_cell}
-use Rattle.sdd_space.specs.World.{World, IsPlaceOf, standing_at, value_at}
-use Rattle.sdd_space.specs.WorldChanges.{held_in, with_cell}
-use Rattle.sdd_lists.specs.Ends.{End, IsAmong, appended, end_of, is_spent, put_at, through_last}
-use Rattle.sdd_lists.specs.Lists.{Apart, AreLinked, Entry, IsList, first_slot, let_go_first, trimmed}
-use Rattle.sdd_lists.proofs.Ending.{apart-ends, both, left-none, trimmed-list}
-use Rattle.sdd_lists.proofs.Lists.{apart, bare, behind}
-use Rattle.sdd_lists.proofs.Popping.{apart-first}
-use Rattle.sdd_lists.proofs.Pushing.{trim-other, trim-values}
-use Rattle.sdd_script_model.specs.Listed.{AreNumbers, IsNumber}
-use Rattle.sdd_script_model.specs.ScriptState.{ScriptState}
-use Rattle.sdd_script_model.specs.Val.{Val, body_of, link_of}
+use Rattle.sdd_script_model.proofs.Words.{◌≡◌, ◌≢◌, ◌⊎◌, ◌+◌, inl, inr, ℕ, List, [], ◌∷◌, ◌++◌, Bool, true, false, Option, Some, None, is_some, slice_index_or, refl, sym, ap, ◌∙◌, subst, arith, if◌then◌else◌, Tag, Second, Entries, entry_at, CellContents, Claim, owner_of, one, changes_cell, World, IsPlaceOf, standing_at, value_at, held_in, with_cell, End, IsAmong, appended, end_of, is_spent, through_last, Apart, AreLinked, Entry, IsList, first_slot, let_go_first, trimmed, trimmed-list, bare, behind, apart-first, trim-other, trim-values, AreNumbers, IsNumber, ScriptState, Val, body_of, link_of}
+use Rattle.sdd_lists.specs.Ends.{put_at}
+use Rattle.sdd_lists.proofs.Ending.{apart-ends, both, left-none}
+use Rattle.sdd_lists.proofs.Lists.{apart}
 use Rattle.sdd_script_model.proofs.Entry.{at-other, at-same, inside}
 use Rattle.sdd_script_model.proofs.Links.{null}
 use Rattle.sdd_script_model.proofs.Listed.{among-link}

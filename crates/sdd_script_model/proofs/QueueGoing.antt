@@ -1,29 +1,9 @@
 -- What is always true of a desk is true after each line on a queue, but for a push
-use Rattle.std.proofs.Common.{◌≡◌, ◌≢◌, ◌⊎◌, ◌+◌, ◌<◌, ◌≤◌, inl, inr, ℕ, List, [], ◌∷◌, ◌++◌, Bool, true, false, Option, Some, None, is_some, length, slice_set, refl, sym, ap, ◌∙◌, subst, arith}
-use Rattle.std.specs.Prelude.{if◌then◌else◌}
-use Rattle.std.proofs.lemmas.Bool.{cases_eq}
-use Rattle.std.proofs.lemmas.List.{length-set}
+use Rattle.sdd_script_model.proofs.Words.{◌≡◌, ◌≢◌, ◌⊎◌, ◌+◌, ◌<◌, ◌≤◌, inl, inr, ℕ, List, [], ◌∷◌, ◌++◌, Bool, true, false, Option, Some, None, is_some, length, slice_set, refl, sym, ap, ◌∙◌, subst, arith, if◌then◌else◌, cases_eq, length-set, IsEmptyAt, entry_at, OwnerOrCell, Claim, owner_of, right_to, one, owner_held, IsLedger, changes_cell, makes_cell, spends_cell, World, IsPlaceOf, value_at, nulled, spilled, with_cell, with_standing, without_cell, IsWhole, ledger-laws, Entry, emptied, IsQueue, IsSecond, QueueCells, cell_emptied, cell_left, lets_go_of, queue_closed, list-apart, list-without, spilled-cells, spilled-values, list-same, IsStored, AreNumbers, Begins, HasLists, HoldsEntry, IsNumber, DrainsQueue, IsNamedQueue, TakesOldest, ScriptState, IsListCell, IsSecondCell, holding_at, in_world, shared_cell, with_owner, with_queue, IsSound, contained, named, stacked, Val, body_of, holdings_of, link_of}
 use Rattle.sdd_core.specs.declared.tag.Tag.TheVariants.{None as no_tag}
-use Rattle.sdd_participants.specs.Slab.{IsEmptyAt, entry_at}
 use Rattle.sdd_participants.specs.declared.standing.Standing.TheVariants as standing
-use Rattle.sdd_space.specs.OwnerOrCell.{OwnerOrCell}
 use Rattle.sdd_space.specs.OwnerOrCell as holding
-use Rattle.sdd_space.specs.Ledger.{Claim, owner_of, right_to, one, owner_held, IsLedger}
-use Rattle.sdd_space.specs.Ledger.Moves.{changes_cell, makes_cell, spends_cell}
-use Rattle.sdd_space.specs.World.{World, IsPlaceOf, value_at}
-use Rattle.sdd_space.specs.WorldChanges.{nulled, spilled, with_cell, with_standing, without_cell}
-use Rattle.sdd_space.specs.WorldInvariant.{IsWhole}
-use Rattle.sdd_space.proofs.Ledger.{ledger-laws}
-use Rattle.sdd_lists.specs.Lists.{Entry, emptied}
-use Rattle.sdd_lists.specs.Queue.{IsQueue, IsSecond, QueueCells, cell_emptied, cell_left, lets_go_of, queue_closed}
-use Rattle.sdd_lists.proofs.Leaving.{list-apart, list-without, spilled-cells, spilled-values}
-use Rattle.sdd_lists.proofs.Lists.{list-same}
-use Rattle.sdd_script_model.specs.Bags.{IsStored}
-use Rattle.sdd_script_model.specs.Listed.{AreNumbers, Begins, HasLists, HoldsEntry, IsNumber}
-use Rattle.sdd_script_model.specs.Queues.{DrainsQueue, IsNamedQueue, TakesOldest}
-use Rattle.sdd_script_model.specs.ScriptState.{ScriptState, IsListCell, IsSecondCell, holding_at, in_world, shared_cell, with_owner, with_queue, without_queue}
-use Rattle.sdd_script_model.specs.Sound.{IsSound, contained, named, stacked}
-use Rattle.sdd_script_model.specs.Val.{Val, body_of, holdings_of, link_of}
+use Rattle.sdd_script_model.specs.ScriptState.{without_queue}
 use Rattle.sdd_script_model.proofs.Attending.{left-entry, pushed-entry}
 use Rattle.sdd_script_model.proofs.Chains.{AtHome, IsMidway, LeavesSound, are-own, at_home-given, at_home-spent, finishes, left-apart, list-apart-from, midway-as, moves, own-midway, shares-one, sound-after, stacked-right, stacked-twice, starts}
 use Rattle.sdd_script_model.proofs.Counting.{tells, owner-given, some-holding, stack-given, stack-spent}

@@ -1,11 +1,6 @@
 -- A run, line by line
-use Rattle.std.proofs.Common.{List, [], ◌∷◌, ◌++◌, refl, subst}
+use Rattle.sdd_script_model.proofs.Words.{List, [], ◌∷◌, ◌++◌, refl, subst, Call, Answer, holdings_of, ScriptState, LineStep, Runs}
 use Rattle.sdd_space.specs.ReclaimBound.{GoesInTime}
-use Rattle.sdd_script_text.specs.declared.call.Call.{Call}
-use Rattle.sdd_script_text.specs.declared.answer.Answer.{Answer}
-use Rattle.sdd_script_model.specs.Val.{holdings_of}
-use Rattle.sdd_script_model.specs.ScriptState.{ScriptState}
-use Rattle.sdd_script_model.specs.Script.{LineStep, Runs}
 
 -- one line more
 pub runs-push : (start : ScriptState) (calls : List Call) (answers : List Answer) (mid : ScriptState) (call : Call) (answer : Answer) (new : ScriptState) →

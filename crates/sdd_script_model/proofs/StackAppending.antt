@@ -1,31 +1,7 @@
 -- What is always true of a desk is true after a number is put behind a stack's entries, which the stack alone owns
-use Rattle.std.proofs.Common.{◌≡◌, ◌≢◌, ◌⊎◌, ◌+◌, inl, inr, ℕ, List, [], ◌∷◌, ◌++◌, Option, Some, None, slice_index_or, refl, sym, ap, ◌∙◌, subst, arith}
-use Rattle.std.specs.Prelude.{max}
-use Rattle.std.proofs.lemmas.Bool.{cases_eq}
-use Rattle.std.proofs.lemmas.List.{set-set}
-use Rattle.sdd_core.specs.declared.tag.Tag.{Tag}
+use Rattle.sdd_script_model.proofs.Words.{◌≡◌, ◌≢◌, ◌⊎◌, ◌+◌, inl, inr, ℕ, List, [], ◌∷◌, ◌++◌, Option, Some, None, slice_index_or, refl, sym, ap, ◌∙◌, subst, arith, max, cases_eq, set-set, Tag, Entries, entry_at, Standing, Owned, Shared, Claim, owner_of, one, shares, World, IsPlaceOf, standing_at, value_at, held_in, owner_given, with_standing, IsWhole, ledger-laws, IsAmong, appended, end_of, through_last, Apart, Entry, IsList, among-last, appended-other, put-values, KeepsGone, gone-appended, gone-same, gone-then, let-go-kept, bare, list-same, IsStored, AreNumbers, Begins, HasLists, IsListed, IsLoose, Appends, IsStack, ScriptState, IsListCell, IsSecondCell, IsSound, contained, named, Val, holdings_of, link_of}
 use Rattle.sdd_core.specs.declared.tag.Tag.TheVariants.{None as no_tag}
-use Rattle.sdd_participants.specs.Slab.{Entries, entry_at}
-use Rattle.sdd_participants.specs.declared.standing.Standing.{Standing}
-use Rattle.sdd_participants.specs.declared.standing.Standing.TheVariants.{Owned, Shared}
 use Rattle.sdd_space.specs.OwnerOrCell as holding
-use Rattle.sdd_space.specs.Ledger.{Claim, owner_of, one}
-use Rattle.sdd_space.specs.Ledger.Moves.{shares}
-use Rattle.sdd_space.specs.World.{World, IsPlaceOf, standing_at, value_at}
-use Rattle.sdd_space.specs.WorldChanges.{held_in, owner_given, with_standing}
-use Rattle.sdd_space.specs.WorldInvariant.{IsWhole}
-use Rattle.sdd_space.proofs.Ledger.{ledger-laws}
-use Rattle.sdd_lists.specs.Ends.{IsAmong, appended, end_of, through_last}
-use Rattle.sdd_lists.specs.Lists.{Apart, Entry, IsList}
-use Rattle.sdd_lists.proofs.Ending.{among-last, appended-other, put-values}
-use Rattle.sdd_lists.proofs.LetGo.{KeepsGone, gone-appended, gone-same, gone-then, let-go-kept}
-use Rattle.sdd_lists.proofs.Lists.{bare, list-same}
-use Rattle.sdd_script_model.specs.Bags.{IsStored}
-use Rattle.sdd_script_model.specs.Listed.{AreNumbers, Begins, HasLists, IsListed, IsLoose}
-use Rattle.sdd_script_model.specs.Stacks.{Appends, IsStack}
-use Rattle.sdd_script_model.specs.ScriptState.{ScriptState, IsListCell, IsSecondCell}
-use Rattle.sdd_script_model.specs.Sound.{IsSound, contained, named}
-use Rattle.sdd_script_model.specs.Val.{Val, holdings_of, link_of}
 use Rattle.sdd_script_model.proofs.Chains.{IsMidway, are-own, stacked-right, starts}
 use Rattle.sdd_script_model.proofs.Counting.{owner-given}
 use Rattle.sdd_script_model.proofs.Links.{same-once}

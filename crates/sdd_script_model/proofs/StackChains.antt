@@ -1,28 +1,7 @@
 -- What is kept where a list's entries come and go in the middle of a line
-use Rattle.std.proofs.Common.{◌≡◌, ◌≢◌, ◌+◌, inl, inr, ℕ, List, [], ◌∷◌, Bool, true, false, Option, Some, None, eq-eqb, slice_index_or, refl, sym, ap, ◌∙◌, subst, arith}
-use Rattle.std.specs.Prelude.{◌==◌, if◌then◌else◌}
-use Rattle.std.proofs.lemmas.List.{set_comm}
-use Rattle.sdd_core.specs.declared.tag.Tag.{Tag}
-use Rattle.sdd_core.specs.declared.tag.Tag.TheVariants.{None as no_tag, Second}
-use Rattle.sdd_participants.specs.Slab.{Entries, entry_at}
-use Rattle.sdd_participants.specs.declared.standing.CellContents.{CellContents}
-use Rattle.sdd_participants.specs.declared.standing.Standing.{Standing}
-use Rattle.sdd_space.specs.Ledger.{Claim, owner_of, one, owner_held, IsLedger, Moves}
-use Rattle.sdd_space.specs.Ledger.Moves.{changes_cell, retires, releases}
-use Rattle.sdd_space.specs.World.{World, IsPlaceOf, standing_at, value_at}
-use Rattle.sdd_space.specs.WorldChanges.{held_in, owner_given, spilled, with_cell}
-use Rattle.sdd_space.specs.WorldInvariant.{IsWhole}
-use Rattle.sdd_space.proofs.Ledger.{ledger-laws}
-use Rattle.sdd_lists.specs.Lists.{Entry, IsList, emptied, first_slot, is_deleted, is_deleting, left, let_go_first, linked_in, removed, trimmed}
-use Rattle.sdd_lists.specs.Marks.{retagged}
-use Rattle.sdd_lists.proofs.Lists.{bare, behind}
-use Rattle.sdd_lists.proofs.Marking.{retagged-list}
-use Rattle.sdd_lists.proofs.Popping.{apart-first, stays-of}
-use Rattle.sdd_script_model.specs.Bags.{AreSpare, IsStored}
-use Rattle.sdd_script_model.specs.Listed.{AreNumbers, Begins, HasLists, IsNumber}
-use Rattle.sdd_script_model.specs.ScriptState.{ScriptState, IsListCell, IsSecondCell}
-use Rattle.sdd_script_model.specs.Sound.{contained}
-use Rattle.sdd_script_model.specs.Val.{Val, body_of, holdings_of, link_of}
+use Rattle.sdd_script_model.proofs.Words.{◌≡◌, ◌≢◌, ◌+◌, inl, inr, ℕ, List, [], ◌∷◌, Bool, true, false, Option, Some, None, eq-eqb, slice_index_or, refl, sym, ap, ◌∙◌, subst, arith, ◌==◌, if◌then◌else◌, set_comm, Tag, Second, Entries, entry_at, CellContents, Standing, Claim, owner_of, one, owner_held, IsLedger, Moves, changes_cell, retires, releases, World, IsPlaceOf, standing_at, value_at, held_in, owner_given, spilled, with_cell, IsWhole, ledger-laws, Entry, IsList, emptied, first_slot, is_deleted, is_deleting, left, let_go_first, linked_in, removed, trimmed, retagged, bare, behind, retagged-list, apart-first, AreSpare, IsStored, AreNumbers, Begins, HasLists, IsNumber, ScriptState, IsListCell, IsSecondCell, contained, Val, body_of, holdings_of, link_of}
+use Rattle.sdd_core.specs.declared.tag.Tag.TheVariants.{None as no_tag}
+use Rattle.sdd_lists.proofs.Popping.{stays-of}
 use Rattle.sdd_script_model.proofs.Attending.{keeps-live}
 use Rattle.sdd_script_model.proofs.Chains.{IsMidway, among-apart, link-apart-from, list-apart-from, list-right, own-midway, owned-apart, retags-link}
 use Rattle.sdd_script_model.proofs.Entry.{at-other}

@@ -1,32 +1,13 @@
 -- What is always true of a desk is true after each line on a stack
-use Rattle.std.proofs.Common.{◌≡◌, ◌≢◌, ◌⊎◌, ◌+◌, ◌<◌, ◌≤◌, inl, inr, ℕ, List, [], ◌∷◌, ◌++◌, Option, Some, None, is_some, length, slice_index_or, slice_set, refl, sym, ap, ◌∙◌, subst, arith}
-use Rattle.std.specs.Prelude.{if◌then◌else◌}
-use Rattle.std.proofs.Common.{zero, suc}
-use Rattle.std.proofs.lemmas.Bool.{cases_lt}
+use Rattle.sdd_script_model.proofs.Words.{◌≡◌, ◌≢◌, ◌⊎◌, ◌+◌, ◌<◌, ◌≤◌, inl, inr, ℕ, List, [], ◌∷◌, ◌++◌, Option, Some, None, is_some, length, slice_index_or, slice_set, refl, sym, ap, ◌∙◌, subst, arith, if◌then◌else◌, zero, suc, cases_lt, IsEmptyAt, Standing, is_waiting, OwnerOrCell, Claim, owner_of, right_to, one, IsLedger, makes_cell, spends_cell, World, IsPlaceOf, standing_at, value_at, nulled, with_standing, IsWhole, Entry, emptied, IsStored, AreNumbers, IsNumber, ScriptState, IsDated, IsListCell, IsSecondCell, date_at, holding_at, in_world, shared_cell, with_owner, with_stack, IsSound, SlotsHaveNames, contained, named, IsStack, Takes, stack_closed, Val, body_of, holdings_of, link_of, ledger-laws, list-same}
 use Rattle.sdd_core.specs.declared.tag.Tag.TheVariants.{None as no_tag}
-use Rattle.sdd_participants.specs.Slab.{IsEmptyAt}
-use Rattle.sdd_participants.specs.declared.standing.Standing.{Standing}
 use Rattle.sdd_participants.specs.declared.standing.Standing.TheVariants as standing
-use Rattle.sdd_standings.specs.Slots.{is_waiting}
-use Rattle.sdd_space.specs.OwnerOrCell.{OwnerOrCell}
 use Rattle.sdd_space.specs.OwnerOrCell as holding
-use Rattle.sdd_space.specs.Ledger.{Claim, owner_of, right_to, one, IsLedger}
-use Rattle.sdd_space.specs.Ledger.Moves.{makes_cell, spends_cell}
-use Rattle.sdd_space.specs.World.{World, IsPlaceOf, standing_at, value_at}
-use Rattle.sdd_space.specs.WorldChanges.{nulled, with_standing}
-use Rattle.sdd_space.specs.WorldInvariant.{IsWhole}
-use Rattle.sdd_lists.specs.Lists.{Entry, emptied}
-use Rattle.sdd_script_model.specs.Bags.{IsStored}
-use Rattle.sdd_script_model.specs.Listed.{AreNumbers, IsNumber}
-use Rattle.sdd_script_model.specs.ScriptState.{ScriptState, IsDated, IsListCell, IsSecondCell, date_at, holding_at, in_world, shared_cell, with_owner, with_stack, without_stack}
-use Rattle.sdd_script_model.specs.Sound.{IsSound, SlotsHaveNames, contained, named}
-use Rattle.sdd_script_model.specs.Stacks.{Drains, IsStack, Takes, stack_closed}
-use Rattle.sdd_script_model.specs.Val.{Val, body_of, holdings_of, link_of}
+use Rattle.sdd_script_model.specs.ScriptState.{without_stack}
+use Rattle.sdd_script_model.specs.Stacks.{Drains}
 use Rattle.sdd_script_model.proofs.Attending.{left-entry, pushed-entry}
 use Rattle.sdd_script_model.proofs.Chains.{AtHome, IsMidway, LeavesSound, at_home-given, at_home-spent, finishes, left-apart, list-apart-from, list-right, own-midway, shares-one, sound-after, stacked-right, starts}
 use Rattle.sdd_script_model.proofs.Frames.{Frames, frames-on, quiet-less}
-use Rattle.sdd_space.proofs.Ledger.{ledger-laws}
-use Rattle.sdd_lists.proofs.Lists.{list-same}
 use Rattle.sdd_script_model.proofs.Counting.{tells, owner-given, some-holding, stack-given, stack-spent}
 use Rattle.sdd_script_model.proofs.Dates.{dated-same}
 use Rattle.sdd_script_model.proofs.Entry.{at-other, at-pushed}

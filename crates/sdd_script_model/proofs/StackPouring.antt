@@ -1,30 +1,9 @@
 -- All entries of a stack go to a new one, and what the script's desk is then
-use Rattle.std.proofs.Common.{◌≡◌, ◌≢◌, ◌⊎◌, ◌+◌, inl, inr, ℕ, List, [], Option, Some, None, is_some, length, slice_set, refl, sym, ap, ◌∙◌, subst, arith}
-use Rattle.std.proofs.lemmas.Bool.{cases_eq}
-use Rattle.std.proofs.lemmas.List.{get_or_push, length-set}
-use Rattle.sdd_core.specs.declared.tag.Tag.{Tag}
+use Rattle.sdd_script_model.proofs.Words.{◌≡◌, ◌≢◌, ◌⊎◌, ◌+◌, inl, inr, ℕ, List, [], Option, Some, None, is_some, length, slice_set, refl, sym, ap, ◌∙◌, subst, arith, cases_eq, get_or_push, length-set, Tag, IsEmptyAt, entry_at, CellContents, OwnerOrCell, Claim, IsLedger, one, right_to, changes_cell, makes_cell, World, IsPlaceOf, value_at, held_in, nulled, IsWhole, once_if, IsAmong, Entry, IsList, first_slot, IsSecond, KeepsGone, gone-then, gone-written, other-free, other-tag, second-kept, IsStored, AreNumbers, Begins, HasLists, ScriptState, IsListCell, IsSecondCell, in_world, shared_cell, with_stack, IsSound, contained, named, IsStack, Val, holdings_of, link_of}
 use Rattle.sdd_core.specs.declared.tag.Tag.TheVariants.{None as no_tag}
-use Rattle.sdd_participants.specs.Slab.{IsEmptyAt, entry_at}
-use Rattle.sdd_participants.specs.declared.standing.CellContents.{CellContents}
-use Rattle.sdd_space.specs.OwnerOrCell.{OwnerOrCell}
 use Rattle.sdd_space.specs.OwnerOrCell as holding
-use Rattle.sdd_space.specs.Ledger.{Claim, IsLedger, one, right_to}
-use Rattle.sdd_space.specs.Ledger.Moves.{changes_cell, makes_cell}
-use Rattle.sdd_space.specs.World.{World, IsPlaceOf, value_at}
-use Rattle.sdd_space.specs.WorldChanges.{held_in, nulled}
-use Rattle.sdd_space.specs.WorldInvariant.{IsWhole, once_if}
-use Rattle.sdd_lists.specs.Ends.{IsAmong}
-use Rattle.sdd_lists.specs.Lists.{Entry, IsList, first_slot}
-use Rattle.sdd_lists.specs.Queue.{IsSecond}
 use Rattle.sdd_lists.specs.Stack.{poured}
-use Rattle.sdd_lists.proofs.LetGo.{KeepsGone, gone-then, gone-written, other-free, other-tag, second-kept}
 use Rattle.sdd_lists.proofs.Lists.{linked-set}
-use Rattle.sdd_script_model.specs.Bags.{IsStored}
-use Rattle.sdd_script_model.specs.Listed.{AreNumbers, Begins, HasLists}
-use Rattle.sdd_script_model.specs.ScriptState.{ScriptState, IsListCell, IsSecondCell, in_world, shared_cell, with_stack}
-use Rattle.sdd_script_model.specs.Sound.{IsSound, contained, named}
-use Rattle.sdd_script_model.specs.Stacks.{IsStack}
-use Rattle.sdd_script_model.specs.Val.{Val, holdings_of, link_of}
 use Rattle.sdd_script_model.proofs.Chains.{LeavesSound, at_home-given, list-apart-from, own-midway, sound-after, starts}
 use Rattle.sdd_script_model.proofs.Counting.{stack-given}
 use Rattle.sdd_script_model.proofs.Dates.{dated-same}

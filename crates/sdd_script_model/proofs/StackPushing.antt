@@ -1,36 +1,10 @@
 -- What is always true of a desk is true after a push: an item is made, and then put into a list; here into a stack
-use Rattle.std.proofs.Common.{◌≡◌, ◌≢◌, ◌+◌, inl, inr, ℕ, List, [], ◌∷◌, Bool, true, false, Option, Some, None, is_some, slice_index_or, refl, sym, ap, ◌∙◌, subst, arith}
-use Rattle.std.specs.Prelude.{max, if◌then◌else◌}
-use Rattle.std.proofs.lemmas.Bool.{cases_eq}
-use Rattle.std.proofs.lemmas.List.{length-set, set-set}
-use Rattle.sdd_core.specs.declared.tag.Tag.TheVariants.{None as no_tag, Second}
-use Rattle.sdd_participants.specs.Slab.{Entries, IsEmptyAt, entry_at}
-use Rattle.sdd_participants.specs.declared.standing.Standing.{Standing}
-use Rattle.sdd_participants.specs.declared.standing.Standing.TheVariants.{Owned, Shared}
-use Rattle.sdd_standings.specs.Slots.{IsSharedBy, is_waiting}
-use Rattle.sdd_space.specs.OwnerOrCell.{OwnerOrCell}
+use Rattle.sdd_script_model.proofs.Words.{◌≡◌, ◌≢◌, ◌+◌, inl, inr, ℕ, List, [], ◌∷◌, Bool, true, false, Option, Some, None, is_some, slice_index_or, refl, sym, ap, ◌∙◌, subst, arith, max, if◌then◌else◌, cases_eq, length-set, set-set, Second, Entries, IsEmptyAt, entry_at, Standing, Owned, Shared, IsSharedBy, is_waiting, OwnerOrCell, Claim, owner_of, one, releases, retires, World, IsPlaceOf, standing_at, value_at, held_in, made_as, nulled, owner_given, with_cell, with_standing, IsWhole, ledger-laws, filled-there, IsAmong, CellContents, Apart, AreLinked, Entry, first_slot, is_deleted, left, let_go_first, linked_in, trimmed, list-same, trim-other, trim-values, Number, IsStored, Begins, IsNumber, ScriptState, IsDated, IsListCell, IsSecondCell, in_world, with_item, with_owner, IsSound, named, named_among, IsStack, Pushes, Val, body_of, holdings_of, link_of}
+use Rattle.sdd_core.specs.declared.tag.Tag.TheVariants.{None as no_tag}
 use Rattle.sdd_space.specs.OwnerOrCell as holding
-use Rattle.sdd_space.specs.Ledger.{Claim, owner_of, one}
-use Rattle.sdd_space.specs.Ledger.Moves.{releases, retires}
-use Rattle.sdd_space.specs.World.{World, IsPlaceOf, standing_at, value_at}
-use Rattle.sdd_space.specs.WorldChanges.{held_in, made_as, nulled, owner_given, with_cell, with_standing}
-use Rattle.sdd_space.specs.WorldInvariant.{IsWhole}
-use Rattle.sdd_space.proofs.Ledger.{ledger-laws}
-use Rattle.sdd_space.proofs.Whole.{filled-there}
-use Rattle.sdd_lists.specs.Ends.{IsAmong}
-use Rattle.sdd_participants.specs.declared.standing.CellContents.{CellContents}
-use Rattle.sdd_lists.specs.Lists.{Apart, AreLinked, Entry, first_slot, is_deleted, left, let_go_first, linked_in, trimmed}
-use Rattle.sdd_lists.proofs.Lists.{list-same}
-use Rattle.sdd_lists.proofs.Pushing.{list-made, trim-other, trim-values}
+use Rattle.sdd_lists.proofs.Pushing.{list-made}
 use Rattle.sdd_script_text.specs.declared.call.Value.TheVariants as value
-use Rattle.sdd_script_model.specs.declared.val.Body.TheVariants.{Number}
 use Rattle.sdd_script_model.specs.declared.owner_kind.OwnerKind.TheVariants as ownership
-use Rattle.sdd_script_model.specs.Bags.{IsStored}
-use Rattle.sdd_script_model.specs.Listed.{Begins, IsNumber}
-use Rattle.sdd_script_model.specs.ScriptState.{ScriptState, IsDated, IsListCell, IsSecondCell, in_world, with_item, with_owner}
-use Rattle.sdd_script_model.specs.Sound.{IsSound, named, named_among}
-use Rattle.sdd_script_model.specs.Stacks.{IsStack, Pushes}
-use Rattle.sdd_script_model.specs.Val.{Val, body_of, holdings_of, link_of}
 use Rattle.sdd_script_model.proofs.Attending.{keeps-live}
 use Rattle.sdd_script_model.proofs.Chains.{AtHome, IsMidway, LeavesSound, finishes, midway-as, moves, owned-apart, shares-one, starts}
 use Rattle.sdd_script_model.proofs.Counting.{owner-given}

@@ -1,21 +1,7 @@
 -- What a line on a stack gives a participant: what it lets go of waits there, and nothing else of the time changes
-use Rattle.std.proofs.Common.{◌≡◌, ◌+◌, ◌<◌, ◌++◌, ℕ, List, [], ◌∷◌, Bool, true, false, Option, length, refl, sym, ap, ◌∙◌, subst}
-use Rattle.std.specs.Prelude.{if◌then◌else◌}
-use Rattle.std.proofs.lemmas.List.{get_or-set_same, set-set, set-get_or}
-use Rattle.sdd_core.specs.declared.tag.Tag.{Tag}
-use Rattle.sdd_core.specs.declared.tag.Tag.TheVariants.{None as no_tag, Second}
-use Rattle.sdd_participants.specs.EpochState.{EpochState, nobody, with_place}
+use Rattle.sdd_script_model.proofs.Words.{◌≡◌, ◌+◌, ◌<◌, ◌++◌, ℕ, List, [], ◌∷◌, Bool, true, false, Option, length, refl, sym, ap, ◌∙◌, subst, if◌then◌else◌, get_or-set_same, set-set, set-get_or, Tag, Second, EpochState, nobody, with_place, Participant, Shared, Item, all_awaiting, World, place_at, standing_at, made_as, nulled, with_cell, with_standing, Gives, Gives-owner_given, Gives-range, Entry, emptied, first_slot, is_deleted, let_go_first, removed, trimmed, Pushes, Takes, stack_closed, Val, link_of}
+use Rattle.sdd_core.specs.declared.tag.Tag.TheVariants.{None as no_tag}
 use Rattle.sdd_participants.specs.EpochState as time
-use Rattle.sdd_participants.specs.declared.participant.Participant.{Participant}
-use Rattle.sdd_participants.specs.declared.standing.Standing.TheVariants.{Shared}
-use Rattle.sdd_participants.specs.declared.waiting.LimboEntry.TheVariants.{Item}
-use Rattle.sdd_space.specs.ParticipantChanges.{all_awaiting}
-use Rattle.sdd_space.specs.World.{World, place_at, standing_at}
-use Rattle.sdd_space.specs.WorldChanges.{made_as, nulled, with_cell, with_standing}
-use Rattle.sdd_space.proofs.Own.{Gives, Gives-owner_given, Gives-range}
-use Rattle.sdd_lists.specs.Lists.{Entry, emptied, first_slot, is_deleted, let_go_first, removed, trimmed}
-use Rattle.sdd_script_model.specs.Stacks.{Pushes, Takes, stack_closed}
-use Rattle.sdd_script_model.specs.Val.{Val, link_of}
 
 awaiting-append : (ks js : List ℕ) (x : Participant) → all_awaiting (ks ++ js) x ≡ all_awaiting js (all_awaiting ks x)
 awaiting-append [] js x = refl

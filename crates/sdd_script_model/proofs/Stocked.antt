@@ -1,18 +1,9 @@
 -- Which item is in which slot, after each step of a call
-use Rattle.sdd_participants.specs.EpochState.{EpochState}
-use Rattle.sdd_participants.specs.declared.standing.Standing.TheVariants.{Shared, Retired}
-use Rattle.sdd_space.specs.WorldChanges.{retired, with_standing, owner_given, cell_closed, freed, all_reclaimed, vacated, dropped_out, dropped, opened, ran}
+use Rattle.sdd_script_model.proofs.Words.{EpochState, Shared, Retired, retired, with_standing, owner_given, cell_closed, freed, all_reclaimed, vacated, dropped_out, dropped, opened, ran, false≢true, is_waiting, out-some, out-waits-not, ScriptState, IsThere, slot_at, name_at, IsStored, IsCalled, SlotsHaveNames, length_push}
 use Rattle.std.specs.Prelude.{IfSome}
-use Rattle.std.proofs.lemmas.Bool.{false≢true}
-use Rattle.sdd_standings.specs.Slots.{is_waiting}
-use Rattle.sdd_space.proofs.Standings.{out-some, out-waits-not}
-use Rattle.sdd_script_model.specs.ScriptState.{ScriptState, IsThere, slot_at, name_at}
-use Rattle.sdd_script_model.specs.Bags.{IsStored}
-use Rattle.sdd_script_model.specs.Sound.{IsCalled, SlotsHaveNames}
 use Rattle.sdd_script_model.proofs.Entry.{at-same, at-other, at-pushed, at-end, as-each, inside, not-free, set-either}
 use Rattle.sdd_script_model.proofs.SmallSteps.{keeps-given, keeps-closed, keeps-all_given, keeps-all, keeps-opened}
 use Rattle.sdd_script_model.proofs.StockWords.{◌≡◌, ◌≢◌, ℕ, ◌<◌, false, true, List, [], ◌∷◌, ◌++◌, Option, Some, None, IsSome, is_some, length, slice_index_or, slice_set, inl, inr, refl, sym, ap, ◌∙◌, subst, arith, cases_eq, length-set, IsEmptyAt, with_entry, without_entry, LimboEntry, Standing, is_out, World, standing_at, value_at, Val, holdings_of}
-use Rattle.std.proofs.lemmas.List.{length_push}
 
 -- the same slots are there, none is taken that was free, what waits does so until its slot is free, no item is made, and the home is the same
 pub record KeepsSlots (old new : World Val) : Type 0 where

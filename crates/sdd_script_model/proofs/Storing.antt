@@ -1,39 +1,10 @@
 -- The storages of bags stay where they are, and as they are, over a call that sets no cell of theirs and makes no owner more of one
-use Rattle.std.proofs.Common.{◌≡◌, ◌≢◌, ◌⊎◌, ◌+◌, ◌≤◌, inl, inr, ℕ, List, [], ◌∷◌, Bool, true, false, cond, Option, Some, None, is_some, slice_index_or, slice_set, eq-eqb, refl, sym, ap, ◌∙◌, subst, arith}
-use Rattle.std.specs.Prelude.{◌==◌}
-use Rattle.std.proofs.lemmas.Bool.{cases_eq}
-use Rattle.std.proofs.lemmas.List.Sums.{get_or-le-sum_by}
-use Rattle.sdd_participants.specs.Slab.{entry_at, without_entry}
-use Rattle.sdd_participants.specs.declared.standing.CellContents.{CellContents}
-use Rattle.sdd_participants.specs.declared.standing.Standing.{Standing}
-use Rattle.sdd_participants.specs.declared.standing.Standing.TheVariants.{Owned, Raw, Shared, Retired, Private as privately}
-use Rattle.sdd_participants.specs.declared.waiting.LimboEntry.{LimboEntry}
-use Rattle.sdd_space.specs.Collecting.{collector_closed, waiting_for, without_collector}
-use Rattle.sdd_space.specs.OwnerOrCell.{OwnerOrCell, atomic_shared}
-use Rattle.sdd_space.specs.Ledger.{Claim, owner_of, right_to, claims, inside, one, times_kept, IsLedger, Keeps, Moves, Sets}
-use Rattle.sdd_space.specs.Ledger.Moves.{registers, ends, opens, closes, stirs, accelerates, defers, changes_pointers, makes, shares, retires, releases, collects, drops, puts_out_raw, takes_back_raw, edits, makes_cell, changes_cell, spends_cell, closes_cell, closes_collector}
-use Rattle.sdd_space.specs.Out.{is_out}
-use Rattle.sdd_space.specs.OwnerCounts.{holds_slot, is_of, owner_count, times_held}
-use Rattle.sdd_space.specs.World.{World, standing_at, value_at}
-use Rattle.sdd_space.specs.WorldChanges.{all_reclaimed, cell_closed, dropped, dropped_out, freed, held_in, opened, owner_given, retired, vacated}
-use Rattle.sdd_space.specs.WorldInvariant.{IsWhole, once_if}
-use Rattle.sdd_space.proofs.Accounts.{sum-out}
-use Rattle.sdd_space.proofs.Entries.{once-bound}
-use Rattle.sdd_space.proofs.Ledger.{ledger-laws}
-use Rattle.sdd_lists.specs.Ends.{IsAmong}
-use Rattle.sdd_lists.specs.Lists.{AreLinked, Entry, first_slot}
-use Rattle.sdd_lists.specs.Stack.{cell_in}
-use Rattle.sdd_bag.specs.Overflow.{AreShelves}
+use Rattle.sdd_script_model.proofs.Words.{◌≡◌, ◌≢◌, ◌⊎◌, ◌+◌, ◌≤◌, inl, inr, ℕ, List, [], ◌∷◌, Bool, true, false, cond, Option, Some, None, is_some, slice_index_or, slice_set, eq-eqb, refl, sym, ap, ◌∙◌, subst, arith, ◌==◌, cases_eq, get_or-le-sum_by, entry_at, without_entry, CellContents, Standing, Owned, Raw, Shared, Retired, Private as privately, LimboEntry, collector_closed, waiting_for, without_collector, OwnerOrCell, atomic_shared, Claim, owner_of, right_to, claims, inside, one, times_kept, IsLedger, Keeps, Moves, Sets, stirs, accelerates, changes_pointers, makes, shares, retires, releases, collects, drops, puts_out_raw, takes_back_raw, edits, makes_cell, changes_cell, spends_cell, closes_cell, closes_collector, is_out, holds_slot, is_of, times_held, World, standing_at, value_at, all_reclaimed, cell_closed, dropped, dropped_out, freed, held_in, opened, owner_given, retired, vacated, IsWhole, once_if, sum-out, once-bound, ledger-laws, IsAmong, AreLinked, Entry, first_slot, cell_in, AreShelves, StorageName, AreBags, AreSpare, HasStorages, IsKept, IsSpare, IsStored, StandsOn, bagged, is_stack_cell, IsThere, NumberBag, ScriptState, bag_at, bag_length, name_at, slot_at, slot_of, contained, stacked, Value, Of, IsPutIn, Val, body_of, holdings_of, link_of, owner_in, storage_in, Body}
+use Rattle.sdd_space.specs.Ledger.Moves.{registers, ends, opens, closes, defers}
+use Rattle.sdd_space.specs.OwnerCounts.{owner_count}
 use Rattle.sdd_bag.specs.Storages as storages
-use Rattle.sdd_bag.specs.Storages.{StorageName}
-use Rattle.sdd_script_model.specs.Bags.{AreBags, AreSpare, HasStorages, IsKept, IsLinkIn, IsSpare, IsStored, StandsOn, bagged, is_stack_cell}
-use Rattle.sdd_script_model.specs.ScriptState.{IsThere, NumberBag, ScriptState, bag_at, bag_length, name_at, slot_at, slot_of}
-use Rattle.sdd_script_model.specs.Sound.{contained, stacked}
-use Rattle.sdd_script_text.specs.declared.call.Value.{Value}
-use Rattle.sdd_script_text.specs.declared.call.Value.TheVariants.{Number, Of}
-use Rattle.sdd_script_model.specs.Made.{IsPutIn}
-use Rattle.sdd_script_model.specs.Val.{Val, body_of, holdings_of, link_of, owner_in, storage_in}
-use Rattle.sdd_script_model.specs.declared.val.Body.{Body}
+use Rattle.sdd_script_model.specs.Bags.{IsLinkIn}
+use Rattle.sdd_script_text.specs.declared.call.Value.TheVariants.{Number}
 use Rattle.sdd_script_model.specs.declared.val.Body.TheVariants as body
 use Rattle.sdd_script_model.proofs.Entry.{at-other, at-same, set-either}
 use Rattle.sdd_script_model.proofs.Entry.{inside as inside-list}

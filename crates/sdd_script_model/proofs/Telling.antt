@@ -1,28 +1,11 @@
 -- What the lines so far say of a desk, after one line more
-use Rattle.std.specs.Option.{option_map}
-use Rattle.std.proofs.Common.{eq-eqb, ne_eqb}
-use Rattle.std.proofs.lemmas.List.{get_or_push, length_push, length-set}
+use Rattle.sdd_script_model.proofs.Words.{option_map, eq-eqb, ne_eqb, get_or_push, length_push, length-set, NobodyEnded, with_place, rested, is_ended, having_seen, PlaceState, Ended, registered, ended, live-is, ended-lives, registered-live, registered-lives, registered-apart, ItemName, JobName, PlaceName, Answer, Reply, Call, Register, At, Line, caller, has_ended, is_waiting_in, last_found, open_guards, start_of, IsParticipant, place_in, place_of}
 use Rattle.sdd_participants.specs.EpochState as time
-use Rattle.sdd_participants.specs.EpochState.{NobodyEnded, with_place, rested}
-use Rattle.sdd_participants.specs.PlaceStates.{is_ended}
-use Rattle.sdd_participants.specs.Waiting.{having_seen}
-use Rattle.sdd_participants.specs.declared.place_states.PlaceState.{PlaceState}
-use Rattle.sdd_participants.specs.declared.place_states.PlaceState.TheVariants.{Live, Ended}
-use Rattle.sdd_space.specs.WorldChanges.{registered, ended}
-use Rattle.sdd_space.proofs.Housed.{live-is, live-taken, ended-lives, registered-keeps, registered-live, registered-lives, registered-apart}
-use Rattle.sdd_script_text.specs.declared.name.ItemName.{ItemName}
-use Rattle.sdd_script_text.specs.declared.name.JobName.{JobName}
-use Rattle.sdd_script_text.specs.declared.name.PlaceName.{PlaceName}
-use Rattle.sdd_script_text.specs.declared.answer.Answer.{Answer}
-use Rattle.sdd_script_text.specs.declared.answer.Reply.{Reply}
+use Rattle.sdd_participants.specs.declared.place_states.PlaceState.TheVariants.{Live}
+use Rattle.sdd_space.proofs.Housed.{live-taken, registered-keeps}
 use Rattle.sdd_script_text.specs.declared.answer.Reply.TheVariants as reply
-use Rattle.sdd_script_text.specs.declared.call.Call.{Call}
-use Rattle.sdd_script_text.specs.declared.call.Call.TheVariants.{Register, At}
 use Rattle.sdd_script_text.specs.declared.call.Action.TheVariants as call
-use Rattle.sdd_script_model.specs.Due.{Line, caller, has_ended, is_waiting_in, last_found, open_guards, start_of}
-use Rattle.sdd_script_model.specs.Script.{IsParticipant}
 use Rattle.sdd_script_model.specs.ScriptState as desk
-use Rattle.sdd_script_model.specs.ScriptState.{place_in, place_of}
 use Rattle.sdd_script_model.proofs.Attending.{live-by}
 use Rattle.sdd_script_model.proofs.History.{quiet-shown, home, home-apart, home-inside, begins-not, begins-now, not-adopted, quiet-changes, quiet-ended, quiet-found, quiet-guards, none-ended, seen-as, waits-same, start-adopted, start-begun, start-kept, still-ended, HasSeen, HoldsAt, Tells}
 use Rattle.sdd_script_model.proofs.History as history

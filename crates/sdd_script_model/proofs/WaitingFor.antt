@@ -1,17 +1,10 @@
 -- What waits for a collector: in which slots it is, and what it is called
+use Rattle.sdd_script_model.proofs.Words.{IsPermutation, IsNonDecreasingBy, IsStrictlyIncreasing, false≢true, Contains-get_or, Owned, Raw, Shared, Retired, Private as privately, is_for, waiting_for, listed-without, ItemName, ScriptState, IsThere, slot_at, slots_among, names_in, SlotsHaveNames}
 use Rattle.std.specs.List.{filter, range_with_len}
-use Rattle.std.specs.List.Sorted.{IsPermutation, IsNonDecreasingBy, IsStrictlyIncreasing}
-use Rattle.std.proofs.lemmas.Bool.{false≢true}
-use Rattle.std.proofs.lemmas.List.Elements.{Contains-get_or, filter_passes}
+use Rattle.std.proofs.lemmas.List.Elements.{filter_passes}
 use Rattle.sdd_participants.specs.Collecting.{is_private_to}
-use Rattle.sdd_participants.specs.declared.standing.Standing.TheVariants.{Owned, Raw, Shared, Retired, Private as privately}
-use Rattle.sdd_space.specs.Collecting.{is_for, waiting_for}
-use Rattle.sdd_space.proofs.Listed.{listed-without, none-left, none-taken}
-use Rattle.sdd_script_text.specs.declared.name.ItemName.{ItemName}
-use Rattle.sdd_script_model.specs.ScriptState.{ScriptState, IsThere, slot_at}
-use Rattle.sdd_script_model.specs.Held.{slots_among, slots_waiting_for}
-use Rattle.sdd_script_model.specs.Shown.{names_in}
-use Rattle.sdd_script_model.specs.Sound.{SlotsHaveNames}
+use Rattle.sdd_space.proofs.Listed.{none-left, none-taken}
+use Rattle.sdd_script_model.specs.Held.{slots_waiting_for}
 use Rattle.sdd_script_model.proofs.StockWords.{◌≡◌, ℕ, zero, suc, ◌+◌, ◌<◌, ◌≤◌, ◌==◌, Bool, true, false, if◌then◌else◌, List, ◌∷◌, Option, Some, None, IsSome, map, length, slice_index_or, inl, inr, refl, sym, ap, ◌∙◌, eq-eqb, arith, nat_tests, All, Contains, ◌↔◌, cases_eq, LimboEntry, Item, Job, Standing, is_waiting, IsWhole, is_of_slot, World, standing_at, one_where, times_among, count-cons, some-waits, Val}
 use Rattle.sdd_script_model.proofs.Gone.{among-slots, counted-contains, counted-there, names-found, slots-contain, times_in}
 use Rattle.sdd_script_model.proofs.Stocked.{slot-inside}

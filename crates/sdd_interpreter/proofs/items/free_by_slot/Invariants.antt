@@ -1,6 +1,5 @@
-use Rattle.std.proofs.Common.{◌≡◌, ◌<◌, ◌≤◌, ℕ, false, is_some, length, slice_index_or, vec_capacity}
+use Rattle.sdd_interpreter.proofs.Words.{◌≡◌, ◌<◌, ◌≤◌, ℕ, false, is_some, length, slice_index_or, vec_capacity, standing_at}
 use Rattle.std.specs.Prelude.{not}
-use Rattle.sdd_space.specs.World.{standing_at}
 use Rattle.sdd_interpreter.proofs.items.free_by_slot.Given as goal
 
 abbrev pub invariant-loop-slot : goal.invariant-loop-slot

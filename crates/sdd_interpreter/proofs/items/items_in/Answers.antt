@@ -1,5 +1,4 @@
-use Rattle.std.proofs.lemmas.List.Sorted.{IsNonDecreasingBy-from_sort}
-use Rattle.sdd_script_text.specs.declared.name.ItemName.{ItemName}
+use Rattle.sdd_interpreter.proofs.Words.{IsNonDecreasingBy-from_sort, ItemName}
 use Rattle.sdd_interpreter.proofs.items.items_in.Goals as goal
 
 pub returns-clause-ascending : goal.returns-clause-ascending

@@ -1,5 +1,4 @@
-use Rattle.std.proofs.Common.{◌≡◌, ◌+◌, ◌≤◌, ◌++◌, length, take, vec_capacity}
-use Rattle.sdd_script_model.specs.ScriptState.{names_from}
+use Rattle.sdd_interpreter.proofs.Words.{◌≡◌, ◌+◌, ◌≤◌, ◌++◌, length, take, vec_capacity, names_from}
 use Rattle.sdd_interpreter.proofs.items.name_all.Given as goal
 
 abbrev pub invariant-loop-slot : goal.invariant-loop-slot

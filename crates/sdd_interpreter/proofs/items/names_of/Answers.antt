@@ -1,10 +1,9 @@
-use Rattle.std.proofs.Common.{◌≡◌, ℕ, ◌+◌, ◌<◌, List, [], ◌∷◌, ◌++◌, None, Option, Some, Vec, Global, length, slice_index_or, take, sym, ap, ◌∙◌, append-nil, arith, rules}
+use Rattle.sdd_interpreter.proofs.Words.{◌≡◌, ℕ, ◌+◌, ◌<◌, List, [], ◌∷◌, ◌++◌, None, Option, Some, Global, length, slice_index_or, take, sym, ap, ◌∙◌, arith, rules, option_map, take_more, ItemName, names_in}
+use Rattle.std.proofs.Common.{Vec, append-nil}
 use Rattle.std.specs.List.{cons_option}
-use Rattle.std.specs.Option.{option_map}
-use Rattle.std.proofs.lemmas.List.{length_push, take_more}
+use Rattle.std.proofs.lemmas.List.{length_push}
 use Rattle.std.proofs.lemmas.List.Elements.{filter_map-append}
-use Rattle.sdd_script_text.specs.declared.name.ItemName.{ItemName}
-use Rattle.sdd_script_model.specs.Shown.{named_in, names_in}
+use Rattle.sdd_script_model.specs.Shown.{named_in}
 use Rattle.sdd_interpreter.proofs.items.names_of.Goals.{in-Some, in_default}
 use Rattle.sdd_interpreter.proofs.items.names_of.Goals as goal
 

@@ -1,5 +1,4 @@
-use Rattle.std.proofs.Common.{◌≡◌, ◌<◌, ◌≤◌, ℕ, false, length, slice_index_or, vec_capacity}
-use Rattle.sdd_space.specs.World.{standing_at}
+use Rattle.sdd_interpreter.proofs.Words.{◌≡◌, ◌<◌, ◌≤◌, ℕ, false, length, slice_index_or, vec_capacity, standing_at}
 use Rattle.sdd_standings.specs.Slots.{is_waiting}
 use Rattle.sdd_interpreter.proofs.items.waiting_by_slot.Given as goal
 

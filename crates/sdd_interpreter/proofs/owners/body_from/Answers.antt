@@ -1,5 +1,4 @@
-use Rattle.std.proofs.Common.{Some, sym, ap, ◌∙◌}
-use Rattle.sdd_interpreter.specs.declared.holding.AnyOwner.TheVariants.{Sole, Share}
+use Rattle.sdd_interpreter.proofs.Words.{Some, sym, ap, ◌∙◌, Sole, Share}
 use Rattle.sdd_interpreter.proofs.owners.body_from.Goals as goal
 
 pub returns-in-Sole-clause-becomes : goal.returns-in-Sole-clause-becomes

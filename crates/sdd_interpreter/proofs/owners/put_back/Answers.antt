@@ -1,8 +1,4 @@
-use Rattle.std.proofs.Common.{Some, map, ap, ◌∙◌}
-use Rattle.std.specs.Option.{option_map}
-use Rattle.std.proofs.lemmas.List.{map-set}
-use Rattle.sdd_interpreter.specs.declared.holding.AnyOwner.TheVariants.{Sole, Share}
-use Rattle.sdd_interpreter.specs.Owners.{owner_holding}
+use Rattle.sdd_interpreter.proofs.Words.{Some, map, ap, ◌∙◌, option_map, map-set, Sole, Share, owner_holding}
 use Rattle.sdd_interpreter.proofs.owners.put_back.Goals as goal
 
 pub returns-in-Sole-Some : goal.returns-in-Sole-Some

@@ -1,5 +1,4 @@
-use Rattle.std.proofs.Common.{Some, sym, ap, ◌∙◌}
-use Rattle.sdd_interpreter.specs.declared.holding.AnyOwner.TheVariants.{Sole, Share}
+use Rattle.sdd_interpreter.proofs.Words.{Some, sym, ap, ◌∙◌, Sole, Share}
 use Rattle.sdd_interpreter.proofs.Filled.{fills-named}
 use Rattle.sdd_interpreter.proofs.owners.take_filling.Goals as goal
 

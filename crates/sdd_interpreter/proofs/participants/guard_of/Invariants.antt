@@ -1,5 +1,4 @@
-use Rattle.std.proofs.Common.{◌≡◌, ◌≢◌, ℕ, ◌<◌, Some, None, slice_index_or}
-use Rattle.sdd_interpreter.specs.declared.participants.NamedGuard.{NamedGuard}
+use Rattle.sdd_interpreter.proofs.Words.{◌≡◌, ◌≢◌, ℕ, ◌<◌, Some, None, slice_index_or, NamedGuard}
 use Rattle.sdd_interpreter.proofs.participants.guard_of.Given as goal
 
 abbrev pub invariant-loop-entry : goal.invariant-loop-entry

@@ -1,7 +1,6 @@
-use Rattle.std.proofs.Common.{refl}
+use Rattle.sdd_script.proofs.Words.{refl, still}
 use Rattle.sdd_script_text.specs.declared.call.Call.TheVariants.{Tally}
 use Rattle.sdd_script_text.specs.declared.answer.Reply.TheVariants as reply
-use Rattle.sdd_interpreter.proofs.Acts.{still}
 use Rattle.sdd_script.proofs.line.reply_to.Goals as goal
 
 pub returns-in-Tally : goal.returns-in-Tally

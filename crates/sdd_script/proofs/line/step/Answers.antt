@@ -1,8 +1,6 @@
-use Rattle.std.proofs.Common.{rules}
-use Rattle.sdd_script_model.specs.Script.{Answers}
+use Rattle.sdd_script.proofs.Words.{rules, Answers, desk_of}
 use Rattle.sdd_script_model.specs.ScriptState.{later}
 use Rattle.sdd_script_model.proofs.Going.{sound-later}
-use Rattle.sdd_interpreter.specs.Interpreter.{desk_of}
 use Rattle.sdd_script.proofs.line.step.Goals as goal
 
 pub returns : goal.returns

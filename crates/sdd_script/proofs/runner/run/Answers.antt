@@ -1,8 +1,4 @@
-use Rattle.std.proofs.lemmas.List.{take_more, take_all}
-use Rattle.std.proofs.Common.{length, ap, arith}
-use Rattle.std.proofs.lemmas.List.{length_push}
-use Rattle.sdd_script_text.specs.declared.call.Call.TheVariants.{Register}
-use Rattle.sdd_script_model.specs.Script.{Runs}
+use Rattle.sdd_script.proofs.Words.{take_more, take_all, length, ap, arith, length_push, Register, Runs}
 use Rattle.sdd_script_model.proofs.Due.{run-due}
 use Rattle.sdd_script_model.proofs.Runs.{runs-push}
 use Rattle.sdd_script.proofs.runner.run.Goals as goal

@@ -1,5 +1,4 @@
-use Rattle.std.proofs.Common.{◌≡◌, ◌≤◌, length, take, vec_capacity}
-use Rattle.sdd_script_model.specs.Script.{Runs}
+use Rattle.sdd_script.proofs.Words.{◌≡◌, ◌≤◌, length, take, vec_capacity, Runs}
 use Rattle.sdd_script.proofs.runner.run.Given as goal
 
 -- the calls so far ran

@@ -1,6 +1,4 @@
-use Rattle.std.proofs.Common.{◌≡◌, rules}
-use Rattle.sdd_world.specs.Place.{index_of}
-use Rattle.sdd_script_model.specs.BagLines.{PutsNumber}
+use Rattle.sdd_interpreter.proofs.Words.{◌≡◌, rules, index_of, PutsNumber}
 use Rattle.sdd_interpreter.proofs.Bags.{at-turn, puts-number}
 use Rattle.sdd_interpreter.proofs.turns.bags.add_at.Goals as goal
 

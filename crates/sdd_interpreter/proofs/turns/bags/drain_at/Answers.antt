@@ -1,7 +1,4 @@
-use Rattle.std.proofs.Common.{rules}
-use Rattle.sdd_bag.specs.Bag.{values_of}
-use Rattle.sdd_world.specs.Place.{index_of}
-use Rattle.sdd_script_model.specs.BagLines.{TakesAll}
+use Rattle.sdd_interpreter.proofs.Words.{rules, values_of, index_of, TakesAll}
 use Rattle.sdd_interpreter.proofs.Bags.{all-behind, at-turn, drained-order, drained-room, takes-all}
 use Rattle.sdd_interpreter.proofs.turns.bags.drain_at.Goals as goal
 

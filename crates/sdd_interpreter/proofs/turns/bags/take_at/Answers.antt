@@ -1,7 +1,4 @@
-use Rattle.std.proofs.Common.{◌≡◌, [], MatchOption, rules}
-use Rattle.sdd_bag.specs.Bag.{values_of}
-use Rattle.sdd_world.specs.Place.{index_of}
-use Rattle.sdd_script_model.specs.BagLines.{TakesNumber}
+use Rattle.sdd_interpreter.proofs.Words.{◌≡◌, [], MatchOption, rules, values_of, index_of, TakesNumber}
 use Rattle.sdd_interpreter.proofs.Bags.{at-turn, takes-some}
 use Rattle.sdd_interpreter.proofs.turns.bags.take_at.Goals as goal
 

@@ -1,8 +1,6 @@
-use Rattle.std.proofs.Common.{[], ◌∷◌, sym, ap, ◌∙◌}
+use Rattle.sdd_interpreter.proofs.Words.{[], ◌∷◌, sym, ap, ◌∙◌, World, Val, link_holding, owner_in}
 use Rattle.sdd_lists.specs.Entries.{value_of}
 use Rattle.sdd_space.proofs.Composed.{rest-of}
-use Rattle.sdd_space.specs.World.{World}
-use Rattle.sdd_script_model.specs.Val.{Val, link_holding, owner_in}
 use Rattle.sdd_interpreter.proofs.turns.items.value_shown.Goals as goal
 
 pub returns-clause-home : goal.returns-clause-home

@@ -1,16 +1,8 @@
-use Rattle.std.proofs.Common.{◌≡◌, ◌↔◌, ℕ, Option, None, Some, sym, ap, ◌∙◌, subst, rules}
-use Rattle.std.specs.Prelude.{IsTrue}
+use Rattle.sdd_interpreter.proofs.Words.{◌≡◌, ℕ, Option, None, Some, sym, ap, ◌∙◌, subst, rules, IsTrue, entry_at, CellContents, World, value_at, held_in, IsNumber, Val, body_of, link_of, Body, Number}
+use Rattle.std.proofs.Common.{◌↔◌}
 use Rattle.sdd_core.specs.declared.tag.Tag.{Tag}
 use Rattle.sdd_core.specs.declared.tag.Tag.TheVariants.{None as no_tag}
-use Rattle.sdd_participants.specs.Slab.{entry_at}
-use Rattle.sdd_participants.specs.declared.standing.CellContents.{CellContents}
-use Rattle.sdd_space.specs.World.{World, value_at}
-use Rattle.sdd_space.specs.WorldChanges.{held_in}
 use Rattle.sdd_script_model.specs.Appending.{IsLooseEntry}
-use Rattle.sdd_script_model.specs.Listed.{IsNumber}
-use Rattle.sdd_script_model.specs.Val.{Val, body_of, link_of}
-use Rattle.sdd_script_model.specs.declared.val.Body.{Body}
-use Rattle.sdd_script_model.specs.declared.val.Body.TheVariants.{Number}
 use Rattle.sdd_interpreter.proofs.turns.links.is_loose.Goals as goal
 
 -- a number in no cell, behind which nothing comes, is loose exactly where its link has no tag

@@ -1,10 +1,6 @@
-use Rattle.std.proofs.Common.{◌≡◌, length, arith, rules}
-use Rattle.sdd_script_text.specs.declared.call.Call.TheVariants.{At}
+use Rattle.sdd_script.proofs.Words.{◌≡◌, length, arith, rules, At, desk_of, Does, invalid}
 use Rattle.sdd_script_text.specs.declared.call.Action.TheVariants as call
 use Rattle.sdd_script_text.specs.declared.answer.Reply.TheVariants as reply
-use Rattle.sdd_interpreter.specs.Interpreter.{desk_of}
-use Rattle.sdd_interpreter.proofs.Acts.{Does}
-use Rattle.sdd_interpreter.proofs.Missing.{invalid}
 use Rattle.sdd_script.proofs.BagActs.{acts-closed, no-bag}
 use Rattle.sdd_script.proofs.StackActs.{AreTold}
 use Rattle.sdd_script.proofs.commands.bags.close_bag.Goals as goal

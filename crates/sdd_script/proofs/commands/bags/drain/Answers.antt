@@ -1,11 +1,6 @@
-use Rattle.std.proofs.Common.{◌≡◌, length, arith, rules, List, ℕ, subst, sym}
-use Rattle.sdd_script_text.specs.declared.call.Call.TheVariants.{At}
+use Rattle.sdd_script.proofs.Words.{◌≡◌, length, arith, rules, List, ℕ, subst, sym, At, desk_of, Does, invalid, IsNonDecreasing, IsPermutation}
 use Rattle.sdd_script_text.specs.declared.call.Action.TheVariants as call
 use Rattle.sdd_script_text.specs.declared.answer.Reply.TheVariants as reply
-use Rattle.sdd_interpreter.specs.Interpreter.{desk_of}
-use Rattle.sdd_interpreter.proofs.Acts.{Does}
-use Rattle.sdd_interpreter.proofs.Missing.{invalid}
-use Rattle.std.specs.List.Sorted.{IsNonDecreasing, IsPermutation}
 use Rattle.std.proofs.lemmas.List.Sorted.{IsNonDecreasingBy-from_sort}
 use Rattle.sdd_script.proofs.BagActs.{acts-drained, no-bag, put-so}
 use Rattle.sdd_script.proofs.StackActs.{AreTold}

@@ -1,11 +1,6 @@
-use Rattle.std.proofs.Common.{◌≡◌, Some, length, slice_set, ap, ◌∙◌, arith, rules}
-use Rattle.sdd_script_text.specs.declared.call.Call.TheVariants.{At}
+use Rattle.sdd_script.proofs.Words.{◌≡◌, Some, length, slice_set, ap, ◌∙◌, arith, rules, At, NumberBag, desk_of, Does, invalid}
 use Rattle.sdd_script_text.specs.declared.call.Action.TheVariants as call
 use Rattle.sdd_script_text.specs.declared.answer.Reply.TheVariants as reply
-use Rattle.sdd_script_model.specs.ScriptState.{NumberBag}
-use Rattle.sdd_interpreter.specs.Interpreter.{desk_of}
-use Rattle.sdd_interpreter.proofs.Acts.{Does}
-use Rattle.sdd_interpreter.proofs.Missing.{invalid}
 use Rattle.sdd_script.proofs.BagActs.{acts-dated-as-before, acts-empty, acts-took, no-bag, put-so}
 use Rattle.sdd_script.proofs.StackActs.{AreTold}
 use Rattle.sdd_script.proofs.commands.bags.take.Goals as goal

@@ -1,12 +1,6 @@
-use Rattle.std.proofs.Common.{Some, slice_set, refl, ap, ◌∙◌}
-use Rattle.sdd_bag.specs.Bag.{HasSameCells}
-use Rattle.sdd_script_text.specs.declared.call.Call.TheVariants.{At}
+use Rattle.sdd_script.proofs.Words.{Some, slice_set, refl, ap, ◌∙◌, HasSameCells, At, NumberBag, desk_of, Does, got, invalid, nobody}
 use Rattle.sdd_script_text.specs.declared.call.Action.TheVariants as call
 use Rattle.sdd_script_text.specs.declared.answer.Reply.TheVariants as reply
-use Rattle.sdd_script_model.specs.ScriptState.{NumberBag}
-use Rattle.sdd_interpreter.specs.Interpreter.{desk_of}
-use Rattle.sdd_interpreter.proofs.Acts.{Does, got}
-use Rattle.sdd_interpreter.proofs.Missing.{invalid, nobody}
 use Rattle.sdd_script.proofs.BagActs.{acts-as-before, acts-kept, acts-tried, no-bag, put-so}
 use Rattle.sdd_script.proofs.commands.bags.try_add.Goals as goal
 use Rattle.sdd_script.proofs.commands.bags.try_add.Goals.{in-Ok, in-Err}

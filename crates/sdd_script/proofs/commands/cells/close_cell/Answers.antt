@@ -1,7 +1,4 @@
-use Rattle.std.proofs.Common.{sym, ◌∙◌}
-use Rattle.sdd_interpreter.proofs.Acts.{got}
-use Rattle.sdd_script_model.proofs.Entry.{spent_twice}
-use Rattle.sdd_interpreter.proofs.Missing.{invalid, no-cell, nobody}
+use Rattle.sdd_script.proofs.Words.{sym, ◌∙◌, got, spent_twice, invalid, no-cell, nobody}
 use Rattle.sdd_script.proofs.CellActs.{acts-cell_closed, cell-home, held-within}
 use Rattle.sdd_script.proofs.commands.cells.close_cell.Goals as goal
 

@@ -1,8 +1,4 @@
-use Rattle.std.proofs.Common.{ℕ, List, None, Option, IsSome, slice_index_or, sym, ◌∙◌, ap, subst}
-use Rattle.std.specs.Prelude.{IfSome}
-use Rattle.std.specs.Option.{option_map}
-use Rattle.sdd_script_model.specs.Shown.{item_in}
-use Rattle.sdd_interpreter.proofs.Missing.{invalid, no-cell}
+use Rattle.sdd_script.proofs.Words.{ℕ, List, None, Option, IsSome, slice_index_or, sym, ◌∙◌, ap, subst, IfSome, option_map, item_in, invalid, no-cell}
 use Rattle.sdd_script.proofs.CellActs.{acts-loaded, cell-home, seen-named}
 use Rattle.sdd_script.proofs.commands.cells.load.Goals as goal
 

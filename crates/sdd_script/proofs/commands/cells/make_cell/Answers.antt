@@ -1,8 +1,4 @@
-use Rattle.std.proofs.Common.{length, ap, refl, ◌∙◌}
-use Rattle.std.proofs.lemmas.Bool.{false≢true}
-use Rattle.sdd_interpreter.specs.Interpreter.{desk_of}
-use Rattle.sdd_interpreter.proofs.Acts.{got}
-use Rattle.sdd_interpreter.proofs.Missing.{invalid, nobody}
+use Rattle.sdd_script.proofs.Words.{length, ap, refl, ◌∙◌, false≢true, desk_of, got, invalid, nobody}
 use Rattle.sdd_script.proofs.CellActs.{acts-celled, acts-no_cell, filling-home, valid-celling}
 use Rattle.sdd_script.proofs.commands.cells.make_cell.Goals as goal
 

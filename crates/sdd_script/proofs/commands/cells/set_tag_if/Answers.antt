@@ -1,5 +1,4 @@
-use Rattle.sdd_interpreter.proofs.Acts.{got}
-use Rattle.sdd_interpreter.proofs.Missing.{invalid, no-cell, nobody}
+use Rattle.sdd_script.proofs.Words.{got, invalid, no-cell, nobody}
 use Rattle.sdd_script.proofs.CellActs.{acts-tagged, cell-home}
 use Rattle.sdd_script.proofs.commands.cells.set_tag_if.Goals as goal
 

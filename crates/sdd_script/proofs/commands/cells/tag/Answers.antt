@@ -1,5 +1,4 @@
-use Rattle.sdd_interpreter.proofs.Acts.{got}
-use Rattle.sdd_interpreter.proofs.Missing.{invalid, no-cell, nobody}
+use Rattle.sdd_script.proofs.Words.{got, invalid, no-cell, nobody}
 use Rattle.sdd_script.proofs.CellActs.{acts-tag_told, cell-home}
 use Rattle.sdd_script.proofs.commands.cells.tag.Goals as goal
 

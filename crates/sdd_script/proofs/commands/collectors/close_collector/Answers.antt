@@ -1,16 +1,8 @@
-use Rattle.std.proofs.Common.{◌≡◌, Option, Some, length, sym, ap, ◌∙◌, arith}
+use Rattle.sdd_script.proofs.Words.{◌≡◌, Option, Some, length, sym, ap, ◌∙◌, arith, PrivateCollector, Val, At, desk_of, answers-plain, goes, got, collector-home, still-as, invalid, nobody}
 use Rattle.sdd_space.specs.Collector.{collector_of}
-use Rattle.sdd_space.specs.declared.private_collector.PrivateCollector.{PrivateCollector}
-use Rattle.sdd_script_model.specs.Val.{Val}
 use Rattle.sdd_script_model.proofs.WaitingFor.{found-inside}
 use Rattle.sdd_script_text.specs.declared.call.Action.TheVariants as call
-use Rattle.sdd_script_text.specs.declared.call.Call.TheVariants.{At}
-use Rattle.sdd_interpreter.specs.Interpreter.{desk_of}
-use Rattle.sdd_interpreter.proofs.Acts.{answers-plain, goes, got}
 use Rattle.sdd_script.proofs.CollectorActs.{answers-closed, back-again, close-refused, no-collector, tied-closed}
-use Rattle.sdd_interpreter.proofs.Collectors.{collector-home}
-use Rattle.sdd_interpreter.proofs.Acts.{still-as}
-use Rattle.sdd_interpreter.proofs.Missing.{invalid, nobody}
 use Rattle.sdd_script.proofs.StackActs.{AreTold}
 use Rattle.sdd_script.proofs.commands.collectors.close_collector.Goals as goal
 

@@ -1,11 +1,6 @@
-use Rattle.std.proofs.Common.{sym, ◌∙◌}
-use Rattle.sdd_script_model.proofs.Entry.{spent_twice}
+use Rattle.sdd_script.proofs.Words.{sym, ◌∙◌, spent_twice, desk_of, owner-home, collector-home, invalid, no-owner}
 use Rattle.sdd_script_text.specs.declared.call.Action.TheVariants as call
-use Rattle.sdd_interpreter.specs.Interpreter.{desk_of}
-use Rattle.sdd_interpreter.proofs.Acts.{owner-home}
 use Rattle.sdd_script.proofs.CollectorActs.{acts-collected, no-collector, owner-dated}
-use Rattle.sdd_interpreter.proofs.Collectors.{collector-home}
-use Rattle.sdd_interpreter.proofs.Missing.{invalid, no-owner}
 use Rattle.sdd_script.proofs.commands.collectors.collect.Goals as goal
 
 pub returns-in_default : goal.returns-in_default

@@ -1,8 +1,6 @@
-use Rattle.std.proofs.Common.{length, ap, ◌∙◌}
+use Rattle.sdd_script.proofs.Words.{length, ap, ◌∙◌, got, nobody}
 use Rattle.sdd_script_text.specs.declared.call.Action.TheVariants as call
-use Rattle.sdd_interpreter.proofs.Acts.{got}
 use Rattle.sdd_script.proofs.CollectorActs.{acts-collecting, acts-no_cell}
-use Rattle.sdd_interpreter.proofs.Missing.{nobody}
 use Rattle.sdd_script.proofs.commands.collectors.make_collector.Goals as goal
 
 pub returns-in_default : goal.returns-in_default

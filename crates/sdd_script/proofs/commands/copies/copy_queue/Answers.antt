@@ -1,16 +1,7 @@
-use Rattle.std.proofs.Common.{◌≡◌, ◌+◌, ◌≤◌, length, sym, ap, ◌∙◌, arith, rules, vec_capacity}
-use Rattle.std.proofs.lemmas.List.{length-map}
-use Rattle.sdd_lists.specs.Lists.{Entry}
-use Rattle.sdd_script_text.specs.declared.call.Call.TheVariants.{At}
+use Rattle.sdd_script.proofs.Words.{◌≡◌, ◌+◌, ◌≤◌, length, sym, ap, ◌∙◌, arith, rules, vec_capacity, length-map, Entry, At, entry_slots, Val, desk_of, Does, invalid, no-queue, queue-home}
 use Rattle.sdd_script_text.specs.declared.call.Action.TheVariants as call
 use Rattle.sdd_script_text.specs.declared.name.ListName.TheVariants as list
 use Rattle.sdd_script_text.specs.declared.answer.Reply.TheVariants as reply
-use Rattle.sdd_script_model.specs.Copies.{entry_slots}
-use Rattle.sdd_script_model.specs.Val.{Val}
-use Rattle.sdd_interpreter.specs.Interpreter.{desk_of}
-use Rattle.sdd_interpreter.proofs.Acts.{Does}
-use Rattle.sdd_interpreter.proofs.Missing.{invalid}
-use Rattle.sdd_interpreter.proofs.Queues.{no-queue, queue-home}
 use Rattle.sdd_script.proofs.ContainerActs.{reader-is}
 use Rattle.sdd_script.proofs.CopyActs.{AreFreeSo, acts-queue_copied, acts-queue_refused, numbers-of_queue, queue-filled}
 use Rattle.sdd_script.proofs.QueueActs.{queue-entries}

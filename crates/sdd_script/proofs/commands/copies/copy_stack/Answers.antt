@@ -1,16 +1,7 @@
-use Rattle.std.proofs.Common.{◌≡◌, ◌+◌, ◌≤◌, None, length, sym, ap, ◌∙◌, arith, rules, vec_capacity}
-use Rattle.std.proofs.lemmas.List.{length-map}
-use Rattle.sdd_lists.specs.Lists.{Entry}
-use Rattle.sdd_script_text.specs.declared.call.Call.TheVariants.{At}
+use Rattle.sdd_script.proofs.Words.{◌≡◌, ◌+◌, ◌≤◌, None, length, sym, ap, ◌∙◌, arith, rules, vec_capacity, length-map, Entry, At, entry_slots, Val, desk_of, Does, invalid, no-stack, stack-home}
 use Rattle.sdd_script_text.specs.declared.call.Action.TheVariants as call
 use Rattle.sdd_script_text.specs.declared.name.ListName.TheVariants as list
 use Rattle.sdd_script_text.specs.declared.answer.Reply.TheVariants as reply
-use Rattle.sdd_script_model.specs.Copies.{entry_slots}
-use Rattle.sdd_script_model.specs.Val.{Val}
-use Rattle.sdd_interpreter.specs.Interpreter.{desk_of}
-use Rattle.sdd_interpreter.proofs.Acts.{Does}
-use Rattle.sdd_interpreter.proofs.Missing.{invalid}
-use Rattle.sdd_interpreter.proofs.Stacks.{no-stack, stack-home}
 use Rattle.sdd_script.proofs.ContainerActs.{reader-is}
 use Rattle.sdd_script.proofs.CopyActs.{AreFreeSo, acts-stack_copied, acts-stack_refused, numbers-of_stack, stack-filled}
 use Rattle.sdd_script.proofs.StackActs.{AreTold, stack-entries}

@@ -1,11 +1,5 @@
-use Rattle.std.proofs.Common.{◌≡◌, length, map, ap, ◌∙◌, arith, rules}
-use Rattle.std.specs.Option.{option_map}
-use Rattle.sdd_script_text.specs.declared.call.Call.TheVariants.{At}
+use Rattle.sdd_script.proofs.Words.{◌≡◌, length, map, ap, ◌∙◌, arith, rules, option_map, At, owner_holding, desk_of, Does, does, goes, popping}
 use Rattle.sdd_script_text.specs.declared.answer.Reply.TheVariants as reply
-use Rattle.sdd_interpreter.specs.Owners.{owner_holding}
-use Rattle.sdd_interpreter.specs.Interpreter.{desk_of}
-use Rattle.sdd_interpreter.proofs.Acts.{Does, does, goes}
-use Rattle.sdd_script.specs.ItemLines.{popping}
 use Rattle.sdd_script.proofs.ContainerActs.{entries-of, list-home, no-list}
 use Rattle.sdd_script.proofs.EntryActs.{acts-drained, acts-pop_kept, acts-pop_refused, acts-popped, kept-home, kept-number, pop-invalid, popped-counts, popped-home_slots}
 use Rattle.sdd_script.proofs.StackActs.{AreTold}

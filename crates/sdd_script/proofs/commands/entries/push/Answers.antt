@@ -1,14 +1,6 @@
-use Rattle.std.proofs.Common.{◌≡◌, ℕ, Some, length, map, slice_set, ap, ◌∙◌, arith, rules}
-use Rattle.std.specs.Option.{option_map}
-use Rattle.std.specs.Vec.{with_item}
+use Rattle.sdd_script.proofs.Words.{◌≡◌, ℕ, Some, length, map, slice_set, ap, ◌∙◌, arith, rules, option_map, with_item, At, owner_holding, desk_of, Environment, Does, does, goes, pushing}
 use Rattle.sdd_space.specs.Shared.{slot_of}
-use Rattle.sdd_script_text.specs.declared.call.Call.TheVariants.{At}
 use Rattle.sdd_script_text.specs.declared.answer.Reply.TheVariants as reply
-use Rattle.sdd_interpreter.specs.Owners.{owner_holding}
-use Rattle.sdd_interpreter.specs.Interpreter.{desk_of}
-use Rattle.sdd_interpreter.specs.declared.interpreter.Environment.{Environment}
-use Rattle.sdd_interpreter.proofs.Acts.{Does, does, goes}
-use Rattle.sdd_script.specs.ItemLines.{pushing}
 use Rattle.sdd_script.proofs.ContainerActs.{entries-of, list-home, no-list}
 use Rattle.sdd_script.proofs.EntryActs.{acts-push_kept, acts-push_refused, acts-pushed, push-invalid, slot-free}
 use Rattle.sdd_script.proofs.StackActs.{AreTold}

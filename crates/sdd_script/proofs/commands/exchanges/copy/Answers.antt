@@ -1,11 +1,7 @@
-use Rattle.std.proofs.Common.{length, refl, ap, ◌∙◌}
-use Rattle.sdd_script_text.specs.declared.call.Call.TheVariants.{At}
+use Rattle.sdd_script.proofs.Words.{length, refl, ap, ◌∙◌, At, desk_of, Does, still, still-as}
 use Rattle.sdd_script_text.specs.declared.call.Action.TheVariants as call
 use Rattle.sdd_script_text.specs.declared.answer.Reply.TheVariants as reply
-use Rattle.sdd_interpreter.specs.Interpreter.{desk_of}
-use Rattle.sdd_interpreter.proofs.Acts.{Does, still}
 use Rattle.sdd_script.proofs.ExchangeActs.{none-found, cell-home, not-shared, same-cells, acts-copied, copied-may, copy-refused}
-use Rattle.sdd_interpreter.proofs.Acts.{still-as}
 use Rattle.sdd_script.proofs.commands.exchanges.copy.Goals as goal
 
 pub returns-in_default : goal.returns-in_default

@@ -1,15 +1,7 @@
-use Rattle.std.proofs.Common.{◌≡◌, ℕ, List, None, Option, IsSome, slice_index_or, refl, sym, ◌∙◌, subst}
-use Rattle.std.specs.Prelude.{IfSome}
-use Rattle.std.proofs.lemmas.Bool.{false≢true}
-use Rattle.sdd_script_text.specs.declared.call.Call.TheVariants.{At}
+use Rattle.sdd_script.proofs.Words.{◌≡◌, ℕ, List, None, Option, IsSome, slice_index_or, refl, sym, ◌∙◌, subst, IfSome, false≢true, At, cell_kind, desk_of, Does, goes, invalid, still-as}
 use Rattle.sdd_script_text.specs.declared.call.Action.TheVariants as call
 use Rattle.sdd_script_text.specs.declared.answer.Reply.TheVariants as reply
-use Rattle.sdd_interpreter.specs.Owners.{cell_kind}
-use Rattle.sdd_interpreter.specs.Interpreter.{desk_of}
-use Rattle.sdd_interpreter.proofs.Acts.{Does, goes}
-use Rattle.sdd_interpreter.proofs.Missing.{invalid}
 use Rattle.sdd_script.proofs.ExchangeActs.{cell-home, no-fit, fits-not, put-home, room-kept, can-put-back, same-back, compares, compares-not, slot-compared, compared-stays, seen-as, seen-named, acts-exchanged, differs}
-use Rattle.sdd_interpreter.proofs.Acts.{still-as}
 use Rattle.sdd_script.proofs.commands.exchanges.exchange.Goals as goal
 
 pub returns-in_default : goal.returns-in_default

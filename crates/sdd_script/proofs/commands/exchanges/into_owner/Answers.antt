@@ -1,10 +1,5 @@
-use Rattle.std.proofs.Common.{sym}
-use Rattle.sdd_script_text.specs.declared.call.Call.TheVariants.{At}
+use Rattle.sdd_script.proofs.Words.{sym, At, desk_of, given_back, Does, got, nobody, invalid, no-cell}
 use Rattle.sdd_script_text.specs.declared.call.Action.TheVariants as call
-use Rattle.sdd_interpreter.specs.Interpreter.{desk_of}
-use Rattle.sdd_interpreter.specs.Environment.{given_back}
-use Rattle.sdd_interpreter.proofs.Acts.{Does, got}
-use Rattle.sdd_interpreter.proofs.Missing.{nobody, invalid, no-cell}
 use Rattle.sdd_script.proofs.ExchangeActs.{none-copied, cell-home, acts-taken}
 use Rattle.sdd_script.proofs.commands.exchanges.into_owner.Goals as goal
 

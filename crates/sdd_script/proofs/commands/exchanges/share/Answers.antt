@@ -1,11 +1,7 @@
-use Rattle.std.proofs.Common.{length, refl, sym, ap, ◌∙◌}
-use Rattle.sdd_script_text.specs.declared.call.Call.TheVariants.{At}
+use Rattle.sdd_script.proofs.Words.{length, refl, sym, ap, ◌∙◌, At, desk_of, Does, still, same-owners, still-as}
 use Rattle.sdd_script_text.specs.declared.call.Action.TheVariants as call
 use Rattle.sdd_script_text.specs.declared.answer.Reply.TheVariants as reply
-use Rattle.sdd_interpreter.specs.Interpreter.{desk_of}
-use Rattle.sdd_interpreter.proofs.Acts.{Does, still}
 use Rattle.sdd_script.proofs.ExchangeActs.{cell-home, not-shared, acts-shared_out, none-shared, share-refused}
-use Rattle.sdd_interpreter.proofs.Acts.{same-owners, still-as}
 use Rattle.sdd_script.proofs.commands.exchanges.share.Goals as goal
 
 pub returns-in_default : goal.returns-in_default

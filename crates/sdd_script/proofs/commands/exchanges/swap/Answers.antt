@@ -1,11 +1,6 @@
-use Rattle.std.proofs.Common.{refl, sym}
-use Rattle.std.proofs.lemmas.Bool.{false≢true}
-use Rattle.sdd_script_text.specs.declared.call.Call.TheVariants.{At}
+use Rattle.sdd_script.proofs.Words.{refl, sym, false≢true, At, desk_of, Does, got, nobody, invalid}
 use Rattle.sdd_script_text.specs.declared.call.Action.TheVariants as call
 use Rattle.sdd_script_text.specs.declared.answer.Reply.TheVariants as reply
-use Rattle.sdd_interpreter.specs.Interpreter.{desk_of}
-use Rattle.sdd_interpreter.proofs.Acts.{Does, got}
-use Rattle.sdd_interpreter.proofs.Missing.{nobody, invalid}
 use Rattle.sdd_script.proofs.ExchangeActs.{cell-home, no-fit, fits-not, put-home, room-kept, acts-swapped}
 use Rattle.sdd_script.proofs.commands.exchanges.swap.Goals as goal
 

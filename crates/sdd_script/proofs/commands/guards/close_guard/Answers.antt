@@ -1,6 +1,5 @@
-use Rattle.std.proofs.Common.{refl, sym}
+use Rattle.sdd_script.proofs.Words.{refl, sym, still}
 use Rattle.sdd_script.proofs.GuardActs.{acts-closed}
-use Rattle.sdd_interpreter.proofs.Acts.{still}
 use Rattle.sdd_script.proofs.commands.guards.close_guard.Goals as goal
 
 pub returns-in_default : goal.returns-in_default

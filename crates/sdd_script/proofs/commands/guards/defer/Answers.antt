@@ -1,9 +1,6 @@
-use Rattle.std.specs.Vec.{with_item}
-use Rattle.std.proofs.Common.{refl, arith}
+use Rattle.sdd_script.proofs.Words.{with_item, refl, arith, desk_of, invalid}
 use Rattle.sdd_script_text.specs.declared.call.Action.TheVariants as call
-use Rattle.sdd_interpreter.specs.Interpreter.{desk_of}
 use Rattle.sdd_script.proofs.GuardActs.{acts-deferred, deferral-refused}
-use Rattle.sdd_interpreter.proofs.Missing.{invalid}
 use Rattle.sdd_script.proofs.commands.guards.defer.Goals as goal
 
 pub returns-in_default : goal.returns-in_default

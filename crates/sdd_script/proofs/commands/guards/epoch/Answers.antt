@@ -1,7 +1,6 @@
 use Rattle.sdd_script_text.specs.declared.call.Action.TheVariants as call
-use Rattle.sdd_interpreter.specs.Interpreter.{desk_of}
+use Rattle.sdd_script.proofs.Words.{desk_of, invalid}
 use Rattle.sdd_script.proofs.GuardActs.{epoch-shown}
-use Rattle.sdd_interpreter.proofs.Missing.{invalid}
 use Rattle.sdd_script.proofs.commands.guards.epoch.Goals as goal
 
 pub returns-in_default : goal.returns-in_default

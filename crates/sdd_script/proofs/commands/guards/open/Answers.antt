@@ -1,13 +1,8 @@
-use Rattle.std.proofs.Common.{length, refl, ap, ◌∙◌, arith}
+use Rattle.sdd_script.proofs.Words.{length, refl, ap, ◌∙◌, arith, At, desk_of, slots_among, got, in_range, answers-plain, nobody}
 use Rattle.sdd_script_text.specs.declared.call.Action.TheVariants as call
-use Rattle.sdd_script_text.specs.declared.call.Call.TheVariants.{At}
-use Rattle.sdd_interpreter.specs.Interpreter.{desk_of}
-use Rattle.sdd_script_model.specs.Held.{slots_among}
 use Rattle.sdd_script_model.proofs.Going.{places-inside}
 use Rattle.sdd_script_model.proofs.Gone.{slots-inside}
-use Rattle.sdd_interpreter.proofs.Acts.{got, in_range, answers-plain}
 use Rattle.sdd_script.proofs.GuardActs.{noted-is, opening-refused, answers-opened, tied-opened}
-use Rattle.sdd_interpreter.proofs.Missing.{nobody}
 use Rattle.sdd_script.proofs.StackActs.{AreTold}
 use Rattle.sdd_script.proofs.commands.guards.open.Goals as goal
 

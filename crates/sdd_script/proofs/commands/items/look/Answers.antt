@@ -1,11 +1,5 @@
-use Rattle.std.proofs.Common.{◌≡◌, ap, ◌∙◌, slice_index_or}
-use Rattle.sdd_script_model.specs.Shown.{told_of}
-use Rattle.sdd_script_model.specs.Val.{body_of}
+use Rattle.sdd_script.proofs.Words.{◌≡◌, ap, ◌∙◌, slice_index_or, told_of, body_of, stays-here, invalid, points, points-not, value-named, name-given}
 use Rattle.sdd_script.proofs.ItemActs.{acts-looked}
-use Rattle.sdd_interpreter.proofs.Acts.{stays-here}
-use Rattle.sdd_interpreter.proofs.Missing.{invalid, points, points-not}
-use Rattle.sdd_interpreter.proofs.Inside.{value-named}
-use Rattle.sdd_script_model.proofs.Stocked.{name-given}
 use Rattle.sdd_script.proofs.commands.items.look.Goals as goal
 
 pub returns-in_default : goal.returns-in_default

@@ -1,16 +1,6 @@
-use Rattle.std.proofs.Common.{◌≡◌, ℕ, Some, refl, length, slice_set, sym, ap, ◌∙◌, rules}
-use Rattle.std.specs.Vec.{with_item}
-use Rattle.std.proofs.lemmas.Bool.{false≢true}
-use Rattle.sdd_script_model.specs.ScriptState.{slot_of}
-use Rattle.sdd_script_text.specs.declared.call.Call.TheVariants.{At}
+use Rattle.sdd_script.proofs.Words.{◌≡◌, ℕ, Some, refl, length, slice_set, sym, ap, ◌∙◌, rules, with_item, false≢true, slot_of, At, Environment, Acts, IsThereToPut, desk_of, IsTied, making, got, invalid, nobody}
 use Rattle.sdd_script_text.specs.declared.answer.Reply.TheVariants as reply
-use Rattle.sdd_interpreter.specs.declared.interpreter.Environment.{Environment}
-use Rattle.sdd_script_model.specs.Script.{Acts, IsThereToPut}
-use Rattle.sdd_interpreter.specs.Interpreter.{desk_of, IsTied}
-use Rattle.sdd_script.specs.ItemLines.{making}
-use Rattle.sdd_interpreter.proofs.Acts.{got}
 use Rattle.sdd_script.proofs.ItemActs.{acts-refused, acts-made}
-use Rattle.sdd_interpreter.proofs.Missing.{invalid, nobody}
 use Rattle.sdd_script.proofs.Making.{first-slot, becomes-long, none-to-put, valid-making, there-to-put, body-home}
 use Rattle.sdd_script.proofs.commands.items.make.Goals as goal
 

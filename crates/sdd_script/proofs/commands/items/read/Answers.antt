@@ -1,10 +1,5 @@
-use Rattle.sdd_interpreter.proofs.Acts.{got, owner-home}
+use Rattle.sdd_script.proofs.Words.{got, owner-home, invalid, no-owner, nobody, value-named, ◌≡◌, sym, told_of, body_of}
 use Rattle.sdd_script.proofs.ItemActs.{acts-read}
-use Rattle.sdd_interpreter.proofs.Missing.{invalid, no-owner, nobody}
-use Rattle.sdd_interpreter.proofs.Inside.{value-named}
-use Rattle.std.proofs.Common.{◌≡◌, sym}
-use Rattle.sdd_script_model.specs.Shown.{told_of}
-use Rattle.sdd_script_model.specs.Val.{body_of}
 use Rattle.sdd_script.proofs.commands.items.read.Goals as goal
 
 pub returns-in_default : goal.returns-in_default

@@ -1,7 +1,4 @@
-use Rattle.std.specs.Option.{option_map}
-use Rattle.sdd_interpreter.specs.Environment.{guarding}
-use Rattle.sdd_interpreter.specs.Owners.{owner_holding, cell_holding, collector_holding, oldest_holding, stack_holding}
-use Rattle.sdd_interpreter.specs.Interpreter.{desk_of}
+use Rattle.sdd_script.proofs.Words.{option_map, guarding, owner_holding, cell_holding, collector_holding, oldest_holding, stack_holding, desk_of}
 use Rattle.sdd_script.proofs.Ending.{unguarded, goes-all, none-in}
 use Rattle.sdd_script.proofs.commands.leaving.close.Goals as goal
 

@@ -1,13 +1,4 @@
-use Rattle.std.proofs.Common.{refl, sym, ap, ◌∙◌, subst}
-use Rattle.sdd_bag.specs.Bag.{IsBag}
-use Rattle.sdd_bag.specs.Closing.{ClosesBag}
-use Rattle.sdd_space.specs.World.{World}
-use Rattle.sdd_space.specs.WorldChanges.{opened}
-use Rattle.sdd_world.specs.Place.{index_of}
-use Rattle.sdd_script_model.specs.BagLines.{holds_nothing}
-use Rattle.sdd_script_model.specs.Bags.{StandsOn}
-use Rattle.sdd_script_model.specs.ScriptState.{bag_length}
-use Rattle.sdd_script_model.specs.Val.{Val, holdings_of, storage_in}
+use Rattle.sdd_script.proofs.Words.{refl, sym, ap, ◌∙◌, subst, IsBag, ClosesBag, World, opened, index_of, holds_nothing, StandsOn, bag_length, Val, holdings_of, storage_in}
 use Rattle.sdd_script.proofs.BagEnding.{bag_closed-home, bag_closed-live}
 use Rattle.sdd_script.proofs.StackLeaving.{can-nest, open-home, open-live}
 use Rattle.sdd_script.proofs.commands.leaving.leave_bag.Goals as goal

@@ -1,9 +1,4 @@
-use Rattle.std.proofs.Common.{refl, sym, ap, ◌∙◌, subst}
-use Rattle.sdd_lists.specs.Queue.{IsQueue, cells_in, queue_closed}
-use Rattle.sdd_space.specs.World.{World}
-use Rattle.sdd_space.specs.WorldChanges.{closed, opened}
-use Rattle.sdd_world.specs.Place.{index_of}
-use Rattle.sdd_script_model.specs.Val.{Val, holdings_of, link_of}
+use Rattle.sdd_script.proofs.Words.{refl, sym, ap, ◌∙◌, subst, IsQueue, cells_in, queue_closed, World, closed, opened, index_of, Val, holdings_of, link_of}
 use Rattle.sdd_script.proofs.StackLeaving.{can-nest, open-home, open-live, queue_closed-home, queue_closed-live}
 use Rattle.sdd_script.proofs.commands.leaving.leave_queue.Goals as goal
 

@@ -1,5 +1,4 @@
-use Rattle.std.proofs.Common.{◌≤◌, length, arith}
-use Rattle.sdd_interpreter.specs.Interpreter.{desk_of}
+use Rattle.sdd_script.proofs.Words.{◌≤◌, length, arith, desk_of}
 use Rattle.sdd_script.proofs.Ending.{none-raw}
 use Rattle.sdd_script.proofs.commands.leaving.leave_raw_items.Goals as goal
 

@@ -1,7 +1,4 @@
-use Rattle.std.proofs.Common.{◌≡◌, ◌≢◌, ℕ, ◌<◌, Some}
-use Rattle.sdd_participants.specs.declared.standing.Standing.TheVariants.{Raw}
-use Rattle.sdd_space.specs.World.{standing_at}
-use Rattle.sdd_script_model.specs.ScriptState.{in_world, slot_at}
+use Rattle.sdd_script.proofs.Words.{◌≡◌, ◌≢◌, ℕ, ◌<◌, Some, Raw, standing_at, in_world, slot_at}
 use Rattle.sdd_script.proofs.commands.leaving.leave_raw_items.Given as goal
 
 abbrev pub invariant-loop-item : goal.invariant-loop-item

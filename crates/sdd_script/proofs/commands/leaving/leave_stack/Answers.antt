@@ -1,11 +1,4 @@
-use Rattle.std.proofs.Common.{refl, sym, ap, ◌∙◌, subst}
-use Rattle.sdd_lists.specs.Stack.{cell_in}
-use Rattle.sdd_space.specs.World.{World}
-use Rattle.sdd_space.specs.WorldChanges.{closed, opened}
-use Rattle.sdd_world.specs.Place.{index_of}
-use Rattle.sdd_script_model.specs.Listed.{Begins}
-use Rattle.sdd_script_model.specs.Stacks.{stack_closed}
-use Rattle.sdd_script_model.specs.Val.{Val, holdings_of}
+use Rattle.sdd_script.proofs.Words.{refl, sym, ap, ◌∙◌, subst, cell_in, World, closed, opened, index_of, Begins, stack_closed, Val, holdings_of}
 use Rattle.sdd_script.proofs.StackLeaving.{can-nest, closed-home, closed-live, open-home, open-live}
 use Rattle.sdd_script.proofs.commands.leaving.leave_stack.Goals as goal
 

@@ -1,5 +1,4 @@
-use Rattle.std.proofs.Common.{refl}
-use Rattle.sdd_interpreter.specs.Interpreter.{desk_of}
+use Rattle.sdd_script.proofs.Words.{refl, desk_of}
 use Rattle.sdd_script.proofs.Ending.{unguarded}
 use Rattle.sdd_script.proofs.BagEnding.{bag-home, bag-placed, bag-under, spends-bag, tied-spent_bag}
 use Rattle.sdd_script.proofs.commands.leaving.spend_bag.Goals as goal

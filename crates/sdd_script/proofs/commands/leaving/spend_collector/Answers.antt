@@ -1,5 +1,4 @@
-use Rattle.std.proofs.Common.{refl}
-use Rattle.sdd_interpreter.proofs.Collectors.{collector-home, collectors-spent}
+use Rattle.sdd_script.proofs.Words.{refl, collector-home, collectors-spent}
 use Rattle.sdd_script.proofs.Ending.{spends-collector, tied-spent_collector}
 use Rattle.sdd_script.proofs.commands.leaving.spend_collector.Goals as goal
 

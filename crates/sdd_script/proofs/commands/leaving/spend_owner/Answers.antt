@@ -1,6 +1,5 @@
-use Rattle.std.proofs.Common.{Some, refl, sym}
+use Rattle.sdd_script.proofs.Words.{Some, refl, sym, Sole, Share}
 use Rattle.sdd_participants.specs.declared.standing.Standing.TheVariants.{Owned}
-use Rattle.sdd_interpreter.specs.declared.holding.AnyOwner.TheVariants.{Sole, Share}
 use Rattle.sdd_script.proofs.Ending.{owner-placed, owner-home, owners-spent, tied-spent_owner, spends-owner}
 use Rattle.sdd_script.proofs.commands.leaving.spend_owner.Goals as goal
 

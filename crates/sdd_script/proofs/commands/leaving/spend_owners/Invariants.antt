@@ -1,5 +1,4 @@
-use Rattle.std.proofs.Common.{◌≡◌, length}
-use Rattle.sdd_script_model.proofs.Entry.{IsSpentTo}
+use Rattle.sdd_script.proofs.Words.{◌≡◌, length, IsSpentTo}
 use Rattle.sdd_script.proofs.commands.leaving.spend_owners.Given as goal
 
 abbrev pub invariant-loop-owner : goal.invariant-loop-owner

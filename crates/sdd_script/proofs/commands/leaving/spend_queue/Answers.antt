@@ -1,6 +1,4 @@
-use Rattle.std.proofs.Common.{refl}
-use Rattle.sdd_interpreter.proofs.Queues.{queue-home, queues-spent}
-use Rattle.sdd_interpreter.specs.Interpreter.{desk_of}
+use Rattle.sdd_script.proofs.Words.{refl, queue-home, queues-spent, desk_of}
 use Rattle.sdd_script.proofs.Ending.{unguarded}
 use Rattle.sdd_script.proofs.QueueEnding.{queue-placed, queue-under, spends-queue, tied-spent_queue}
 use Rattle.sdd_script.proofs.commands.leaving.spend_queue.Goals as goal

@@ -1,6 +1,4 @@
-use Rattle.std.proofs.Common.{refl}
-use Rattle.sdd_interpreter.proofs.Stacks.{stack-home, stacks-spent}
-use Rattle.sdd_interpreter.specs.Interpreter.{desk_of}
+use Rattle.sdd_script.proofs.Words.{refl, stack-home, stacks-spent, desk_of}
 use Rattle.sdd_script.proofs.Ending.{unguarded}
 use Rattle.sdd_script.proofs.StackEnding.{begins-under, spends-stack, stack-placed, tied-spent_stack}
 use Rattle.sdd_script.proofs.commands.leaving.spend_stack.Goals as goal

@@ -1,7 +1,4 @@
-use Rattle.std.proofs.Common.{◌≡◌, ◌≢◌, ℕ, Some, length}
-use Rattle.sdd_participants.specs.declared.standing.Standing.TheVariants.{Raw}
-use Rattle.sdd_space.specs.World.{standing_at}
-use Rattle.sdd_script_model.proofs.Entry.{IsSpentTo}
+use Rattle.sdd_script.proofs.Words.{◌≡◌, ◌≢◌, ℕ, Some, length, Raw, standing_at, IsSpentTo}
 use Rattle.sdd_script.proofs.commands.leaving.spend_stacks.Given as goal
 
 abbrev pub invariant-loop-stack : goal.invariant-loop-stack

@@ -1,18 +1,9 @@
-use Rattle.std.proofs.Common.{◌≢◌, inl, is_some, slice_index_or, ap, ◌∙◌}
-use Rattle.sdd_script_text.specs.declared.call.Call.TheVariants.{At}
+use Rattle.sdd_script.proofs.Words.{◌≢◌, inl, is_some, slice_index_or, ap, ◌∙◌, At, IsTrue, IsLooseEntry, slot_at, desk_of, Share, Does, owner-home, stays-here, invalid, no-shared, points, points-not, name-given}
 use Rattle.sdd_script_text.specs.declared.call.Action.TheVariants as call
 use Rattle.sdd_script_text.specs.declared.answer.Reply.TheVariants as reply
-use Rattle.std.specs.Prelude.{IsTrue}
 use Rattle.sdd_space.specs.Shared.{slot_of}
-use Rattle.sdd_script_model.specs.Appending.{IsLooseEntry}
-use Rattle.sdd_script_model.specs.ScriptState.{slot_at}
-use Rattle.sdd_interpreter.specs.Interpreter.{desk_of}
-use Rattle.sdd_interpreter.specs.declared.holding.AnyOwner.TheVariants.{Share}
-use Rattle.sdd_interpreter.proofs.Acts.{Does, owner-home, stays-here}
-use Rattle.sdd_interpreter.proofs.Missing.{invalid, no-shared, points, points-not}
 use Rattle.sdd_script.proofs.ContainerActs.{reader-is}
 use Rattle.sdd_script.proofs.LinkActs.{acts-appended, acts-deleted, its-out, loose-taken, may-come, may-not}
-use Rattle.sdd_script_model.proofs.Stocked.{name-given}
 use Rattle.sdd_script.proofs.commands.links.append.Goals as goal
 
 pub returns-in_default : goal.returns-in_default

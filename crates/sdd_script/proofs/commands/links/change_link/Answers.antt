@@ -1,12 +1,6 @@
-use Rattle.std.proofs.Common.{slice_index_or, ap, ◌∙◌}
-use Rattle.sdd_script_text.specs.declared.call.Call.TheVariants.{At}
+use Rattle.sdd_script.proofs.Words.{slice_index_or, ap, ◌∙◌, At, desk_of, Does, stays-here, invalid, points, points-not, changing, name-given}
 use Rattle.sdd_script_text.specs.declared.answer.Reply.TheVariants as reply
-use Rattle.sdd_interpreter.specs.Interpreter.{desk_of}
-use Rattle.sdd_interpreter.proofs.Acts.{Does, stays-here}
-use Rattle.sdd_interpreter.proofs.Missing.{invalid, points, points-not}
-use Rattle.sdd_script.specs.ItemLines.{changing}
 use Rattle.sdd_script.proofs.LinkActs.{acts-changed, valid-changing}
-use Rattle.sdd_script_model.proofs.Stocked.{name-given}
 use Rattle.sdd_script.proofs.commands.links.change_link.Goals as goal
 
 pub returns-in_default : goal.returns-in_default

@@ -1,8 +1,5 @@
-use Rattle.std.proofs.Common.{slice_index_or, ap, ◌∙◌}
-use Rattle.sdd_interpreter.proofs.Acts.{stays-here}
-use Rattle.sdd_interpreter.proofs.Missing.{invalid, points, points-not}
+use Rattle.sdd_script.proofs.Words.{slice_index_or, ap, ◌∙◌, stays-here, invalid, points, points-not, name-given}
 use Rattle.sdd_script.proofs.LinkActs.{acts-link_told}
-use Rattle.sdd_script_model.proofs.Stocked.{name-given}
 use Rattle.sdd_script.proofs.commands.links.link_tag.Goals as goal
 
 pub returns-in_default : goal.returns-in_default

@@ -1,15 +1,10 @@
-use Rattle.std.proofs.Common.{length, slice_index_or, ap, ◌∙◌, arith}
+use Rattle.sdd_script.proofs.Words.{length, slice_index_or, ap, ◌∙◌, arith, At, desk_of, Does, stays-here, invalid, points, points-not, name-given}
 use Rattle.sdd_core.specs.declared.tag.Tag.TheVariants.{None as no_tag}
-use Rattle.sdd_script_text.specs.declared.call.Call.TheVariants.{At}
 use Rattle.sdd_script_text.specs.declared.call.Action.TheVariants as call
 use Rattle.sdd_script_text.specs.declared.answer.Reply.TheVariants as reply
-use Rattle.sdd_interpreter.specs.Interpreter.{desk_of}
-use Rattle.sdd_interpreter.proofs.Acts.{Does, stays-here}
-use Rattle.sdd_interpreter.proofs.Missing.{invalid, points, points-not}
 use Rattle.sdd_script.proofs.ContainerActs.{reader-is}
 use Rattle.sdd_script.proofs.LinkActs.{acts-next, behind, next-named}
 use Rattle.sdd_script.proofs.StackActs.{AreTold}
-use Rattle.sdd_script_model.proofs.Stocked.{name-given}
 use Rattle.sdd_script.proofs.commands.links.next.Goals as goal
 
 pub returns-in_default : goal.returns-in_default

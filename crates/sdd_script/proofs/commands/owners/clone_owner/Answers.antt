@@ -1,7 +1,5 @@
-use Rattle.std.proofs.Common.{length, sym, ap, ◌∙◌}
-use Rattle.sdd_interpreter.proofs.Acts.{got, owner-home}
+use Rattle.sdd_script.proofs.Words.{length, sym, ap, ◌∙◌, got, owner-home, invalid, no-shared, nobody}
 use Rattle.sdd_script.proofs.OwnerActs.{acts-cloned}
-use Rattle.sdd_interpreter.proofs.Missing.{invalid, no-shared, nobody}
 use Rattle.sdd_script.proofs.Unshared.{full-cloned}
 use Rattle.sdd_script.proofs.commands.owners.clone_owner.Goals as goal
 

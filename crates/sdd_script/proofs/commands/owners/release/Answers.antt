@@ -1,8 +1,5 @@
-use Rattle.std.proofs.Common.{slice_set, refl, ap}
-use Rattle.std.specs.Vec.{with_item}
-use Rattle.sdd_interpreter.proofs.Acts.{got, owner-home}
+use Rattle.sdd_script.proofs.Words.{slice_set, refl, ap, with_item, got, owner-home, invalid, no-shared, nobody}
 use Rattle.sdd_script.proofs.OwnerActs.{acts-released}
-use Rattle.sdd_interpreter.proofs.Missing.{invalid, no-shared, nobody}
 use Rattle.sdd_script.proofs.commands.owners.release.Goals.{then-was_last, else-was_last}
 use Rattle.sdd_script.proofs.commands.owners.release.Goals as goal
 

@@ -1,8 +1,5 @@
-use Rattle.std.proofs.Common.{slice_set, ap}
-use Rattle.std.specs.Vec.{with_item}
-use Rattle.sdd_interpreter.proofs.Acts.{got, owner-home}
+use Rattle.sdd_script.proofs.Words.{slice_set, ap, with_item, got, owner-home, invalid, no-sole, nobody}
 use Rattle.sdd_script.proofs.OwnerActs.{acts-retired}
-use Rattle.sdd_interpreter.proofs.Missing.{invalid, no-sole, nobody}
 use Rattle.sdd_script.proofs.commands.owners.retire.Goals as goal
 
 pub returns-in_default : goal.returns-in_default

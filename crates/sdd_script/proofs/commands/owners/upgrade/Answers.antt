@@ -1,11 +1,7 @@
-use Rattle.std.proofs.Common.{slice_index_or, length, ap, ◌∙◌}
+use Rattle.sdd_script.proofs.Words.{slice_index_or, length, ap, ◌∙◌, At, desk_of, Does, stays-here, invalid, points, points-not}
 use Rattle.sdd_script_text.specs.declared.call.Action.TheVariants as call
-use Rattle.sdd_script_text.specs.declared.call.Call.TheVariants.{At}
 use Rattle.sdd_script_text.specs.declared.answer.Reply.TheVariants as reply
-use Rattle.sdd_interpreter.specs.Interpreter.{desk_of}
 use Rattle.sdd_script.proofs.OwnerActs.{acts-upgraded}
-use Rattle.sdd_interpreter.proofs.Acts.{Does, stays-here}
-use Rattle.sdd_interpreter.proofs.Missing.{invalid, points, points-not}
 use Rattle.sdd_script.proofs.Unshared.{alone-upgraded, full-upgraded}
 use Rattle.sdd_script.proofs.commands.owners.upgrade.Goals as goal
 

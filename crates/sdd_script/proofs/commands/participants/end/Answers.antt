@@ -1,8 +1,6 @@
 use Rattle.sdd_script_text.specs.declared.call.Action.TheVariants as call
-use Rattle.std.proofs.Common.{sym, ◌∙◌}
-use Rattle.sdd_interpreter.proofs.Acts.{got}
+use Rattle.sdd_script.proofs.Words.{sym, ◌∙◌, got, nobody}
 use Rattle.sdd_script.proofs.GuardActs.{acts-ended, end-refused}
-use Rattle.sdd_interpreter.proofs.Missing.{nobody}
 use Rattle.sdd_script.proofs.commands.participants.end.Goals as goal
 
 pub invariant_of-stage-2 : goal.invariant_of-stage-2

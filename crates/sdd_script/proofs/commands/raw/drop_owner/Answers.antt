@@ -1,10 +1,5 @@
-use Rattle.std.proofs.Common.{◌≡◌, sym, ◌∙◌, arith}
+use Rattle.sdd_script.proofs.Words.{◌≡◌, sym, ◌∙◌, arith, At, spent_twice, desk_of, Does, got, goes, owner-home, still-as, invalid, nobody, no-owner}
 use Rattle.sdd_script_text.specs.declared.call.Action.TheVariants as call
-use Rattle.sdd_script_text.specs.declared.call.Call.TheVariants.{At}
-use Rattle.sdd_script_model.proofs.Entry.{spent_twice}
-use Rattle.sdd_interpreter.specs.Interpreter.{desk_of}
-use Rattle.sdd_interpreter.proofs.Acts.{Does, got, goes, owner-home, still-as}
-use Rattle.sdd_interpreter.proofs.Missing.{invalid, nobody, no-owner}
 use Rattle.sdd_script.proofs.RawActs.{acts-dropped, drop-refused, put-back, same-desk}
 use Rattle.sdd_script.proofs.StackActs.{AreTold}
 use Rattle.sdd_script.proofs.commands.raw.drop_owner.Goals as goal

@@ -1,12 +1,6 @@
-use Rattle.std.proofs.lemmas.Bool.{false≢true}
-use Rattle.sdd_interpreter.proofs.Acts.{still-as}
-use Rattle.std.proofs.Common.{◌≡◌, refl, sym}
+use Rattle.sdd_script.proofs.Words.{false≢true, still-as, ◌≡◌, refl, sym, At, desk_of, Does, got, goes, owner-home, invalid, nobody, no-owner}
 use Rattle.sdd_script_text.specs.declared.call.Action.TheVariants as call
-use Rattle.sdd_script_text.specs.declared.call.Call.TheVariants.{At}
 use Rattle.sdd_script_text.specs.declared.answer.Reply.TheVariants as reply
-use Rattle.sdd_interpreter.specs.Interpreter.{desk_of}
-use Rattle.sdd_interpreter.proofs.Acts.{Does, got, goes, owner-home}
-use Rattle.sdd_interpreter.proofs.Missing.{invalid, nobody, no-owner}
 use Rattle.sdd_script.proofs.RawActs.{acts-put, put-back, put-invalid, put-refused, owned-is, one-held, same-desk, same-value}
 use Rattle.sdd_script.proofs.commands.raw.put.Goals as goal
 

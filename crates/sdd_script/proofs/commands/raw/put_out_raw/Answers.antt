@@ -1,20 +1,11 @@
+use Rattle.sdd_script.proofs.Words.{standing_at, Environment, ◌≡◌, ℕ, None, Some, IsSome, slice_index_or, sym, ap, ◌∙◌, is_out, item_in, At, desk_of, IsTied, Does, got, owner-home, invalid, nobody, no-sole, named}
 use Rattle.sdd_participants.specs.declared.standing.Standing.TheVariants.{Owned, Shared}
-use Rattle.sdd_space.specs.World.{standing_at}
-use Rattle.sdd_interpreter.specs.declared.interpreter.Environment.{Environment}
-use Rattle.std.proofs.Common.{◌≡◌, ℕ, None, Some, IsSome, slice_index_or, sym, ap, ◌∙◌}
-use Rattle.sdd_space.specs.Out.{is_out}
-use Rattle.sdd_script_model.specs.Shown.{item_in}
 use Rattle.sdd_script_model.proofs.Stocked.{name-some}
 use Rattle.sdd_script_text.specs.declared.call.Action.TheVariants as call
-use Rattle.sdd_script_text.specs.declared.call.Call.TheVariants.{At}
 use Rattle.sdd_script_text.specs.declared.answer.Reply.TheVariants as reply
-use Rattle.sdd_interpreter.specs.Interpreter.{desk_of, IsTied}
-use Rattle.sdd_interpreter.proofs.Acts.{Does, got, owner-home}
-use Rattle.sdd_interpreter.proofs.Missing.{invalid, nobody, no-sole}
 use Rattle.sdd_script.proofs.RawActs.{acts-raw}
 use Rattle.sdd_script.proofs.commands.raw.put_out_raw.Goals as goal
 use Rattle.sdd_script_model.proofs.Storing.{off-standing}
-use Rattle.sdd_script_model.specs.Sound.{named}
 
 pub returns-in_default : goal.returns-in_default
 returns-in_default c = record { acts = rw (← c.stage.view_is) (nobody c.stage.inside.hand c.args.name _ c.in_default.ensures (λ valid. valid.0)) }

@@ -1,12 +1,6 @@
-use Rattle.std.proofs.Common.{◌≡◌, ap, ◌∙◌, slice_index_or}
+use Rattle.sdd_script.proofs.Words.{◌≡◌, ap, ◌∙◌, slice_index_or, told_of, body_of, desk_of, value-named, invalid, name-given}
 use Rattle.sdd_script_text.specs.declared.call.Action.TheVariants as call
-use Rattle.sdd_script_model.specs.Shown.{told_of}
-use Rattle.sdd_script_model.specs.Val.{body_of}
-use Rattle.sdd_interpreter.specs.Interpreter.{desk_of}
-use Rattle.sdd_interpreter.proofs.Inside.{value-named}
-use Rattle.sdd_interpreter.proofs.Missing.{invalid}
 use Rattle.sdd_script.proofs.RawActs.{acts-seen, acts-unseen, there-from, there-not}
-use Rattle.sdd_script_model.proofs.Stocked.{name-given}
 use Rattle.sdd_script.proofs.commands.raw.see.Goals as goal
 
 pub returns-in_default : goal.returns-in_default

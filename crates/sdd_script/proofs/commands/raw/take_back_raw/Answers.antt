@@ -1,13 +1,7 @@
-use Rattle.std.proofs.Common.{length, slice_index_or, ap, ◌∙◌}
+use Rattle.sdd_script.proofs.Words.{length, slice_index_or, ap, ◌∙◌, At, desk_of, Does, got, invalid, nobody, same-owners, still-as, name-given}
 use Rattle.sdd_script_text.specs.declared.call.Action.TheVariants as call
-use Rattle.sdd_script_text.specs.declared.call.Call.TheVariants.{At}
 use Rattle.sdd_script_text.specs.declared.answer.Reply.TheVariants as reply
-use Rattle.sdd_interpreter.specs.Interpreter.{desk_of}
-use Rattle.sdd_interpreter.proofs.Acts.{Does, got}
-use Rattle.sdd_interpreter.proofs.Missing.{invalid, nobody}
-use Rattle.sdd_interpreter.proofs.Acts.{same-owners, still-as}
 use Rattle.sdd_script.proofs.RawActs.{acts-back, none-back, there-from, there-not}
-use Rattle.sdd_script_model.proofs.Stocked.{name-given}
 use Rattle.sdd_script.proofs.commands.raw.take_back_raw.Goals as goal
 
 pub returns-in_default : goal.returns-in_default

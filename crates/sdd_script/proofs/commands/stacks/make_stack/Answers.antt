@@ -1,7 +1,5 @@
-use Rattle.std.proofs.Common.{length, ap, ◌∙◌}
+use Rattle.sdd_script.proofs.Words.{length, ap, ◌∙◌, got, nobody}
 use Rattle.sdd_script_text.specs.declared.call.Action.TheVariants as call
-use Rattle.sdd_interpreter.proofs.Acts.{got}
-use Rattle.sdd_interpreter.proofs.Missing.{nobody}
 use Rattle.sdd_script.proofs.StackActs.{acts-begun, acts-no_cell}
 use Rattle.sdd_script.proofs.commands.stacks.make_stack.Goals as goal
 

@@ -1,12 +1,6 @@
-use Rattle.std.proofs.Common.{length, ap, ◌∙◌}
-use Rattle.sdd_core.specs.declared.refused.Refused.TheVariants.{NoCell}
-use Rattle.sdd_script_text.specs.declared.call.Call.TheVariants.{At}
+use Rattle.sdd_script.proofs.Words.{length, ap, ◌∙◌, NoCell, At, desk_of, Does, does, goes, invalid, no-stack, stack-home}
 use Rattle.sdd_script_text.specs.declared.call.Action.TheVariants as call
 use Rattle.sdd_script_text.specs.declared.answer.Reply.TheVariants as reply
-use Rattle.sdd_interpreter.specs.Interpreter.{desk_of}
-use Rattle.sdd_interpreter.proofs.Acts.{Does, does, goes}
-use Rattle.sdd_interpreter.proofs.Missing.{invalid}
-use Rattle.sdd_interpreter.proofs.Stacks.{no-stack, stack-home}
 use Rattle.sdd_script.proofs.StackActs.{acts-pour_refused, acts-poured, stack-entries}
 use Rattle.sdd_script.proofs.commands.stacks.pour.Goals as goal
 

@@ -1,7 +1,4 @@
-use Rattle.std.proofs.Common.{◌≡◌, ◌≤◌, ◌++◌, length, map}
-use Rattle.std.specs.List.{AllByRecursion}
-use Rattle.sdd_script_text.specs.Script.{most_calls, lines}
-use Rattle.sdd_script.specs.ScheduleLine.{line_of, HasNumbers}
+use Rattle.sdd_script.proofs.Words.{◌≡◌, ◌≤◌, ◌++◌, length, map, AllByRecursion, most_calls, lines, line_of, HasNumbers}
 use Rattle.sdd_script.proofs.schedules.schedule.parse_all.Given as goal
 
 -- the steps so far, and the lines that are left, are the lines of the text

@@ -1,6 +1,4 @@
-use Rattle.std.proofs.Common.{◌≡◌, ◌≤◌, [], length, take, vec_capacity}
-use Rattle.sdd_machine.specs.Sizes.{size_for}
-use Rattle.sdd_machine.specs.History.{state, history}
+use Rattle.sdd_script.proofs.Words.{◌≡◌, ◌≤◌, [], length, take, vec_capacity, size_for, state, history}
 use Rattle.sdd_script.proofs.ScheduleTaken.{answers_behind}
 use Rattle.sdd_script.proofs.schedules.taking.take_all.Given as goal
 

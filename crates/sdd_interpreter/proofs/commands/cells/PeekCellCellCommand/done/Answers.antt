@@ -1,6 +1,4 @@
-use Rattle.std.proofs.Common.{rules, ◌≡◌}
-use Rattle.sdd_space.specs.WorldChanges.{held_in}
-use Rattle.sdd_participants.specs.Slab.{entry_at}
+use Rattle.sdd_interpreter.proofs.Words.{rules, ◌≡◌, held_in, entry_at}
 use Rattle.sdd_interpreter.specs.Owners.{cell_number}
 use Rattle.sdd_interpreter.proofs.Peeked.{as-before}
 use Rattle.sdd_interpreter.proofs.commands.cells.PeekCellCellCommand.done.Goals as goal

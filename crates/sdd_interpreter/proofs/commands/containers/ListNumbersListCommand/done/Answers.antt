@@ -1,8 +1,5 @@
-use Rattle.std.proofs.Common.{ℕ, List, ◌++◌, sym, ap, subst, ◌∙◌}
-use Rattle.std.specs.Prelude.{drop, map}
-use Rattle.sdd_space.specs.CallerId.{CallerId, IsExact}
-use Rattle.sdd_lists.specs.Walk.{IsWalkOf, shown_of}
-use Rattle.sdd_script_model.specs.declared.val.Body.TheVariants.{Number}
+use Rattle.sdd_interpreter.proofs.Words.{ℕ, List, ◌++◌, sym, ap, subst, ◌∙◌, drop, CallerId, IsExact, IsWalkOf, shown_of, Number}
+use Rattle.std.specs.Prelude.{map}
 use Rattle.sdd_interpreter.proofs.Shown.{next-number, shown-all, shown-more}
 use Rattle.sdd_interpreter.proofs.commands.containers.ListNumbersListCommand.done.Goals as goal
 

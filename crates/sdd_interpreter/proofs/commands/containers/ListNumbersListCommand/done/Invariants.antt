@@ -1,11 +1,6 @@
-use Rattle.std.proofs.Common.{◌≡◌, ◌++◌, ℕ, List, Option}
+use Rattle.sdd_interpreter.proofs.Words.{◌≡◌, ◌++◌, ℕ, List, Option, Entry, IsWalkOf, shown_of, Val, Body, Number, HasEntries}
 use Rattle.std.specs.Prelude.{map}
-use Rattle.sdd_lists.specs.Lists.{Entry}
-use Rattle.sdd_lists.specs.Walk.{IsWalkOf, ShowsInOrder, shown_of, steps_left}
-use Rattle.sdd_script_model.specs.Val.{Val}
-use Rattle.sdd_script_model.specs.declared.val.Body.{Body}
-use Rattle.sdd_script_model.specs.declared.val.Body.TheVariants.{Number}
-use Rattle.sdd_interpreter.specs.Containers.{HasEntries}
+use Rattle.sdd_lists.specs.Walk.{ShowsInOrder, steps_left}
 use Rattle.sdd_interpreter.proofs.commands.containers.ListNumbersListCommand.done.Given as goal
 
 -- the numbers so far are those that were shown, and the walk shows the others

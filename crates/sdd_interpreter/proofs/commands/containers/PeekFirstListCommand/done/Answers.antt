@@ -1,7 +1,4 @@
-use Rattle.std.proofs.Common.{ℕ, Option, sym, subst, ◌∙◌}
-use Rattle.sdd_space.specs.CallerId.{CallerId, IsExact}
-use Rattle.sdd_script_model.specs.Containers.{HasNumber}
-use Rattle.sdd_script_model.specs.Val.{Val}
+use Rattle.sdd_interpreter.proofs.Words.{ℕ, Option, sym, subst, ◌∙◌, CallerId, IsExact, HasNumber, Val}
 use Rattle.sdd_interpreter.proofs.Shown.{first-number, points-left}
 use Rattle.sdd_interpreter.proofs.commands.containers.PeekFirstListCommand.done.Goals as goal
 

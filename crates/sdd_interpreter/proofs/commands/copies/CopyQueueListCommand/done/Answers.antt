@@ -1,10 +1,4 @@
-use Rattle.std.proofs.Common.{List, inl, ap, ◌∙◌, subst, sym}
-use Rattle.sdd_space.specs.CallerId.{CallerId, IsExact}
-use Rattle.sdd_lists.specs.Lists.{Entry}
-use Rattle.sdd_lists.specs.Queue.{cells_in, queue_closed}
-use Rattle.sdd_script_model.specs.Listed.{AreNumbers}
-use Rattle.sdd_script_model.specs.Val.{Val, link_of}
-use Rattle.sdd_script_model.proofs.Listed.{same-list}
+use Rattle.sdd_interpreter.proofs.Words.{List, inl, ap, ◌∙◌, subst, sym, CallerId, IsExact, Entry, cells_in, queue_closed, AreNumbers, Val, link_of, same-list}
 use Rattle.sdd_interpreter.proofs.Copied.{queue-cloned, queue-uncloned}
 use Rattle.sdd_interpreter.proofs.commands.copies.CopyQueueListCommand.done.Goals as goal
 

@@ -1,11 +1,4 @@
-use Rattle.std.proofs.Common.{List, ap, ◌∙◌, subst, sym}
-use Rattle.sdd_space.specs.CallerId.{CallerId, IsExact}
-use Rattle.sdd_lists.specs.Lists.{Entry}
-use Rattle.sdd_lists.specs.Stack.{cell_in}
-use Rattle.sdd_script_model.specs.Listed.{AreNumbers}
-use Rattle.sdd_script_model.specs.Stacks.{stack_closed}
-use Rattle.sdd_script_model.specs.Val.{Val}
-use Rattle.sdd_script_model.proofs.Listed.{same-list}
+use Rattle.sdd_interpreter.proofs.Words.{List, ap, ◌∙◌, subst, sym, CallerId, IsExact, Entry, cell_in, AreNumbers, stack_closed, Val, same-list}
 use Rattle.sdd_interpreter.proofs.Copied.{stack-cloned, stack-uncloned}
 use Rattle.sdd_interpreter.proofs.commands.copies.CopyStackListCommand.done.Goals as goal
 

@@ -1,12 +1,5 @@
-use Rattle.std.proofs.Common.{◌++◌, [], ◌∷◌, ℕ, List, refl, sym, ap, ◌∙◌, subst, rules}
-use Rattle.sdd_space.specs.CallerId.{CallerId, IsExact}
-use Rattle.sdd_space.specs.OwnerOrCell.{SpaceId}
-use Rattle.sdd_space.specs.World.{World}
+use Rattle.sdd_interpreter.proofs.Words.{◌++◌, [], ◌∷◌, ℕ, List, refl, sym, ap, ◌∙◌, subst, rules, CallerId, IsExact, SpaceId, World, entry_at, AreLinked, entry_slots, Val, link_of}
 use Rattle.sdd_lists.proofs.Fronts.{names-some, shows-it}
-use Rattle.sdd_participants.specs.Slab.{entry_at}
-use Rattle.sdd_lists.specs.Lists.{AreLinked}
-use Rattle.sdd_script_model.specs.Copies.{entry_slots}
-use Rattle.sdd_script_model.specs.Val.{Val, link_of}
 use Rattle.sdd_interpreter.proofs.Copied.{link-at-home, next-slot, none-left}
 use Rattle.sdd_interpreter.proofs.commands.copies.ListSlotsListCommand.done.Goals as goal
 

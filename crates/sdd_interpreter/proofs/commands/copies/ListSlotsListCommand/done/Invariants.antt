@@ -1,9 +1,5 @@
-use Rattle.std.proofs.Common.{◌≡◌, ◌≤◌, ◌++◌, ℕ, List, Option, length, vec_capacity}
-use Rattle.sdd_space.specs.Ptr.{PtrIsShown, slot_named}
-use Rattle.sdd_lists.specs.Lists.{AreLinked, Entry, first_slot}
-use Rattle.sdd_script_model.specs.Copies.{ArePlain, entry_slots}
-use Rattle.sdd_script_model.specs.Val.{Val, link_of}
-use Rattle.sdd_interpreter.specs.Containers.{HasEntries}
+use Rattle.sdd_interpreter.proofs.Words.{◌≡◌, ◌≤◌, ◌++◌, ℕ, List, Option, length, vec_capacity, PtrIsShown, slot_named, AreLinked, Entry, first_slot, entry_slots, Val, link_of, HasEntries}
+use Rattle.sdd_script_model.specs.Copies.{ArePlain}
 use Rattle.sdd_interpreter.proofs.commands.copies.ListSlotsListCommand.done.Given as goal
 
 -- the slots so far are those of the first entries, and the pointer is to the next

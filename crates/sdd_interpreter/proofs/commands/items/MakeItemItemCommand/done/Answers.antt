@@ -1,9 +1,7 @@
-use Rattle.std.proofs.Common.{refl, ap, ◌∙◌}
-use Rattle.sdd_space.specs.CallerId.{CallerId}
+use Rattle.sdd_interpreter.proofs.Words.{refl, ap, ◌∙◌, CallerId, link_of}
 use Rattle.sdd_space.specs.OwnerOrCell as holding
 use Rattle.sdd_space.specs.Owned as owned
 use Rattle.sdd_space.specs.Shared as shared
-use Rattle.sdd_script_model.specs.Val.{link_of}
 use Rattle.sdd_interpreter.proofs.commands.items.MakeItemItemCommand.done.Goals as goal
 
 pub returns-in-Ok-new-clause-done : goal.returns-in-Ok-new-clause-done

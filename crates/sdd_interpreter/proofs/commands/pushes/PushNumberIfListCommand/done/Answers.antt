@@ -1,8 +1,4 @@
-use Rattle.std.proofs.Common.{Option, Some, sym, subst}
-use Rattle.std.specs.Prelude.{Err}
-use Rattle.sdd_core.specs.declared.refused.Refused.{Refused}
-use Rattle.sdd_interpreter.specs.Containers.{PushesIf}
-use Rattle.sdd_interpreter.specs.declared.holding.AnyList.{AnyList}
+use Rattle.sdd_interpreter.proofs.Words.{Option, Some, sym, subst, Err, Refused, PushesIf, AnyList}
 use Rattle.sdd_interpreter.specs.declared.holding.AnyList.TheVariants as any
 use Rattle.sdd_interpreter.proofs.Asked.{push-held, pushes-not}
 use Rattle.sdd_interpreter.proofs.commands.pushes.PushNumberIfListCommand.done.Goals as goal
