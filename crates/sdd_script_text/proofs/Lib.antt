@@ -1,5 +1,5 @@
 pub mod Devices
 pub mod Lines
-pub mod NumberTexts
 pub mod Plays
 pub mod Scripts
+pub mod Words

@@ -1,7 +1,5 @@
 -- What a play read, from what its parts did
-use Rattle.std.proofs.Common.{◌≡◌, ℕ, List, ◌++◌, Option, None, Some, IfSome, sym, ap, ◌∙◌, append-nil}
-use Rattle.std.specs.Io.KnownBytes.{IsAtEnd}
-use Rattle.sdd_script_text.specs.Device.{ConsumesSome}
+use Rattle.sdd_script_text.proofs.Words.{◌≡◌, ℕ, List, ◌++◌, Option, None, Some, IfSome, sym, ap, ◌∙◌, append-nil, IsAtEnd, ConsumesSome}
 use Rattle.sdd_script_text.specs.Play.{ReadsAll}
 
 -- a reader that is at its end and told its bytes gave them all

@@ -1,10 +1,5 @@
 -- The lines of a text, one by one, and what they are
-use Rattle.std.proofs.Common.{◌≡◌, ℕ, ◌+◌, ◌<◌, ◌≢◌, suc, zero, List, [], ◌∷◌, ◌++◌, length, length-append, append-nil, get_or, add-one, take, drop, map, refl, sym, ap, ◌≤◌, ◌∙◌, arith}
-use Rattle.std.specs.List.{onto_first, AllByRecursion}
-use Rattle.std.proofs.lemmas.Bool.{ne_eqb, cond-false}
-use Rattle.sdd_script_text.specs.declared.call.Call.{Call}
-use Rattle.sdd_script_text.specs.Call.{line_of, HasNumbers, IsCallText}
-use Rattle.sdd_script_text.specs.Script.{lines, most_calls, IsTextOfSome, AreLines, IsFirstOther, AreCalls, IsFirstFault}
+use Rattle.sdd_script_text.proofs.Words.{◌≡◌, ℕ, ◌+◌, ◌<◌, ◌≢◌, suc, zero, List, [], ◌∷◌, ◌++◌, length, length-append, append-nil, get_or, add-one, take, drop, map, refl, sym, ap, ◌≤◌, ◌∙◌, arith, ne_eqb, onto_first, AllByRecursion, cond-false, Call, line_of, HasNumbers, lines, most_calls, IsTextOfSome, AreLines, IsFirstOther, AreCalls}
 use Rattle.sdd_script_text.proofs.Lines.{call_line}
 
 -- a text is its first line, and the lines behind its line feed
@@ -31,11 +26,10 @@ same_lines : {A : Type 0} (text_of : A → List ℕ) (Fits : A → Type 0) → H
     → AllByRecursion Fits b →
     map text_of a ≡ map text_of b → a ≡ b
 same_lines text_of Fits own [] [] h k e = refl
-same_lines text_of Fits own [] (d ∷ b) h k e = cc
-same_lines text_of Fits own (c ∷ a) [] h k e = cc
 same_lines text_of Fits own (c ∷ a) (d ∷ b) h k e =
     let first : c ≡ d = own c d h.0 k.0 (ap (λ ls. get_or ls 0 []) e) in
     let others : a ≡ b = same_lines text_of Fits own a b h.1 k.1 (ap (drop 1) e) in cc
+same_lines text_of Fits own a b h k e = cc
 
 -- where all lines are the texts of some, so is the line behind some of them
 next_line : {A : Type 0} (text_of : A → List ℕ) (Fits : A → Type 0) (before all : List A) (line : List ℕ) (after : List (List ℕ)) → AllByRecursion Fits all →
@@ -67,18 +61,8 @@ only_lines text_of Fits own text (c ∷ rest) a b e z numbers h = absurd (omega 
 own_texts : HaveOwnTexts line_of HasNumbers
 own_texts a b h k e = cc ((call_line a h).read, (call_line b k).read)
 
--- the same of calls
-pub first_fault : (text line : List ℕ) (before : List Call) (after : List (List ℕ)) (n : ℕ) → map line_of before ++ line ∷ after ≡ lines text →
-    AllByRecursion HasNumbers before → length before ≤ most_calls → n ≡ length before + 1 →
-    ¬ ((length before < most_calls) × IsCallText line) → IsFirstFault text n
-first_fault = first_other line_of HasNumbers
-
-pub no_fault : (text line : List ℕ) (before calls : List Call) (after : List (List ℕ)) → map line_of before ++ line ∷ after ≡ lines text →
-    ¬ ((length before < most_calls) × IsCallText line) → AreCalls text calls → ⊥
-no_fault = no_other line_of HasNumbers
-
 pub only_calls : (text rest : List ℕ) (a b : List Call) → map line_of a ++ lines rest ≡ lines text → length rest ≡ 0 → AllByRecursion HasNumbers a →
     AreCalls text b → a ≡ b
 only_calls = only_lines line_of HasNumbers own_texts
 
-pub ruleset one_script = (first_fault, no_fault, only_calls)
+pub ruleset one_script = (first_other, no_other, only_calls)

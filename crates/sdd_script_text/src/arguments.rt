@@ -55,6 +55,7 @@ pub fn chosen(words: &[String]) -> Choice
 }
 
 /// Whether the words ask for a schedule.
+#[tactic(auto, using(crate::proofs::Lines::lone_word))]
 fn are_steps(words: &[String]) -> bool
     ensures { IsTrue result ↔ AreSteps (map string_bytes words.now) }
 {

@@ -27,6 +27,7 @@ impl fmt::Display for Numbers {
 
     ghost output = { λ numbers. Some (joined (words_of_numbers numbers)) };
 
+    #[tactic(auto, using(crate::proofs::Lines::in_row))]
     fn fmt<W: fmt::Write>(&self, f: &mut fmt::Formatter<W>) -> fmt::Result {
         let Some((first, others)) = self.items.as_slice().split_first() else {
             return write!(f, "none");

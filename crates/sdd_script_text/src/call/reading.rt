@@ -436,7 +436,7 @@ fn with_four(
     }
 }
 
-#[tactic(auto, using(crate::proofs::Lines::said_by))]
+#[tactic(auto, using(crate::proofs::Lines::by_verb))]
 fn action(text: &str) -> Option<Action>
     ensures is { result ≡ action_at (words text.now) }
     ensures sound { IfSome result (λ action. AllByRecursion HasNumber (spoken action).1

@@ -1,5 +1,4 @@
-use Rattle.std.proofs.Common.{◌≡◌, string_bytes, take}
-use Rattle.sdd_script_text.specs.Answer.{text_of_all}
+use Rattle.sdd_script_text.proofs.Words.{◌≡◌, string_bytes, take, text_of_all}
 use Rattle.sdd_script_text.proofs.answer.print_all.Given as goal
 
 abbrev pub invariant-loop-answer : goal.invariant-loop-answer

@@ -1,5 +1,4 @@
-use Rattle.std.proofs.Common.{◌≡◌, ℕ, List, ◌∷◌, ◌++◌, Some, string_bytes, take, map}
-use Rattle.std.specs.List.{flat_map}
+use Rattle.sdd_script_text.proofs.Words.{◌≡◌, ℕ, List, ◌∷◌, ◌++◌, Some, string_bytes, take, map, flat_map}
 use Rattle.sdd_script_text.proofs.answer.push_ending.Given as goal
 
 -- the heading and the names so far are written, each after a space

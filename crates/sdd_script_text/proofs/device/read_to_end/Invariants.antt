@@ -1,5 +1,4 @@
-use Rattle.std.proofs.Common.{◌≡◌, ◌-◌, ◌^◌, vec_len}
-use Rattle.std.specs.Io.KnownBytes.{Consumes}
+use Rattle.sdd_script_text.proofs.Words.{◌≡◌, ◌-◌, ◌^◌, vec_len, Consumes}
 use Rattle.sdd_script_text.proofs.device.read_to_end.Given as goal
 
 -- the bytes so far are what was read

@@ -1,5 +1,4 @@
-use Rattle.std.proofs.Common.{◌≡◌, ◌-◌, ◌≤◌, length, take}
-use Rattle.std.specs.Io.KnownBytes.{Appends}
+use Rattle.sdd_script_text.proofs.Words.{◌≡◌, ◌-◌, ◌≤◌, length, take, Appends}
 use Rattle.sdd_script_text.proofs.device.write_all.Given as goal
 
 abbrev pub invariant-loop-written : goal.invariant-loop-written

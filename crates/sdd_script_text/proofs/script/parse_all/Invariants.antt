@@ -1,7 +1,4 @@
-use Rattle.std.proofs.Common.{◌≡◌, ◌≤◌, ◌++◌, length, map}
-use Rattle.std.specs.List.{AllByRecursion}
-use Rattle.sdd_script_text.specs.Call.{line_of, HasNumbers}
-use Rattle.sdd_script_text.specs.Script.{most_calls, lines}
+use Rattle.sdd_script_text.proofs.Words.{◌≡◌, ◌≤◌, ◌++◌, length, map, AllByRecursion, line_of, HasNumbers, most_calls, lines}
 use Rattle.sdd_script_text.proofs.script.parse_all.Given as goal
 
 -- the calls so far, and the lines that are left, are the lines of the text

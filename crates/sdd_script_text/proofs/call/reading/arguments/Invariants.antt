@@ -1,8 +1,6 @@
-use Rattle.std.proofs.Common.{◌≡◌, ◌++◌, length, map}
+use Rattle.sdd_script_text.proofs.Words.{◌≡◌, ◌++◌, length, map, AllByRecursion, word_of, words, HasNumber}
 use denote.Shadow.{shadow}
 use denote.Text.{Utf8}
-use Rattle.std.specs.List.{AllByRecursion}
-use Rattle.sdd_script_text.specs.Call.{word_of, words, HasNumber}
 use Rattle.sdd_script_text.proofs.call.reading.arguments.Given as goal
 
 -- the arguments so far, and the words that are left, are the words of the text

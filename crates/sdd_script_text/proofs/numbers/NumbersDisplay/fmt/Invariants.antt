@@ -1,6 +1,4 @@
-use Rattle.std.proofs.Common.{◌∷◌, take}
-use Rattle.std.specs.Fmt.{HasWritten, IsPlainFormatter, decimal}
-use Rattle.std.specs.List.{flat_map}
+use Rattle.sdd_script_text.proofs.Words.{◌∷◌, take, decimal, flat_map, HasWritten, IsPlainFormatter}
 use Rattle.sdd_script_text.proofs.numbers.NumbersDisplay.fmt.Given as goal
 
 -- the numbers so far are written behind the first, each after a space
