@@ -1,22 +1,12 @@
 -- An entry comes directly behind an item, and what the script's desk is then
-use Rattle.sdd_script_model.proofs.Words.{◌≡◌, ◌≢◌, ◌⊎◌, ◌+◌, ◌≤◌, inl, inr, eq-eqb, ℕ, zero, suc, Bool, true, false, List, [], ◌∷◌, Option, Some, None, slice_set, refl, sym, ap, ◌∙◌, subst, arith, ◌==◌, if◌then◌else◌, cases_eq, set_comm, Tag, Second, Both, Entries, entry_at, CellContents, Claim, IsLedger, owner_of, owner_held, right_to, one, changes_cell, OwnerOrCell, World, IsPlaceOf, value_at, held_in, with_cell, IsWhole, spliced, EndsWith, IsAmong, AreLinked, Entry, IsList, first_slot, linked_in, IsLetGo, QueueCells, linked-ends, list-ends, tag_in, list-apart, KeepsGone, gone-then, gone-written, let-go-kept, other-tag, among-spliced, IsStored, AreNumbers, Begins, HasLists, HoldsEntry, IsListed, IsLoose, IsNumber, ScriptState, IsListCell, IsSecondCell, IsThere, holding_at, in_world, shared_cell, shared_slot, slot_at, without_owner, IsSound, contained, named, named_among, Val, body_of, holdings_of, link_of}
-use Rattle.sdd_core.specs.declared.tag.Tag.TheVariants.{None as no_tag}
-use Rattle.sdd_lists.specs.Behind.{IsFresh, IsLinkedBehind, entry_made, mark_tag}
-use Rattle.sdd_lists.specs.Marks.{says_deleted}
+use Rattle.sdd_script_model.proofs.Words.{◌≡◌, ◌≢◌, ◌⊎◌, ◌+◌, ◌≤◌, inl, inr, eq-eqb, ℕ, zero, suc, Bool, true, false, List, [], ◌∷◌, Option, Some, None, slice_set, refl, sym, ap, ◌∙◌, subst, arith, ◌==◌, if◌then◌else◌, cases_eq, set_comm, Tag, Second, Both, Entries, entry_at, CellContents, Claim, IsLedger, owner_of, owner_held, right_to, one, changes_cell, OwnerOrCell, World, IsPlaceOf, value_at, held_in, with_cell, IsWhole, spliced, EndsWith, IsAmong, AreLinked, Entry, IsList, first_slot, linked_in, IsLetGo, QueueCells, linked-ends, list-ends, tag_in, list-apart, KeepsGone, gone-then, gone-written, let-go-kept, other-tag, among-spliced, IsStored, AreNumbers, Begins, HasLists, HoldsEntry, IsListed, IsLoose, IsNumber, ScriptState, IsListCell, IsSecondCell, IsThere, holding_at, in_world, shared_cell, shared_slot, slot_at, without_owner, IsSound, contained, named, named_among, Val, body_of, holdings_of, link_of, slot_of, IsFresh, IsLinkedBehind, entry_made, mark_tag, says_deleted, no_tag, common_steps}
 use Rattle.sdd_lists.proofs.Linking.{linked-behind, made-list}
 use Rattle.sdd_script_model.specs.Appending.{IsLooseEntry}
 use Rattle.sdd_script_model.specs.Link.{IsLink}
+use Rattle.sdd_script_model.proofs.Lemmas.{IsMidway, LeavesSound, at_home-spent, finishes, link-apart-from, own-midway, owned-apart, owner-spent, some-holding, dated-same, at-other, null, same-once, AreOwn, StaysGone, StaysLoose, among-link, apart-item, apart-own, as-before, has-changed, has-kept, held-by, link-apart, links-apart, loose-as, loose-on, same-list, among-or, list-beside, third, IsReserved, reserved-was, there-apart, starts}
 use Rattle.sdd_script_model.proofs.BehindGoing.{among-behind, numbers-ends, numbers-spliced, spliced-was}
-use Rattle.sdd_script_model.proofs.Chains.{IsMidway, LeavesSound, at_home-spent, finishes, link-apart-from, own-midway, owned-apart, starts}
-use Rattle.sdd_script_model.proofs.Counting.{owner-spent}
-use Rattle.sdd_script_model.proofs.Dates.{dated-same}
-use Rattle.sdd_script_model.proofs.Entry.{at-other}
-use Rattle.sdd_script_model.proofs.Going.{shared-is}
-use Rattle.sdd_script_model.proofs.Links.{null, same-once}
-use Rattle.sdd_script_model.proofs.Listed.{AreOwn, StaysGone, StaysLoose, among-link, apart-item, apart-own, as-before, has-changed, has-kept, held-by, link-apart, links-apart, loose-as, loose-on, same-list}
-use Rattle.sdd_script_model.proofs.ListChanges.{among-or, list-beside, third}
+use Rattle.sdd_script_model.proofs.Going.{shared-slot}
 use Rattle.sdd_script_model.proofs.StackChains.{IsBetween, between, between-as, goes-on, midway}
-use Rattle.sdd_script_model.proofs.Storing.{IsReserved, reserved-was, there-apart}
 
 -- ---- an item is an entry of a queue or a stack, or it is not
 
@@ -372,9 +362,6 @@ module _ (d : ScriptState) (s : IsSound d) (whole : IsWhole d.world) (p : ℕ) (
   kept-second : (a : Tag) → says_deleted a ≡ false → a ≢ Second
   kept-second a says same = absurd (let never : true ≡ false = sym (ap says_deleted same) ∙ says in cc)
 
-  kept-plain : (a : Tag) → says_deleted a ≡ false → a ≢ Both
-  kept-plain a says same = absurd (let never : true ≡ false = sym (ap says_deleted same) ∙ says in cc)
-
   at-link : entry_at d.world.cells (link_of is.entry) ≡ Some cell
   at-link = ap (λ (b : ℕ). entry_at d.world.cells b) is.link ∙ is.holds
 
@@ -395,9 +382,7 @@ module _ (d : ScriptState) (s : IsSound d) (whole : IsWhole d.world) (p : ℕ) (
     kept-so = subst (λ (a : Tag). a ≢ Second) (ap tag_in cells) (kept-second cell.tag kept)
 
     as-world : linked_in d.world (link_of is.entry) t (link_of x) k (first_slot es) ≡ w_after
-    as-world =
-        ap (λ (b : ℕ). linked_in d.world b t (link_of x) k (first_slot es)) is.link
-        ∙ ap (λ (h : Option ℕ). linked_in d.world l t (link_of x) k h) (sym (ap held_in cells))
+    as-world = grind (arith, common_steps)
 
     lists-out : (IsListed (IsListCell d) d.world j → ⊥) → AreNumbers es → ((m : ℕ) → IsAmong m es → IsListed (IsListCell d) d.world m → ⊥) → Has w_after
     lists-out not numbers free =
@@ -443,7 +428,9 @@ module _ (d : ScriptState) (s : IsSound d) (whole : IsWhole d.world) (p : ℕ) (
   rest = named_among left_owners d.cells d.collectors
 
   in-hand : (u : Claim) → named d u ≡ rest u + one (owner_of k) u
-  in-hand u = let h = shared-is (holding_at d.owners o) k owner in owner-spent d.owners d.cells d.collectors o k h.0 h.1 h.2 u
+  in-hand u =
+      let h = some-holding slot_of refl (holding_at d.owners o) k (shared-slot (holding_at d.owners o) k owner) in
+      owner-spent d.owners d.cells d.collectors o k h.0 h.1 h.2 u
 
   abbrev in_front_of : CellContents
   in_front_of = record { held = Some k; tag = t }

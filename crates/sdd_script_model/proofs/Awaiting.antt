@@ -1,13 +1,9 @@
 -- An item or a job that waits at a place
-use Rattle.sdd_script_model.proofs.Words.{sum_by, zero, eq-eqb, get_or-set_other, get_or-set_same, get_or_past, sum_by-cons, sum_by-set, Waiting, having_seen, Job, is_of_job, is_of_slot, once_if, nothing-waits, IsChange, Nests, all_awaiting-waiting, count-cons, is_waiting_in}
-use Rattle.std.proofs.lemmas.List.Elements.{All-contains}
+use Rattle.sdd_script_model.proofs.Words.{sum_by, zero, eq-eqb, get_or-set_other, get_or-set_same, get_or_past, sum_by-cons, sum_by-set, Waiting, having_seen, Job, is_of_job, is_of_slot, once_if, nothing-waits, IsChange, Nests, all_awaiting-waiting, count-cons, is_waiting_in, All-contains, aged, due, is_due, older, differs, opens-changed, IsTaken, ◌≡◌, ◌≢◌, ◌⊎◌, ℕ, suc, ◌+◌, ◌<◌, ◌≤◌, ◌==◌, Bool, true, false, List, [], ◌∷◌, length, count_by, slice_index_or, slice_set, inl, inr, refl, sym, ap, ◌∙◌, subst, arith, cases_eq, cases_lt, false≢true, nat_tests, Contains, LimboEntry, Item, nobody, is_open, Participant, World, place_at, opened, IsWhole, Val, holdings_of}
+use Rattle.sdd_participants.specs.Waiting.{left}
+use Rattle.sdd_script_model.proofs.Lemmas.{counted-there}
 use Rattle.sdd_participants.specs.EpochState as time
-use Rattle.sdd_participants.specs.Waiting.{aged, due, is_due, left, older}
-use Rattle.sdd_space.proofs.Entries.{differs, opens-changed}
-use Rattle.sdd_space.proofs.Housed.{IsTaken}
 use Rattle.sdd_space.proofs.Own as own
-use Rattle.sdd_script_model.proofs.Gone.{counted-there}
-use Rattle.sdd_script_model.proofs.Terms.{◌≡◌, ◌≢◌, ◌⊎◌, ℕ, suc, ◌+◌, ◌<◌, ◌≤◌, ◌==◌, Bool, true, false, List, [], ◌∷◌, length, count_by, slice_index_or, slice_set, inl, inr, refl, sym, ap, ◌∙◌, subst, arith, cases_eq, cases_lt, false≢true, nat_tests, Contains, LimboEntry, Item, nobody, is_open, Participant, World, place_at, opened, IsWhole, Val, holdings_of}
 
 -- ---- how often it waits
 

@@ -1,25 +1,14 @@
 -- What is always true of a desk is true after a storage more is put behind a bag
-use Rattle.sdd_script_model.proofs.Words.{◌≡◌, ◌≢◌, ◌+◌, ◌≤◌, inl, inr, ℕ, List, Bool, true, false, Option, Some, None, IsSome, is_some, length, slice_index_or, refl, sym, ap, ◌∙◌, subst, arith, ◌==◌, ◌&&◌, not, if◌then◌else◌, cases_eq, false≢true, length-set, set-set, set_comm, Entries, IsEmptyAt, entry_at, CellContents, Standing, Shared, is_waiting, Claim, owner_of, right_to, claims, one, owner_held, IsLedger, Keeps, Moves, changes_cell, makes, makes_cell, times_held, World, IsPlaceOf, standing_at, value_at, held_in, made_as, nulled, owner_given, with_cell, IsWhole, once_if, in_value-out, ledger-laws, once-where, out-some, filled-there, IsAmong, Entry, first_slot, left, linked_in, HasSameCells, IsBag, AddsStorage, StorageName, AreSpare, IsStored, StandsOn, LosesNames, HasLists, BeginsLine, NumberBag, ScriptState, IsListCell, IsSecondCell, bag_at, bag_length, in_world, name_at, with_bag_at, number_in, HoldsOnlyOlder, IsCalled, IsSound, contained, named, named_owners, Val, body_of, holdings_of, link_of, owner_in, storage_in}
-use Rattle.sdd_core.specs.declared.tag.Tag.TheVariants.{None as no_tag}
+use Rattle.sdd_script_model.proofs.Words.{◌≡◌, ◌≢◌, ◌+◌, ◌≤◌, inl, inr, ℕ, List, Bool, true, false, Option, Some, None, IsSome, is_some, length, slice_index_or, refl, sym, ap, ◌∙◌, subst, arith, ◌==◌, ◌&&◌, not, if◌then◌else◌, cases_eq, false≢true, length-set, set-set, set_comm, Entries, IsEmptyAt, entry_at, CellContents, Standing, Shared, is_waiting, Claim, owner_of, right_to, claims, one, owner_held, IsLedger, Keeps, Moves, changes_cell, makes, makes_cell, times_held, World, IsPlaceOf, standing_at, value_at, held_in, made_as, nulled, owner_given, with_cell, IsWhole, once_if, in_value-out, ledger-laws, once-where, out-some, filled-there, IsAmong, Entry, first_slot, left, linked_in, HasSameCells, IsBag, AddsStorage, StorageName, AreSpare, IsStored, StandsOn, LosesNames, HasLists, BeginsLine, NumberBag, ScriptState, IsListCell, IsSecondCell, bag_at, bag_length, in_world, name_at, with_bag_at, number_in, HoldsOnlyOlder, IsCalled, IsSound, contained, named, named_owners, Val, body_of, holdings_of, link_of, owner_in, storage_in, no_tag, common_steps}
 use Rattle.sdd_space.specs.Shared.{slot_of}
-use Rattle.sdd_space.specs.WorldStep.WorldStep.{makes as makes_item}
-use Rattle.sdd_bag.specs.Storages as storages
 use Rattle.sdd_bag.proofs.Lying.{plain-left}
 use Rattle.sdd_bag.proofs.Standing.{trimmed-plain}
-use Rattle.sdd_script_model.proofs.Attending.{keeps-time}
+use Rattle.sdd_script_model.proofs.Lemmas.{IsMidway, LeavesSound, among-apart, link-apart-from, list-apart-from, list-right, second-apart-from, second-right, accounts, at-other, at-same, Passes, frames-start, passes-making, passes-then, filled-long, holds-so, null, same-once, link-inside, dated-stands, BagsStay, IsReserved, held-once, off-held, off-link, off-other, off-owned, owned-cell, stays-on, stays-then, starts}
 use Rattle.sdd_script_model.proofs.BagChains.{IsInHand, begins-in_hand, has-apart, own_of, stack_of, with_bag_cells}
 use Rattle.sdd_script_model.proofs.BagGoing.{after, as-many, join, others, shows-sound, split}
-use Rattle.sdd_script_model.proofs.Chains.{IsMidway, LeavesSound, among-apart, link-apart-from, list-apart-from, list-right, second-apart-from, second-right, starts}
-use Rattle.sdd_script_model.proofs.Counting.{accounts}
-use Rattle.sdd_script_model.proofs.Entry.{at-other, at-same}
-use Rattle.sdd_script_model.proofs.Frames.{Passes, frames-start, passes-on, passes-then}
-use Rattle.sdd_script_model.proofs.Layers.{filled-long}
-use Rattle.sdd_script_model.proofs.Links.{holds-so, null, same-once}
-use Rattle.sdd_script_model.proofs.Listed.{link-inside}
 use Rattle.sdd_script_model.proofs.StackChains.{IsBetween, between-as, goes-on}
-use Rattle.sdd_script_model.proofs.Dates.{dated-stands}
 use Rattle.sdd_script_model.proofs.StackGoing.{IsDatedWithin, dated-all}
-use Rattle.sdd_script_model.proofs.Storing.{BagsStay, IsReserved, held-once, off-held, off-link, off-other, off-owned, owned-cell, stays-on, stays-then}
+use Rattle.sdd_bag.specs.Storages as storages
 
 module _ (d : ScriptState) (s : IsSound d) (whole : IsWhole d.world) (p n : ℕ) (live : IsPlaceOf d.world p) (old bag : NumberBag)
     (is : bag_at d.bags n ≡ Some old) (cells : HasSameCells old bag) (es fs : List (Entry Val)) (stood : StandsOn d.world old es) (w : World Val)
@@ -80,9 +69,7 @@ module _ (d : ScriptState) (s : IsSound d) (whole : IsWhole d.world) (p n : ℕ)
       absurd (let never : None ≡ Some y = sym adds.free.1 ∙ ap (λ (j : ℕ). entry_at d.world.cells j) (sym same) ∙ there in cc)
 
   off-l : (i : ℕ) (y : CellContents) → entry_at d.world.cells i ≡ Some y → i ≢ l
-  off-l i y there same =
-      let still : entry_at w1.cells i ≡ Some y = at-other d.world.cells cell i (Some null) None (off-cell i y there) ∙ there in
-      absurd (let never : None ≡ Some y = sym free-l.1 ∙ ap (λ (j : ℕ). entry_at w1.cells j) (sym same) ∙ still in cc)
+  off-l i y there same = grind (arith, common_steps)
 
   far-link : c ≢ l
   far-link = off-l c behind_it stood.stack.begins
@@ -218,8 +205,8 @@ module _ (d : ScriptState) (s : IsSound d) (whole : IsWhole d.world) (p n : ℕ)
   passes : Passes d.world w5
   passes =
       passes-then
-      (passes-on b2.frames.slots b2.frames.passes b2.whole (makes_item w2 k x (Shared 1) (inr refl) free-k) (keeps-time w2 w3 refl) refl)
-      b5.frames.passes (λ j waits. waits)
+      (passes-making b2.frames.passes b2.whole k x (Shared 1) (inr refl) free-k)
+      b5.frames.passes (λ j waits idle. absurd (false≢true (sym idle ∙ waits)))
 
   abbrev total : Claim → ℕ
   total u = named d u + contained d u
@@ -293,23 +280,14 @@ module _ (d : ScriptState) (s : IsSound d) (whole : IsWhole d.world) (p n : ℕ)
     ])
 
     names-if : (a b : Bool) (o : Option ℕ) → b ≡ true → (if a && not b then None else o) ≡ o
-    names-if true true o there = refl
-    names-if false true o there = refl
-    names-if a false o never = absurd (false≢true never)
+    names-if a b o h = grind (arith, common_steps)
 
     -- what was there has its name
     kept-name : (j : ℕ) → IsSome (standing_at d.world j) → slice_index_or names j None ≡ name_at d j
     kept-name j some = lost.names j ∙ names-if (is_some (standing_at w j)) (is_some (standing_at d.world j)) (name_at d j) some
 
-    stands-k : standing_at w5 k ≡ Some (Shared 1)
-    stands-k = at-same w2.standings k (Some (Shared 1)) None free-k.0
-
     no-name : slice_index_or names k None ≡ None
-    no-name =
-        lost.names k
-        ∙ ap (λ (a : Bool). if a && not (is_some (standing_at d.world k)) then None else name_at d k)
-        (ap (λ (v : World Val). is_some (standing_at v k)) world-is ∙ ap is_some stands-k)
-        ∙ ap (λ (o : Option Standing). if not (is_some o) then None else name_at d k) free-k.1
+    no-name = grind (arith, common_steps)
 
     was-there : (j : ℕ) → j ≢ k → IsSome (standing_at w5 j) → IsSome (standing_at d.world j)
     was-there j far some = subst (λ (o : Option Standing). IsSome o) (at-other d.world.standings k j (Some (Shared 1)) None far) some

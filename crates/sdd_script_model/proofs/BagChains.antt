@@ -1,19 +1,8 @@
 -- A bag in the middle of a line: its cells are in hand, and its other storages come and go
-use Rattle.sdd_script_model.proofs.Words.{◌≡◌, ◌≢◌, ◌⊎◌, ◌+◌, inl, inr, ℕ, List, [], ◌∷◌, ◌++◌, false, cond, Option, Some, None, IsSome, is_some, slice_index_or, slice_set, refl, sym, ap, ◌∙◌, subst, arith, ◌==◌, append-nil, set-set, sum_by_push, Second, Entries, entry_at, CellContents, Standing, Retired, Shared, Claim, owner_of, right_to, one, World, IsPlaceOf, standing_at, value_at, held_in, owner_given, retired, with_cell, with_standing, sum-out, once-where, IsAmong, Apart, AreLinked, Entry, IsList, first_slot, is_deleted, is_deleting, let_go_first, removed, cell_in, bare, behind, apart-first, AreShelves, RemovesStorage, RemovesStorages, StandsOn, bagged, is_stack_cell, HasLists, IsListed, IsLoose, NumberBag, ScriptState, bag_at, bag_length, without_bag, IsSound, contained, named, Val, link_of, storage_in, IsWhole}
-use Rattle.sdd_core.specs.declared.tag.Tag.TheVariants.{None as no_tag}
-use Rattle.sdd_lists.proofs.Popping.{removed-head}
-use Rattle.sdd_lists.proofs.Pushing.{go-other}
-use Rattle.sdd_bag.specs.Overflow.{AreElsewhere}
+use Rattle.sdd_script_model.proofs.Words.{◌≡◌, ◌≢◌, ◌⊎◌, ◌+◌, inl, inr, ℕ, List, [], ◌∷◌, ◌++◌, false, Option, Some, None, is_some, slice_index_or, slice_set, refl, sym, ap, ◌∙◌, subst, arith, append-nil, set-set, Second, Entries, entry_at, CellContents, Standing, Retired, Shared, Claim, right_to, one, World, IsPlaceOf, standing_at, value_at, held_in, owner_given, retired, with_cell, with_standing, IsAmong, Apart, AreLinked, Entry, IsList, first_slot, is_deleted, is_deleting, let_go_first, cell_in, bare, behind, apart-first, AreShelves, RemovesStorage, RemovesStorages, StandsOn, bagged, HasLists, IsListed, IsLoose, NumberBag, ScriptState, bag_at, bag_length, without_bag, IsSound, contained, named, Val, link_of, storage_in, IsWhole, go-other, AreElsewhere, no_tag, common_steps}
 use Rattle.sdd_bag.proofs.Standing.{keeps-shelves}
-use Rattle.sdd_script_model.specs.Bags.{is_own_cell}
-use Rattle.sdd_script_model.proofs.Entry.{at-other, at-same}
-use Rattle.sdd_script_model.proofs.Entry.{inside as inside-list}
-use Rattle.sdd_script_model.proofs.Frames.{frames-start}
-use Rattle.sdd_script_model.proofs.Gone.{given-other}
-use Rattle.sdd_script_model.proofs.Links.{same-once}
-use Rattle.sdd_script_model.proofs.Listed.{StaysGone, as-before, has-kept_so, loose-as}
+use Rattle.sdd_script_model.proofs.Lemmas.{at-other, at-same, frames-start, given-other, same-once, StaysGone, as-before, has-kept_so, loose-as, BagsStay, IsReserved, off-other, inside as inside-list}
 use Rattle.sdd_script_model.proofs.StackChains.{IsBetween, first-goes}
-use Rattle.sdd_script_model.proofs.Storing.{BagsStay, IsReserved, off-other}
 
 -- ---- a bag is two rights to cells
 
@@ -25,40 +14,11 @@ stack_of b = cell_in b.overflow.stack
 
 pub bag-spent : (bs : List (Option NumberBag)) (n : ℕ) (b : NumberBag) → bag_at bs n ≡ Some b → (u : Claim) →
     bagged bs u ≡ bagged (slice_set bs n None) u + one (right_to (own_of b)) u + one (right_to (stack_of b)) u
-bag-spent bs n b is (owner_of k) = omega arith
-bag-spent bs n b is (right_to c) =
-    let count_own : Option NumberBag → ℕ = λ x. cond (is_own_cell c x) 1 0 in
-    let count_stack : Option NumberBag → ℕ = λ x. cond (is_stack_cell c x) 1 0 in
-    let own : count_own (bag_at bs n) ≡ cond (own_of b == c) 1 0 = ap count_own is in
-    let stack : count_stack (bag_at bs n) ≡ cond (stack_of b == c) 1 0 = ap count_stack is in
-    omega (
-      arith,
-      sum-out count_own refl bs n,
-      sum-out count_stack refl bs n,
-      own,
-      stack,
-      once-where (own_of b == c),
-      once-where (stack_of b == c),
-    )
+bag-spent bs n b h u = grind (arith, common_steps)
 
 pub bag-given : (bs : List (Option NumberBag)) (b : NumberBag) (u : Claim) →
     bagged (bs ++ Some b ∷ []) u ≡ bagged bs u + one (right_to (own_of b)) u + one (right_to (stack_of b)) u
-bag-given bs b (owner_of k) = omega arith
-bag-given bs b (right_to c) =
-    omega (
-      arith,
-      sum_by_push (λ (x : Option NumberBag). cond (is_own_cell c x) 1 0) bs (Some b),
-      sum_by_push (λ (x : Option NumberBag). cond (is_stack_cell c x) 1 0) bs (Some b),
-      once-where (own_of b == c),
-      once-where (stack_of b == c),
-    )
-
--- the bag of this name is another one
-pub bag-changed : (bs : List (Option NumberBag)) (n : ℕ) (b : NumberBag) (u : Claim) → IsSome (bag_at bs n) →
-    bagged (slice_set bs n (Some b)) u ≡ bagged (slice_set bs n None) u + one (right_to (own_of b)) u + one (right_to (stack_of b)) u
-bag-changed bs n b u there =
-    bag-spent (slice_set bs n (Some b)) n b (at-same bs n (Some b) None (inside-list bs n there)) u
-    ∙ ap (λ (xs : List (Option NumberBag)). bagged xs u + one (right_to (own_of b)) u + one (right_to (stack_of b)) u) (set-set bs n (Some b) None)
+bag-given bs b u = grind (arith, common_steps)
 
 -- ---- storages that are taken away are let go of
 
@@ -95,13 +55,6 @@ module _ (w : World Val) (p c : ℕ) (e : Entry Val) (es : List (Entry Val)) (ne
   abbrev raised : ℕ → World Val
   raised n = with_standing w k (Shared (n + 1))
 
-  one-owner : removes.taken.owners ≡ 1
-  one-owner =
-      let stands : standing_at w k ≡ Some (Shared removes.taken.owners) =
-      subst (λ (x : Entry Val). standing_at w x.slot ≡ Some (Shared removes.taken.owners)) first-is removes.taken.shared.shared in
-      let both : Some (Shared 1) ≡ Some (Shared removes.taken.owners) = sym sole ∙ stands in
-      let same : 1 ≡ removes.taken.owners = cc in sym same
-
   -- the standings and cells that it leaves, but for the last owner
   abbrev left : Entries Standing → Entries CellContents → World Val
   left ss cs = retired (record w { standings = ss; cells = cs }) p k
@@ -111,15 +64,7 @@ module _ (w : World Val) (p c : ℕ) (e : Entry Val) (es : List (Entry Val)) (ne
 
   between-is : removes.between
       ≡ record w { standings = slice_set (slice_set w.standings k (Some (Shared 2))) k (Some (Shared 1)); cells = cells_deleted }
-  between-is =
-      removes.taken.world
-      ∙ ap (λ (n : ℕ). removed link_of (with_standing w removes.first.slot (Shared (n + 1))) p c no_tag (e ∷ es) removes.first fs) one-owner
-      ∙ ap (λ (x : Entry Val). removed link_of (with_standing w x.slot (Shared 2)) p c no_tag (e ∷ es) x fs) first-is
-      ∙ ap (λ (xs : List (Entry Val)). removed link_of (with_standing w k (Shared 2)) p c no_tag (e ∷ es) e xs) removed-rest
-      ∙ sym (removed-head link_of (with_standing w k (Shared 2)) p c no_tag e es plain)
-      ∙ ap (λ (s : Option Standing). owner_given
-      (record w { standings = slice_set w.standings k (Some (Shared 2)); cells = cells_deleted }) p k s)
-      (at-same w.standings k (Some (Shared 2)) None (inside-list w.standings k (ap is_some sole)))
+  between-is = grind (arith, common_steps)
 
   pub removed-is : new ≡ let_go_first w p c no_tag k l (first_slot es)
   removed-is =
@@ -153,9 +98,7 @@ module _ (p c : ℕ) where
   -- its one owner is given up, so it waits
   first-waits : (w : World Val) (e : Entry Val) (es : List (Entry Val)) → standing_at w e.slot ≡ Some (Shared 1) →
       standing_at (first w e es) e.slot ≡ Some Retired
-  first-waits w e es sole =
-      ap (λ (s : Option Standing). standing_at (owner_given (cells_set w e es) p e.slot s) e.slot) sole
-      ∙ at-same w.standings e.slot (Some Retired) None (inside-list w.standings e.slot (ap is_some sole))
+  first-waits w e es sole = grind (arith, common_steps)
 
   pub many-values : (gone rest : List (Entry Val)) (w : World Val) → (let_go_many w p c gone rest).values ≡ w.values
   many-values [] rest w = refl

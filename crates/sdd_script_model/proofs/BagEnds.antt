@@ -1,27 +1,12 @@
 -- What is always true of a desk is true after a bag begins, and after one is closed
-use Rattle.sdd_script_model.proofs.Words.{◌≡◌, ◌≢◌, ◌+◌, ◌≤◌, inl, inr, ℕ, List, [], ◌∷◌, ◌++◌, Option, Some, None, IsSome, is_some, true, length, slice_index_or, refl, sym, ap, ◌∙◌, subst, arith, ◌%◌, cases_eq, append-nil, length-set, IsEmptyAt, entry_at, is_waiting, Claim, right_to, one, closes_cell, makes_cell, spends_cell, OwnerOrCell, SpaceId, World, IsPlaceOf, standing_at, value_at, cell_closed, held_in, nulled, without_cell, IsWhole, ledger-laws, IsAmong, Apart, Entry, first_slot, spilled-cells, spilled-values, let_go_first, ClosesBag, EmptiesStorages, AreShelves, AreBags, IsStored, StandsOn, holds_nothing, HasLists, NumberBag, ScriptState, IsListCell, IsSecondCell, bag_at, bag_length, in_world, name_at, without_bag, IsCalled, IsSound, contained, named, Val, holdings_of, link_of, storage_in}
-use Rattle.sdd_core.specs.declared.tag.Tag.TheVariants.{None as no_tag}
-use Rattle.sdd_lists.proofs.Fronts.{empty-of}
-use Rattle.sdd_bag.specs.Bag as bag_specs
-use Rattle.sdd_lists.specs.Lists as lists_specs
-use Rattle.sdd_bag.specs.Closing.{values_given}
-use Rattle.sdd_script_model.specs.BagLines.{BeginsBag}
-use Rattle.sdd_script_model.specs.ScriptState.{with_bag}
-use Rattle.sdd_script_model.proofs.Attending.{keeps-live}
+use Rattle.sdd_script_model.proofs.Words.{◌≡◌, ◌≢◌, ◌+◌, ◌≤◌, inl, inr, ℕ, List, [], ◌∷◌, ◌++◌, Option, Some, None, IsSome, is_some, true, length, slice_index_or, refl, sym, ap, ◌∙◌, subst, arith, ◌%◌, cases_eq, append-nil, IsEmptyAt, entry_at, is_waiting, Claim, right_to, one, closes_cell, makes_cell, spends_cell, World, IsPlaceOf, standing_at, value_at, cell_closed, held_in, nulled, without_cell, IsWhole, ledger-laws, IsAmong, Apart, Entry, first_slot, spilled-cells, spilled-values, let_go_first, ClosesBag, EmptiesStorages, AreShelves, AreBags, IsStored, StandsOn, holds_nothing, HasLists, NumberBag, ScriptState, IsListCell, IsSecondCell, bag_at, bag_length, in_world, name_at, without_bag, IsCalled, IsSound, contained, named, Val, holdings_of, link_of, storage_in, values_given, BeginsBag, with_bag, no_tag, common_steps}
+use Rattle.sdd_script_model.proofs.Lemmas.{keeps-live, IsMidway, LeavesSound, among-apart, link-apart-from, list-apart-from, list-right, moves, second-apart-from, second-right, leaves-so, same-line, dated-same, at-end, at-other, at-pushed, layered-less, null, same-once, apart-item, apart-own, has-stored, link-apart, links-apart, among-or, KeepsSlots, KeepsStored, slots-cell_closed, slots-same, slots-then, stocked-as, IsReserved, bags-still, off-held, stored-on, starts, inside as inside-list}
 use Rattle.sdd_script_model.proofs.BagChains.{IsInHand, bag-given, bag-less, begins-in_hand, goes-many, has-apart, let_go_many, many-bare, many-other, many-values, many-waits, own_of, removes-one, shelves-behind, stack_of}
 use Rattle.sdd_script_model.proofs.BagGoing.{join-others, others-were, split}
-use Rattle.sdd_script_model.proofs.Chains.{AtHome, IsMidway, LeavesSound, among-apart, link-apart-from, list-apart-from, list-right, moves, second-apart-from, second-right, sound-after, starts}
-use Rattle.sdd_script_model.proofs.Dates.{dated-same}
-use Rattle.sdd_script_model.proofs.Entry.{at-end, at-other, at-pushed, at-same}
-use Rattle.sdd_script_model.proofs.Entry.{inside as inside-list}
-use Rattle.sdd_script_model.proofs.Layers.{layered-less}
-use Rattle.sdd_script_model.proofs.Links.{null, same-once}
-use Rattle.sdd_script_model.proofs.Listed.{apart-item, apart-own, has-stored, link-apart, links-apart}
-use Rattle.sdd_script_model.proofs.ListChanges.{among-or}
 use Rattle.sdd_script_model.proofs.StackChains.{IsBetween, between-as, goes-on}
 use Rattle.sdd_script_model.proofs.StackGoing.{IsDatedWithin, dated-all}
-use Rattle.sdd_script_model.proofs.Stocked.{KeepsSlots, KeepsStored, slots-cell_closed, slots-same, slots-then, stocked-as}
-use Rattle.sdd_script_model.proofs.Storing.{IsReserved, bags-still, off-held, stored-on}
+use Rattle.sdd_bag.specs.Bag as bag_specs
+use Rattle.sdd_lists.specs.Lists as lists_specs
 
 -- ---- an empty bag
 
@@ -40,10 +25,7 @@ module _ (d : ScriptState) (s : IsSound d) (whole : IsWhole d.world) (p : ℕ) (
   first = moves (starts d s whole) (makes_cell d.world (own_of bag) null begins.own) tt (named d) (λ u. omega arith) (λ u never. absurd never)
 
   second-free : IsEmptyAt one_cell.cells (stack_of bag)
-  second-free = (
-    omega (arith, begins.stack.0, length-set d.world.cells (own_of bag) (Some null)),
-    at-other d.world.cells (own_of bag) (stack_of bag) (Some null) None (λ same. begins.two (sym same)) ∙ begins.stack.1,
-  )
+  second-free = grind (arith, common_steps)
 
   both : IsMidway d two_cells (λ u. named d u + one (right_to (own_of bag)) u + one (right_to (stack_of bag)) u)
   both =
@@ -73,10 +55,7 @@ module _ (d : ScriptState) (s : IsSound d) (whole : IsWhole d.world) (p : ℕ) (
 
   -- it has no other storage
   none-there : (es : List (Entry Val)) → StandsOn w bag es → es ≡ []
-  none-there es stands =
-      let now : entry_at w.cells (stack_of bag) ≡ Some null =
-      ap (λ (v : World Val). entry_at v.cells (stack_of bag)) begins.world ∙ at-same one_cell.cells (stack_of bag) (Some null) None second-free.0 in
-      empty-of es (ap held_in (sym stands.stack.begins) ∙ ap held_in now)
+  none-there es stands = grind (arith, common_steps)
 
   bags-now : AreBags after_bag
   bags-now n b at = elim (cases_eq n (length d.bags)) [
@@ -101,26 +80,10 @@ module _ (d : ScriptState) (s : IsSound d) (whole : IsWhole d.world) (p : ℕ) (
   bag_begun-leaves =
       let standings : w.standings ≡ d.world.standings = ap (λ (v : World Val). v.standings) begins.world in
       let dated = dated-same d after_bag refl standings in
-      record {
-        line = refl;
-        places = refl;
-        sound = sound-after d after_bag s m.frames.passes (refl, refl, refl, refl, refl, refl) dated p live
-            (stocked-as d after_bag s.stocked refl refl dated.long m.frames.slots stored-now)
-            (λ u. omega (arith, m.ledger u, bag-given d.bags bag u)) (has-stored stored-now m.lists) bags-now m.spare
-            (layered-less d after_bag s.layered m.frames.values refl)
-            (rw m.frames.slots.home (record {
-              owners = s.home.owners;
-              cells = s.home.cells;
-              collectors = s.home.collectors;
-              queues = s.home.queues;
-              newest = s.home.newest;
-              stacks = s.home.stacks;
-            }))
-            (omega (arith, m.frames.slots.made, s.made));
-        dated = dated;
-        calls = m.frames.passes.calls;
-        home = m.frames.slots.home;
-      }
+      leaves-so d after_bag s (same-line d) dated p live m.frames.passes m.frames.slots.home
+      (stocked-as d after_bag s.stocked refl refl dated.long m.frames.slots stored-now) (λ u. omega (arith, m.ledger u, bag-given d.bags bag u))
+      (has-stored stored-now m.lists) bags-now m.spare (layered-less d after_bag s.layered m.frames.values refl) (assumption s.home)
+      (omega (arith, m.frames.slots.made, s.made))
 
 -- ---- a bag is closed
 
@@ -321,31 +284,12 @@ module _ (d : ScriptState) (s : IsSound d) (whole : IsWhole d.world) (p n : ℕ)
         (let here : IsDatedWithin d last =
         subst (λ (v : World Val). IsDatedWithin d (record (in_world (without_bag d n) v) { dates = dates })) world-is within in
         let dated = dated-all d last s.stocked b.frames.slots.slots here in
-        let at : (hs : List (Option OwnerOrCell)) → AtHome d.world.home hs → AtHome last.world.home hs =
-        λ hs all. subst (λ (home : SpaceId). AtHome home hs) (sym b.frames.slots.home) all in
-        record {
-          line = refl;
-          places = refl;
-          sound = sound-after d last s b.frames.passes (refl, refl, refl, refl, refl, refl) dated p live
-              (record {
-                named = λ j some. called j some (name_at d j) refl (s.stocked.named j (b.frames.slots.taken j some));
-                names = s.stocked.names ∙ sym b.frames.slots.slots;
-                dates = dated.long ∙ s.stocked.dates ∙ sym b.frames.slots.slots;
-                few = s.stocked.few;
-              })
-              (λ u. omega (arith, b.ledger u)) lists-now
-              (bags-still rest last (others-were d n bag is s.bags) refl b.bags b.frames.slots.home (λ j x. refl)) b.spare
-              (layered-less d last s.layered b.frames.values refl)
-              (record {
-                owners = at d.owners s.home.owners;
-                cells = at d.cells s.home.cells;
-                collectors = at d.collectors s.home.collectors;
-                queues = at d.queues s.home.queues;
-                newest = at d.newest s.home.newest;
-                stacks = at d.stacks s.home.stacks;
-              })
-              (omega (arith, b.frames.slots.made, s.made));
-          dated = dated;
-          calls = b.frames.passes.calls;
-          home = b.frames.slots.home;
+        leaves-so d last s (same-line d) dated p live b.frames.passes b.frames.slots.home
+        (record {
+          named = λ j some. called j some (name_at d j) refl (s.stocked.named j (b.frames.slots.taken j some));
+          names = s.stocked.names ∙ sym b.frames.slots.slots;
+          dates = dated.long ∙ s.stocked.dates ∙ sym b.frames.slots.slots;
+          few = s.stocked.few;
         })
+        (λ u. omega (arith, b.ledger u)) lists-now (bags-still rest last (others-were d n bag is s.bags) refl b.bags b.frames.slots.home (λ j x. refl)) b.spare
+        (layered-less d last s.layered b.frames.values refl) (assumption s.home) (omega (arith, b.frames.slots.made, s.made)))

@@ -1,19 +1,9 @@
 -- What is always true of a desk is true after a bag begins or ends, and after numbers come into it and go
-use Rattle.sdd_script_model.proofs.Words.{◌≡◌, ◌≢◌, ◌⊎◌, ◌+◌, ◌≤◌, inl, inr, ℕ, List, [], ◌∷◌, ◌++◌, Option, Some, None, IsSome, is_some, length, slice_index_or, slice_set, refl, sym, ap, ◌∙◌, subst, arith, ◌*◌, ◌^◌, not, cases_eq, entry_at, is_waiting, Claim, right_to, one, IsLedger, World, IsPlaceOf, standing_at, value_at, held_in, IsWhole, IsAmong, Apart, Entry, cell_in, HasSameCells, IsBag, AreBags, AreSpare, HasStorages, IsKept, IsStored, StandsOn, HasLists, NumberBag, ScriptState, IsDated, IsListCell, IsSecondCell, bag_at, bag_length, name_at, with_bag_at, without_bag, number_in, HoldsOnlyOlder, IsCalled, IsSound, SlotsHaveNames, contained, named, Val, holdings_of, link_of, storage_in}
-use Rattle.sdd_core.specs.declared.tag.Tag.TheVariants.{None as no_tag}
-use Rattle.sdd_lists.specs.Stack.{home_in}
-use Rattle.sdd_bag.specs.Bag.{IsOfCells}
-use Rattle.sdd_script_model.specs.Bags as bags_specs
-use Rattle.sdd_script_model.proofs.Frames.{Passes}
-use Rattle.sdd_script_model.proofs.BagChains.{IsInHand, bag-changed, bag-less, begins-in_hand, goes-many, has-apart, let_go_many, many-bare, many-other, many-values, many-waits, own_of, stack_of}
-use Rattle.sdd_script_model.proofs.Chains.{IsMidway, LeavesSound, among-apart, link-apart-from, list-apart-from, list-right, second-apart-from, second-right, sound-after, starts}
-use Rattle.sdd_script_model.proofs.Entry.{at-other, at-same}
-use Rattle.sdd_script_model.proofs.Entry.{inside as inside-list}
-use Rattle.sdd_script_model.proofs.Layers.{layered-less}
-use Rattle.sdd_script_model.proofs.Listed.{apart-item, apart-own, has-stored, links-apart, same-list}
-use Rattle.sdd_script_model.proofs.ListChanges.{among-or}
+use Rattle.sdd_script_model.proofs.Words.{◌≡◌, ◌≢◌, ◌⊎◌, ◌+◌, ◌≤◌, inl, inr, ℕ, List, [], ◌∷◌, ◌++◌, Option, Some, None, IsSome, is_some, length, slice_index_or, slice_set, refl, sym, ap, ◌∙◌, subst, arith, ◌*◌, ◌^◌, not, cases_eq, entry_at, is_waiting, Claim, right_to, one, IsLedger, World, IsPlaceOf, standing_at, value_at, held_in, IsWhole, IsAmong, Apart, Entry, HasSameCells, IsBag, AreBags, AreSpare, HasStorages, IsStored, StandsOn, HasLists, NumberBag, ScriptState, IsDated, IsListCell, IsSecondCell, bag_at, bag_length, name_at, with_bag_at, without_bag, number_in, HoldsOnlyOlder, IsCalled, IsSound, SlotsHaveNames, contained, named, Val, holdings_of, link_of, storage_in, home_in, IsOfCells, no_tag, common_steps}
+use Rattle.sdd_script_model.proofs.Lemmas.{Passes, IsMidway, LeavesSound, among-apart, link-apart-from, list-apart-from, list-right, second-apart-from, second-right, leaves-so, same-line, at-other, at-same, layered-less, apart-item, apart-own, has-stored, links-apart, same-list, among-or, BagsStay, IsReserved, bags-still, off-held, stored-on, starts, inside as inside-list}
+use Rattle.sdd_script_model.proofs.BagChains.{IsInHand, bag-less, begins-in_hand, goes-many, has-apart, let_go_many, many-bare, many-other, many-values, many-waits, own_of, stack_of}
 use Rattle.sdd_script_model.proofs.StackGoing.{IsDatedWithin, dated-all}
-use Rattle.sdd_script_model.proofs.Storing.{BagsStay, IsReserved, bags-still, off-held, stored-on}
+use Rattle.sdd_script_model.specs.Bags as bags_specs
 
 -- ---- which storages there are
 
@@ -29,11 +19,6 @@ among-both j (e ∷ gone) rest (inr there) = elim (among-both j gone rest there)
 among-behind_front : (j : ℕ) (gone rest : List (Entry Val)) → IsAmong j rest → IsAmong j (gone ++ rest)
 among-behind_front j [] rest among = among
 among-behind_front j (e ∷ gone) rest among = inr (among-behind_front j gone rest among)
-
-among-front : (j : ℕ) (gone rest : List (Entry Val)) → IsAmong j gone → IsAmong j (gone ++ rest)
-among-front j [] rest among = absurd among
-among-front j (e ∷ gone) rest (inl here) = inl here
-among-front j (e ∷ gone) rest (inr there) = inr (among-front j gone rest there)
 
 module _ (d : ScriptState) (n : ℕ) (old : NumberBag) (is : bag_at d.bags n ≡ Some old) where
   abbrev pub others : ScriptState
@@ -66,9 +51,7 @@ module _ (d : ScriptState) (n : ℕ) (old : NumberBag) (is : bag_at d.bags n ≡
 
   -- what another bag is, is no bag's that is spent
   not-spent : (m : ℕ) (b : NumberBag) → bag_at others.bags m ≡ Some b → m ≢ n
-  not-spent m b at same =
-      let gone : bag_at others.bags n ≡ None = at-same d.bags n None None (inside-list d.bags n there-it) in
-      let never : None ≡ Some b = sym gone ∙ ap (λ (i : ℕ). bag_at others.bags i) (sym same) ∙ at in absurd (cc)
+  not-spent m b at same = grind (arith, common_steps)
 
   pub others-were : AreBags d → AreBags others
   others-were are m b at =
@@ -130,12 +113,6 @@ module _ (d : ScriptState) (n : ℕ) (old : NumberBag) (is : bag_at d.bags n ≡
 
 module _ (d : ScriptState) (s : IsSound d) (whole : IsWhole d.world) (p n : ℕ) (live : IsPlaceOf d.world p) (old bag : NumberBag)
     (is : bag_at d.bags n ≡ Some old) (cells : HasSameCells old bag) where
-  same-own : own_of old ≡ own_of bag
-  same-own = ap (λ x. x.cell) (sym cells.storage)
-
-  same-stack : stack_of old ≡ stack_of bag
-  same-stack = ap cell_in (sym cells.stack)
-
   its-home : IsOfCells d.world.home.cells bag
   its-home =
       let was = (s.bags n old is).home in
@@ -144,13 +121,7 @@ module _ (d : ScriptState) (s : IsSound d) (whole : IsWhole d.world) (p n : ℕ)
   -- as many rights
   pub as-many : (u : Claim) → contained (with_bag_at d n bag) u
       ≡ contained (others d n old is) u + one (right_to (own_of old)) u + one (right_to (stack_of old)) u
-  as-many u =
-      omega (
-        arith,
-        bag-changed d.bags n bag u (ap is_some is),
-        ap (λ (i : ℕ). one (right_to i) u) same-own,
-        ap (λ (i : ℕ). one (right_to i) u) same-stack,
-      )
+  as-many u = grind (arith, common_steps)
 
   -- ---- the world goes on so, and the other storages are on these entries
   module _ (w : World Val) (fs : List (Entry Val)) (names : List (Option ℕ)) (dates : List ℕ) where
@@ -178,24 +149,9 @@ module _ (d : ScriptState) (s : IsSound d) (whole : IsWhole d.world) (p n : ℕ)
     shows-sound f dated =
         let are = bags-still (others d n old is) (record d { world = w; bags = (others d n old is).bags; names = names }) (others-were d n old is s.bags) refl
         f.stay f.home f.still in
-        record {
-          line = refl;
-          places = refl;
-          sound = sound-after d after s f.passes (refl, refl, refl, refl, refl, refl) dated p live f.stocked f.ledger f.lists
-              (all-bags (join-bags d n old is w f.stay bag fs f.stands names are f.its (rw f.home its-home) f.unnamed)) f.spare f.layered
-              (rw f.home (record {
-                owners = s.home.owners;
-                cells = s.home.cells;
-                collectors = s.home.collectors;
-                queues = s.home.queues;
-                newest = s.home.newest;
-                stacks = s.home.stacks;
-              }))
-              f.made;
-          dated = dated;
-          calls = f.passes.calls;
-          home = f.home;
-        } where
+        leaves-so d after s (same-line d) dated p live f.passes f.home f.stocked f.ledger f.lists
+        (all-bags (join-bags d n old is w f.stay bag fs f.stands names are f.its (rw f.home its-home) f.unnamed)) f.spare f.layered (assumption s.home)
+        f.made where
           all-bags : AreBags (record d { world = w; bags = slice_set d.bags n (Some bag); names = names }) → AreBags after
           all-bags are m b at = (let was = are m b at in record { bag = was.bag; home = was.home; unnamed = was.unnamed })
 

@@ -1,15 +1,11 @@
 -- What is always true of a desk is true after each line on a bag
-use Rattle.sdd_script_model.proofs.Words.{◌≡◌, inl, inr, ℕ, List, [], ◌∷◌, ◌++◌, Option, Some, None, length, slice_index_or, slice_set, refl, sym, ap, subst, append-nil, World, IsPlaceOf, IsWhole, Entry, HasSameCells, IsBag, Body, PutsNumber, TakesNumber, StandsOn, LosesNames, BeginsLine, NumberBag, ScriptState, IsDated, bag_at, bag_length, with_bag_at, cell_in, Begins, IsSound, Val, storage_in}
-use Rattle.sdd_bag.specs.Overflow.{LiesOn, OverflowParts}
+use Rattle.sdd_script_model.proofs.Words.{◌≡◌, inl, inr, ℕ, List, [], ◌∷◌, ◌++◌, Option, Some, None, length, slice_index_or, slice_set, refl, sym, ap, subst, append-nil, World, IsPlaceOf, IsWhole, Entry, HasSameCells, IsBag, Body, PutsNumber, TakesNumber, StandsOn, LosesNames, BeginsLine, NumberBag, ScriptState, IsDated, bag_at, bag_length, with_bag_at, cell_in, Begins, IsSound, Val, storage_in, LiesOn, OverflowParts, PutsBehind, TakesAll}
 use Rattle.sdd_bag.specs.Storage.{AreEmpty}
-use Rattle.sdd_script_model.specs.BagLines.{PutsBehind, TakesAll}
 use Rattle.sdd_lists.specs.declared.stack.Stack.{Stack}
+use Rattle.sdd_script_model.proofs.Lemmas.{LeavesSound, dated-same, same-list}
 use Rattle.sdd_script_model.proofs.BagAdding.{added-dated, added-leaves, added-long}
 use Rattle.sdd_script_model.proofs.BagChains.{let_go_many, removes-all, removes-one, stack_of}
 use Rattle.sdd_script_model.proofs.BagGoing.{gone-leaves, renumbered-leaves}
-use Rattle.sdd_script_model.proofs.Chains.{LeavesSound}
-use Rattle.sdd_script_model.proofs.Dates.{dated-same}
-use Rattle.sdd_script_model.proofs.Listed.{same-list}
 use Rattle.sdd_script_model.proofs.StackGoing.{IsDatedWithin, dated-all}
 
 module _ (d : ScriptState) (s : IsSound d) (whole : IsWhole d.world) (p n : ℕ) (live : IsPlaceOf d.world p) (old bag : NumberBag)

@@ -1,28 +1,14 @@
 -- The deleted entries behind an item are let go of, and what the script's desk is then
-use Rattle.sdd_script_model.proofs.Words.{◌≡◌, ◌≢◌, ◌⊎◌, ◌+◌, ◌≤◌, inl, inr, ℕ, Bool, true, false, List, [], ◌∷◌, Option, Some, None, is_some, slice_index_or, refl, sym, ap, ◌∙◌, subst, arith, ◌==◌, if◌then◌else◌, cases_eq, Tag, Both, Second, entry_at, CellContents, is_waiting, Claim, IsLedger, right_to, World, IsPlaceOf, value_at, held_in, IsWhole, once-waits, ledger-laws, spliced, EndsWith, IsAmong, AreLinked, Entry, IsList, first_slot, is_deleted, left, trimmed, IsLetGo, QueueCells, linked-ends, list-ends, trimmed-list, tag_in, let-go-kept, trim-other, trim-values, among-spliced, IsStored, AreNumbers, Begins, HasLists, HoldsEntry, IsListed, IsLoose, ScriptState, IsListCell, IsSecondCell, in_world, name_at, slot_at, IsThere, IsSound, contained, named, Val, holdings_of, link_of}
-use Rattle.sdd_core.specs.declared.tag.Tag.TheVariants.{None as no_tag}
-use Rattle.sdd_lists.proofs.LetGo.{gone-trimmed, trimmed-or}
+use Rattle.sdd_script_model.proofs.Words.{◌≡◌, ◌≢◌, ◌⊎◌, ◌+◌, ◌≤◌, inl, inr, ℕ, Bool, true, false, List, [], ◌∷◌, Option, Some, None, is_some, slice_index_or, refl, sym, ap, ◌∙◌, subst, arith, ◌==◌, if◌then◌else◌, cases_eq, Tag, Both, Second, entry_at, CellContents, is_waiting, Claim, IsLedger, right_to, World, IsPlaceOf, value_at, held_in, IsWhole, once-waits, ledger-laws, spliced, EndsWith, IsAmong, AreLinked, Entry, IsList, first_slot, is_deleted, left, trimmed, IsLetGo, QueueCells, linked-ends, list-ends, trimmed-list, tag_in, let-go-kept, trim-other, trim-values, among-spliced, IsStored, AreNumbers, Begins, HasLists, HoldsEntry, IsListed, IsLoose, ScriptState, IsListCell, IsSecondCell, in_world, name_at, slot_at, IsThere, IsSound, contained, named, Val, holdings_of, link_of, gone-trimmed, trimmed-or, no_tag}
 use Rattle.sdd_lists.proofs.Linking.{tail-cut, trimmed-around, trimmed-queue}
 use Rattle.sdd_script_model.specs.Link.{IsBehind}
-use Rattle.sdd_script_model.proofs.Chains.{IsMidway, LeavesSound, finishes, link-apart-from, own-midway, starts}
-use Rattle.sdd_script_model.proofs.Listed.{AreOwn, StaysGone, StaysLoose, among-inside, among-link, apart-item, apart-own, as-before, has-changed, has-kept, link-apart, link-inside, links-apart, loose-as, loose-on, same-list, unique}
-use Rattle.sdd_script_model.proofs.ListChanges.{among-or}
+use Rattle.sdd_script_model.proofs.Lemmas.{IsMidway, LeavesSound, finishes, link-apart-from, own-midway, AreOwn, StaysGone, StaysLoose, among-inside, among-link, apart-item, apart-own, as-before, has-changed, has-kept, link-apart, link-inside, links-apart, loose-as, loose-on, same-list, unique, among-or, idle-named, IsReserved, off-among, there-apart, starts}
 use Rattle.sdd_script_model.proofs.QueuePushing.{linked-where}
-use Rattle.sdd_script_model.proofs.Stocked.{idle-named}
 use Rattle.sdd_script_model.proofs.StackChains.{between, front-goes, midway}
-use Rattle.sdd_script_model.proofs.Storing.{IsReserved, off-among, there-apart}
 use Rattle.sdd_script_model.proofs.StackGoing.{IsDatedWithin, dated-all}
+use Rattle.sdd_script_model.proofs.ListsApart.{left-among}
 
 -- ---- what is left of a list from an entry on
-
-left-by : (s : ℕ) (e : Entry Val) (es : List (Entry Val)) → (IsAmong s (left es) → IsAmong s es) → (b : Bool) →
-    IsAmong s (if b then left es else e ∷ es) → IsAmong s (e ∷ es)
-left-by s e es more true among = inr (more among)
-left-by s e es more false among = among
-
-left-was : (s : ℕ) (es : List (Entry Val)) → IsAmong s (left es) → IsAmong s es
-left-was s [] among = among
-left-was s (e ∷ es) among = left-by s e es (left-was s es) (is_deleted e) among
 
 numbers-by : (e : Entry Val) (es : List (Entry Val)) → AreNumbers (e ∷ es) → AreNumbers (left es) → (b : Bool) →
     AreNumbers (if b then left es else e ∷ es)
@@ -122,7 +108,7 @@ module _ (begins : ℕ → Type 0) (seconds : (c b : ℕ) → Type 0) (stored : 
   now-was : (s : ℕ) → IsAmong s now → IsAmong s full
   now-was s among =
       spliced-was e.slot (e ∷ left rest) s full full
-      (λ other. in-full s (elim other [ inl is ↦ inl is | inr more ↦ inr (left-was s rest more) ])) (λ still. still) among
+      (λ other. in-full s (elim other [ inl is ↦ inl is | inr more ↦ inr (left-among s rest more) ])) (λ still. still) among
 
   in-list : (s : ℕ) → IsAmong s full → IsListed begins v s
   in-list s among = record { cell = c; entries = full; begun = its; list = list; among = among }
@@ -242,7 +228,7 @@ module _ (begins : ℕ → Type 0) (seconds : (c b : ℕ) → Type 0) (stored : 
     entries = left es;
     list = after-cut;
     numbers = numbers-left es numbers;
-    free = λ s among is. free s (left-was s es among) (listed s is);
+    free = λ s among is. free s (left-among s es among) (listed s is);
   }
 
   -- and behind one that is left
@@ -258,7 +244,7 @@ module _ (begins : ℕ → Type 0) (seconds : (c b : ℕ) → Type 0) (stored : 
         entries = rest;
         list = list-ends link_of cut (left es) e rest found.2 after-cut.linked;
         numbers = (numbers-ends (left es) e rest found.2 (numbers-left es numbers)).1;
-        free = λ j more is. free j (left-was j es (among-behind j (left es) e rest found.2 (inr more))) (listed j is);
+        free = λ j more is. free j (left-among j es (among-behind j (left es) e rest found.2 (inr more))) (listed j is);
       })
 
   -- one that is let go of has nothing behind it
@@ -368,7 +354,7 @@ first-among (e ∷ es) j is = inl (let same : e.slot ≡ j = cc in same)
 pub behind-named : (d : ScriptState) (s : IsSound d) (c : ℕ) (t : Tag) (es : List (Entry Val)) → IsList link_of d.world c t es →
     (IsReserved d d.world c → ⊥) → (j : ℕ) → first_slot (left es) ≡ Some j → is_some (name_at d j) ≡ true
 behind-named d s c t es list off j is =
-    let among = left-was j es (first-among (left es) j is) in
+    let among = left-among j es (first-among (left es) j is) in
     let no_storage = off-among d d.world (named d) s.ledger (λ n b fs at stands. stands) c j es off (ap held_in list.begins) list.linked among in
     let inner = among-inside d.world (λ u. named d u + contained d u) s.ledger c j es (ap held_in list.begins) list.linked among in
     let stands = ((ledger-laws holdings_of d.world).tells _ s.ledger).stands j (omega (arith, inner)) in

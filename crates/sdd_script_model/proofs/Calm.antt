@@ -1,16 +1,10 @@
 -- What waits, after a step in which nobody comes or goes and no guard is opened or closed
-use Rattle.sdd_script_model.proofs.Words.{sum_by, get_or-map, length-map, with_place, Waiting, having_seen, Job, without, collector_closed, is_for, without_collector, all_awaiting, listed-without, all_awaiting-waiting, Gives, Gives-collector_closed, one_where, all_awaiting-guards, is_waiting_in}
-use Rattle.std.proofs.lemmas.List.Elements.{Contains-push}
-use Rattle.sdd_participants.specs.EpochState as time
-use Rattle.sdd_participants.specs.Waiting.{fresh}
-use Rattle.sdd_space.specs.WorldChanges as steps
+use Rattle.sdd_script_model.proofs.Words.{sum_by, get_or-map, length-map, with_place, Waiting, having_seen, Job, without, collector_closed, is_for, without_collector, all_awaiting, listed-without, all_awaiting-waiting, Gives, Gives-collector_closed, one_where, all_awaiting-guards, is_waiting_in, Contains-push, fresh, each-place, listed-awaiting, listed-place, rest-contains, still-waits, all_awaiting-found, ◌≡◌, ◌⊎◌, ℕ, ◌<◌, ◌≤◌, Bool, true, false, List, [], ◌∷◌, length, count_by, inl, inr, refl, sym, ap, ◌∙◌, subst, arith, false≢true, Contains, LimboEntry, Item, EpochState, nobody, Participant, is_waiting, World, place_at, IsWhole, Val, holdings_of, length-set}
 use Rattle.sdd_space.proofs.Collecting.{goes}
-use Rattle.sdd_space.proofs.Housed.{each-place}
-use Rattle.sdd_space.proofs.Listed.{listed-awaiting, listed-place, rest-contains}
-use Rattle.sdd_space.proofs.Opening.{still-waits}
-use Rattle.sdd_space.proofs.Own.{all_awaiting-found}
+use Rattle.sdd_script_model.proofs.Lemmas.{at-same}
 use Rattle.sdd_script_model.proofs.Awaiting.{AwaitsAt, awaits-waits, is_of, of-same, one-place, times_waiting, times_with, whole-once}
-use Rattle.sdd_script_model.proofs.Terms.{◌≡◌, ◌⊎◌, ℕ, ◌<◌, ◌≤◌, Bool, true, false, List, [], ◌∷◌, length, count_by, inl, inr, refl, sym, ap, ◌∙◌, subst, arith, false≢true, Contains, LimboEntry, Item, EpochState, nobody, Participant, is_waiting, World, place_at, IsWhole, Val, holdings_of, length-set, at-same}
+use Rattle.sdd_participants.specs.EpochState as time
+use Rattle.sdd_space.specs.WorldChanges as steps
 
 -- the places are as before, what waits goes on to wait where it did, and what begins to wait waits with p
 pub record Calmly (p : ℕ) (v w : World Val) : Type 0 where

@@ -1,114 +1,56 @@
 -- What is always true of a desk is true after each call of a cell
-use Rattle.sdd_script_model.proofs.Words.{◌≡◌, ◌≢◌, subst, ℕ, ◌+◌, ◌<◌, ◌≤◌, true, List, [], ◌∷◌, ◌++◌, Option, Some, None, IsSome, length, slice_set, refl, sym, ap, ◌∙◌, arith, inl, Tag, Both, Second, IsEmptyAt, entry_at, CellContents, Shared, is_waiting, Claim, right_to, one, owner_held, makes_cell, changes_cell, spends_cell, closes_cell, OwnerOrCell, IsOf, is_out, held_in, with_cell, without_cell, cell_closed, IsWhole, World, IsPlaceOf, standing_at, value_at, out-some, out-waits-not, OwnerName, Val, link_of, ScriptState, IsDated, holding_at, name_at, cell_of, slot_of, sole_slot, shared_slot, in_world, shared_once_more, slot_put, owners_put, owners_taken, cell_as, owner_as, IsSound, named, named_among, IsStored}
-use Rattle.std.proofs.Common.{if◌then◌else◌}
-use Rattle.sdd_core.specs.declared.tag.Tag.TheVariants.{None as no_tag}
+use Rattle.sdd_script_model.proofs.Words.{◌≡◌, ℕ, ◌+◌, ◌<◌, ◌≤◌, true, List, [], ◌∷◌, ◌++◌, Option, Some, None, IsSome, length, slice_set, refl, sym, ap, ◌∙◌, arith, inl, Tag, IsEmptyAt, entry_at, CellContents, Shared, is_waiting, Claim, right_to, one, owner_held, makes_cell, changes_cell, spends_cell, closes_cell, OwnerOrCell, IsOf, is_out, held_in, with_cell, without_cell, cell_closed, IsWhole, World, IsPlaceOf, standing_at, out-some, out-waits-not, OwnerName, Val, ScriptState, IsDated, holding_at, name_at, cell_of, in_world, shared_once_more, slot_put, owners_put, owners_taken, cell_as, owner_as, IsSound, named, named_among, IsStored, if◌then◌else◌, FitsSole, FitsShared, FitsCell, MayShare, IsCell, no_tag, common_steps}
+use Rattle.sdd_script_model.proofs.Lemmas.{name-some, slot-inside, closed-other, dated-same, dated-stands, dated-either, IsPut, accounts, cell-given, cell-out, cell-spent, put-spent, some-holding, taken-given, tells, some-entry, closed-bare, AtHome, IsMidway, LeavesSound, at_home-given, at_home-spent, finishes, midway-as, moves, retags, shares-one, BagsStay, off-held, off-other, starts}
 use Rattle.sdd_space.specs.OwnerOrCell as holding
-use Rattle.sdd_script_model.specs.Script.{FitsSole, FitsShared, FitsCell, MayShare}
-use Rattle.sdd_script_model.specs.Shown.{IsCell}
-use Rattle.sdd_script_model.proofs.Stocked.{name-some, slot-inside}
-use Rattle.sdd_script_model.proofs.Dates.{closed-other, dated-same, dated-stands, dated-either}
-use Rattle.sdd_script_model.proofs.Counting.{IsPut, accounts, cell-given, cell-out, cell-spent, put-spent, some-holding, taken-given, tells}
-use Rattle.sdd_script_model.proofs.Links.{closed-bare, same-once}
-use Rattle.sdd_script_model.proofs.Chains.{AtHome, IsMidway, LeavesSound, at_home-given, at_home-spent, finishes, midway-as, moves, retags, retags-link, shares-one, starts}
-use Rattle.sdd_script_model.proofs.Storing.{BagsStay, off-held, off-other}
 
 -- ---- what goes into a cell
 
-sole-owner : (x : Option OwnerOrCell) → IsSome (sole_slot x) → IsSome (slot_of x)
-sole-owner None e = absurd (cc)
-sole-owner (Some (holding.owned k home)) e = e
-sole-owner (Some (holding.shared k home)) e = absurd (cc)
-sole-owner (Some (holding.atomic_owned c home)) e = absurd (cc)
-sole-owner (Some (holding.atomic_shared c home)) e = absurd (cc)
-sole-owner (Some (holding.atomic_raw c home)) e = absurd (cc)
-
-shared-owner : (x : Option OwnerOrCell) → IsSome (shared_slot x) → IsSome (slot_of x)
-shared-owner None e = absurd (cc)
-shared-owner (Some (holding.owned k home)) e = absurd (cc)
-shared-owner (Some (holding.shared k home)) e = e
-shared-owner (Some (holding.atomic_owned c home)) e = absurd (cc)
-shared-owner (Some (holding.atomic_shared c home)) e = absurd (cc)
-shared-owner (Some (holding.atomic_raw c home)) e = absurd (cc)
-
 pub put-sole : (d : ScriptState) (x : Option OwnerName) → FitsSole d x → IsPut d x
-put-sole d None fits = tt
-put-sole d (Some o) fits = sole-owner (holding_at d.owners o.0) fits
+put-sole d x fits = grind (arith, common_steps)
 
 pub put-shared : (d : ScriptState) (x : Option OwnerName) → FitsShared d x → IsPut d x
-put-shared d None fits = tt
-put-shared d (Some o) fits = shared-owner (holding_at d.owners o.0) fits
+put-shared d x fits = grind (arith, common_steps)
 
 pub put-fits : (d : ScriptState) (cell : Option OwnerOrCell) (x : Option OwnerName) → FitsCell d cell x → IsPut d x
-put-fits d cell None fits = tt
-put-fits d None (Some o) fits = absurd fits
-put-fits d (Some (holding.owned k home)) (Some o) fits = absurd fits
-put-fits d (Some (holding.shared k home)) (Some o) fits = absurd fits
-put-fits d (Some (holding.atomic_owned c home)) (Some o) fits = sole-owner (holding_at d.owners o.0) fits
-put-fits d (Some (holding.atomic_shared c home)) (Some o) fits = shared-owner (holding_at d.owners o.0) fits
-put-fits d (Some (holding.atomic_raw c home)) (Some o) fits = absurd fits
+put-fits d cell x h = grind (arith, common_steps)
 
 -- ---- cells and owners of a kind
 
 cell_as-number : (like : Option OwnerOrCell) (c : ℕ) (d : ScriptState) → cell_of (Some (cell_as like c d)) ≡ Some c
-cell_as-number None c d = refl
-cell_as-number (Some (holding.owned k home)) c d = refl
-cell_as-number (Some (holding.shared k home)) c d = refl
-cell_as-number (Some (holding.atomic_owned k home)) c d = refl
-cell_as-number (Some (holding.atomic_shared k home)) c d = refl
-cell_as-number (Some (holding.atomic_raw k home)) c d = refl
+cell_as-number like c d = grind arith
 
 cell_as-home : (like : Option OwnerOrCell) (c : ℕ) (d : ScriptState) → IsOf d.world.home (cell_as like c d)
-cell_as-home None c d = refl
-cell_as-home (Some (holding.owned k home)) c d = refl
-cell_as-home (Some (holding.shared k home)) c d = refl
-cell_as-home (Some (holding.atomic_owned k home)) c d = refl
-cell_as-home (Some (holding.atomic_shared k home)) c d = refl
-cell_as-home (Some (holding.atomic_raw k home)) c d = refl
+cell_as-home like c d = grind arith
 
 owner_as-home : (like : Option OwnerOrCell) (k : ℕ) (d : ScriptState) → IsOf d.world.home (owner_as like k d)
-owner_as-home None k d = refl
-owner_as-home (Some (holding.owned j home)) k d = refl
-owner_as-home (Some (holding.shared j home)) k d = refl
-owner_as-home (Some (holding.atomic_owned j home)) k d = refl
-owner_as-home (Some (holding.atomic_shared j home)) k d = refl
-owner_as-home (Some (holding.atomic_raw j home)) k d = refl
+owner_as-home like k d = grind arith
 
 -- ---- names that are spent and given
 
 module _ (d : ScriptState) where
   put-home : (x : Option OwnerName) → AtHome d.world.home d.owners → AtHome d.world.home (owners_put d.owners x)
-  put-home None home = home
-  put-home (Some o) home = at_home-spent d.world.home d.owners o.0 home
+  put-home x home = grind (arith, common_steps)
 
   taken-home : (owners : List (Option OwnerOrCell)) (like : Option OwnerOrCell) (held : Option ℕ) → AtHome d.world.home owners →
       AtHome d.world.home (owners_taken d owners like held)
-  taken-home owners like None home = home
-  taken-home owners like (Some k) home = at_home-given d.world.home owners (owner_as like k d) (owner_as-home like k d) home
+  taken-home owners like held home = grind (arith, common_steps)
 
 -- the dates after an owner of this slot, or none, is given up, and the world is this
 abbrev pub dates_spilled : ScriptState → World Val → Option ℕ → List ℕ
 dates_spilled d w None = d.dates
 dates_spilled d w (Some k) = if is_waiting (standing_at w k) then slice_set d.dates k d.moment else d.dates
 
-one-slot : (j k : ℕ) → Some j ≡ Some k → j ≡ k
-one-slot j k e = cc
-
 module _ (d : ScriptState) (s : IsSound d) where
   -- ---- what is in a cell with a name
 
-  cell-some : (x : Option CellContents) → IsSome x → (cell : CellContents) × (x ≡ Some cell)
-  cell-some None e = absurd (cc)
-  cell-some (Some cell) e = (cell, refl)
-
-  -- the cell of a name is there: its right has one
-  named-cell : (n c : ℕ) → cell_of (holding_at d.cells n) ≡ Some c → IsSome (entry_at d.world.cells c)
-  named-cell n c named =
-      let h = some-holding cell_of refl (holding_at d.cells n) c named in
-      ((tells d s).alone c (omega (arith, cell-spent d.owners d.cells d.collectors n c h.0 h.1 h.2 (right_to c), same-once c))).0
+  -- the right to the cell of a name is outside
+  named-right : (owners : List (Option OwnerOrCell)) (n c : ℕ) → cell_of (holding_at d.cells n) ≡ Some c →
+      1 ≤ named_among owners d.cells d.collectors (right_to c)
+  named-right owners n c named = grind (arith, common_steps)
 
   pub cell-there : (n c : ℕ) → cell_of (holding_at d.cells n) ≡ Some c → (cell : CellContents) × IsCell d n c cell
   cell-there n c named =
-      let there = cell-some (entry_at d.world.cells c) (named-cell n c named) in
+      let there = some-entry (entry_at d.world.cells c) ((tells d s).alone c (omega (arith, named-right d.owners n c named))).0 in
       (there.0, record { named = named; holds = there.1 })
 
   -- the item that a cell holds is out, in a slot that has a name and a date
@@ -118,11 +60,8 @@ module _ (d : ScriptState) (s : IsSound d) where
   -- it is no storage of a bag
   pub held-apart : (n c k : ℕ) (cell : CellContents) → IsCell d n c cell → cell.held ≡ Some k → IsStored d.bags d.world k → ⊥
   held-apart n c k cell is held =
-      let h = some-holding cell_of refl (holding_at d.cells n) c is.named in
       let stays : BagsStay d.bags d.world d.world = λ m b es at stands. stands in
-      let off =
-      off-other d d.world (named d) s.ledger stays c
-      (omega (arith, cell-spent d.owners d.cells d.collectors n c h.0 h.1 h.2 (right_to c), same-once c)) in
+      let off = off-other d d.world (named d) s.ledger stays c (omega (arith, named-right d.owners n c is.named)) in
       off-held d d.world (named d) s.ledger stays c k (λ x. off (inl x)) (ap held_in is.holds ∙ held)
 
   pub held-named : (n c k : ℕ) (cell : CellContents) → IsCell d n c cell → cell.held ≡ Some k → IsSome (name_at d k)
@@ -160,25 +99,11 @@ module _ (d : ScriptState) (s : IsSound d) where
       abbrev pub after_tagged : ScriptState
       after_tagged = in_world d (with_cell d.world c (record cell { tag = tag }))
 
-      retagged-leaves : IsMidway d after_tagged.world (named d) → LeavesSound d after_tagged
-      retagged-leaves m =
-          finishes d after_tagged.world d.owners d.cells d.collectors d.dates s m
-          (λ u. refl) (s.home.owners, s.home.cells, s.home.collectors) (dated-same d after_tagged refl refl) p live
-
-      -- of a cell with a name
       pub tagged-leaves : (n : ℕ) → cell_of (holding_at d.cells n) ≡ Some c → LeavesSound d after_tagged
       tagged-leaves n is =
-          let h = some-holding cell_of refl (holding_at d.cells n) c is in
-          retagged-leaves (retags (starts d s whole) c cell (record cell { tag = tag }) holds refl
-          (omega (arith, cell-spent d.owners d.cells d.collectors n c h.0 h.1 h.2 (right_to c), same-once c)))
-
-      -- or of the link of an item
-      pub link-leaves : (k : ℕ) (x : Val) → (IsStored d.bags d.world k → ⊥) → value_at d.world k ≡ Some x → link_of x ≡ c → tag ≢ Both → cell.tag ≢ Second →
-          LeavesSound d after_tagged
-      link-leaves k x off there is plain kept =
-          let linked = ap (λ (i : ℕ). entry_at d.world.cells i) is ∙ holds in
-          retagged-leaves (subst (λ (i : ℕ). IsMidway d (with_cell d.world i (record cell { tag = tag })) (named d)) is
-          (retags-link (starts d s whole) k x cell (record cell { tag = tag }) off there linked refl plain kept))
+          finishes d after_tagged.world d.owners d.cells d.collectors d.dates s
+          (retags (starts d s whole) c cell (record cell { tag = tag }) holds refl (named-right d.owners n c is))
+          (λ u. refl) (s.home.owners, s.home.cells, s.home.collectors) (dated-same d after_tagged refl refl) p live
 
     -- ---- a cell with a name
     module _ (p n c : ℕ) (cell : CellContents) (live : IsPlaceOf d.world p) (is : IsCell d n c cell) where
@@ -188,8 +113,7 @@ module _ (d : ScriptState) (s : IsSound d) where
 
       -- so its right is outside
       own-right : (owners : List (Option OwnerOrCell)) (u : Claim) → u ≡ right_to c → 1 ≤ named_among owners d.cells d.collectors u
-      own-right owners u e =
-          rw e (omega (arith, cell-spent owners d.cells d.collectors n c its.0 its.1 its.2 (right_to c), same-once c))
+      own-right owners u e = rw e (named-right owners n c is.named)
 
       cell-right : (owners : List (Option OwnerOrCell)) (u : Claim) →
           named_among owners d.cells d.collectors u ≡ named_among owners (slice_set d.cells n None) d.collectors u + one (right_to c) u
@@ -253,7 +177,7 @@ module _ (d : ScriptState) (s : IsSound d) where
         by (Some k) e =
             let idle = out-waits-not (standing_at d.world k) (held-out n c k cell is e) in
             dated-either d after_cell_closed k idle (held-dated n c k cell is e) (ap (dates_spilled d (cell_closed d.world p c)) e)
-            (λ j apart waits. sym (ap is_waiting (closed-other d.world p c j (λ same. apart (one-slot j k (sym same ∙ held-in ∙ e))))) ∙ waits)
+            (λ j apart waits. sym (ap is_waiting (closed-other d.world p c j (λ same. apart (cc (held-in, e))))) ∙ waits)
 
       pub cell_closed-leaves : LeavesSound d after_cell_closed
       cell_closed-leaves =
@@ -281,8 +205,7 @@ module _ (d : ScriptState) (s : IsSound d) where
         shared-once (Some k) e may = shares-one (starts d s whole) k owners may.0 (held-apart n c k cell is e)
 
         still-free : (held : Option ℕ) → IsEmptyAt (shared_once_more d.world held owners).cells other
-        still-free None = free
-        still-free (Some k) = free
+        still-free held = grind arith
 
         once-dated : (held : Option ℕ) → IsDated d (copied_as held)
         once-dated None = dated-same d (copied_as None) refl refl

@@ -1,21 +1,17 @@
 -- A line as a chain of calls of its world, each with what it takes from outside and what it gives
-use Rattle.sdd_script_model.proofs.Words.{◌*◌, ◌^◌, max, if◌then◌else◌, ◌≡◌, ◌≢◌, Bool, true, false, ℕ, ◌+◌, ◌≤◌, List, [], ◌∷◌, ◌++◌, Option, Some, None, is_some, length, slice_set, inl, inr, refl, sym, ap, ◌∙◌, subst, arith, Tag, Both, Second, entry_at, Owned, Shared, CellContents, Claim, owner_of, right_to, claims, one, times_kept, IsLedger, Keeps, Moves, Sets, changes_cell, edits, shares, holds_slot, is_of, times_held, OwnerOrCell, SpaceId, IsOf, IsAlone, MayInPlace, World, IsPlaceOf, standing_at, value_at, held_in, with_cell, with_standing, with_value, IsWhole, ledger-laws, one_where, Val, body_of, holdings_of, link_of, owner_in, IsSharedBy, IsAmong, Entry, IsList, is_deleted, left as left_of, AreBags, AreSpare, IsStored, HasLists, ScriptState, IsDated, IsListCell, IsSecondCell, holding_at, shared_cell, AreCalls, IsSound, HoldsOnlyOlder, SlotsHaveNames, named, named_among, contained, stacked}
-use Rattle.sdd_space.specs.Ledger.{HasOwners}
-use Rattle.sdd_space.proofs.Accounts.{accounted-with_cell, accounted-with_value}
-use Rattle.sdd_space.proofs.Rights.{held-cell_changed, held-with_value}
-use Rattle.sdd_script_model.specs.Sound.{NamesAreAtHome}
-use Rattle.sdd_script_model.proofs.Attending.{attended-acts, left-entry, pushed-entry}
+use Rattle.sdd_script_model.proofs.Words.{◌*◌, ◌^◌, ◌≡◌, ◌≢◌, ℕ, ◌+◌, ◌≤◌, List, [], ◌∷◌, ◌++◌, Option, Some, None, is_some, length, slice_set, inl, inr, refl, ap, subst, arith, entry_at, Shared, CellContents, Claim, owner_of, right_to, claims, one, times_kept, IsLedger, Keeps, Moves, Sets, changes_cell, edits, shares, holds_slot, is_of, times_held, OwnerOrCell, SpaceId, IsOf, IsAlone, MayInPlace, World, IsPlaceOf, standing_at, value_at, held_in, with_cell, with_standing, with_value, IsWhole, ledger-laws, one_where, Val, body_of, holdings_of, link_of, owner_in, IsSharedBy, AreBags, AreSpare, IsStored, HasLists, ScriptState, IsDated, IsListCell, IsSecondCell, holding_at, AreCalls, IsSound, HoldsOnlyOlder, SlotsHaveNames, named, named_among, contained, slice_index_or, accounted-with_cell, accounted-with_value, held-cell_changed, held-with_value, NamesAreAtHome, AreDeferred, common_steps}
+use Rattle.sdd_script_model.proofs.Attending.{attended-acts, left-entry}
 use Rattle.sdd_script_model.proofs.Dates.{early-dated}
 use Rattle.sdd_script_model.proofs.Entry.{at-other, inside as inside-list}
 use Rattle.sdd_script_model.proofs.Frames.{Frames, IsQuiet, Passes, frames-on, frames-start, quiet-less}
 use Rattle.sdd_script_model.proofs.JobDates.{by-keeping}
 use Rattle.sdd_script_model.proofs.Kept.{kept-by, were-same}
 use Rattle.sdd_script_model.proofs.Layers.{layered-less}
-use Rattle.sdd_script_model.proofs.Counting.{some-holding, stack-spent}
-use Rattle.sdd_script_model.proofs.Links.{holds-so, less-edited, less-same, same-once}
-use Rattle.sdd_script_model.proofs.ListChanges.{has-beside, has-edited, has-retagged}
+use Rattle.sdd_script_model.proofs.StackedCells.{are-own, list-right, second-right}
+use Rattle.sdd_script_model.proofs.Links.{holds-so, less-edited, less-same}
+use Rattle.sdd_script_model.proofs.ListChanges.{has-beside, has-edited}
 use Rattle.sdd_script_model.proofs.Listed.{AreOwn, has-still, has-stored}
-use Rattle.sdd_script_model.proofs.Storing.{BagsStay, IsReserved, Spares, bags-still, off-among, off-link, off-other, off-owned, spare-as, spare-on, stays-as, stays-on, stored-still}
+use Rattle.sdd_script_model.proofs.Storing.{BagsStay, IsReserved, Spares, bags-still, off-link, off-other, off-owned, spare-as, spare-on, stays-as, stays-on, stored-still}
 use Rattle.sdd_script_model.proofs.Stocked.{stocked-as}
 
 -- what has a name is at home
@@ -26,11 +22,15 @@ pub at_home-spent : (home : SpaceId) (hs : List (Option OwnerOrCell)) (o : ℕ) 
 at_home-spent home hs o all n h e = all n h (left-entry hs o n h e).1
 
 pub at_home-given : (home : SpaceId) (hs : List (Option OwnerOrCell)) (x : OwnerOrCell) → IsOf home x → AtHome home hs → AtHome home (hs ++ Some x ∷ [])
-at_home-given home hs x own all n h e =
-    elim (pushed-entry hs x h n e) [
-      | inl last ↦ subst (IsOf home) last.1 own
-      | inr was ↦ all n h was
-    ]
+at_home-given home hs x own all n h e = grind (arith, common_steps)
+
+-- so are all that a desk names
+abbrev pub AreAllAtHome : SpaceId → ScriptState → Type 0
+AreAllAtHome home d =
+    AtHome home d.owners × AtHome home d.cells × AtHome home d.collectors × AtHome home d.queues × AtHome home d.newest × AtHome home d.stacks
+
+pub at-home : (d new : ScriptState) → new.world.home ≡ d.world.home → AreAllAtHome d.world.home new → NamesAreAtHome new
+at-home d new same home = let all : AreAllAtHome new.world.home new = rw same home in assumption all
 
 -- what an action leaves is sound, in the same line and with the same participants
 pub record LeavesSound (d new : ScriptState) : Type 0 where
@@ -49,29 +49,37 @@ IsSameLine d new =
     (new.moment ≡ d.moment) × (new.places ≡ d.places) × (new.guards ≡ d.guards) × (new.jobs ≡ d.jobs) × (new.deferred ≡ d.deferred)
     × (new.job_dates ≡ d.job_dates)
 
--- what is always true is so after calls that pass, of which one is p's
-pub sound-after : (d new : ScriptState) → IsSound d → Passes d.world new.world → IsSameLine d new → IsDated d new → (p : ℕ) → IsPlaceOf d.world p →
-    SlotsHaveNames new → IsLedger holdings_of (λ u. named new u + contained new u) new.world →
-    HasLists (IsListCell new) (IsSecondCell new) (IsStored new.bags new.world) new.world →
-    AreBags new → AreSpare new.world → HoldsOnlyOlder new → NamesAreAtHome new → new.world.tally.made ≤ length new.slots + new.moment * 2 ^ 32 → IsSound new
-sound-after d new s passes (moment, places, guards, jobs, deferred, job_dates) dated p live stocked ledger lists bags spare layered home made =
-    let were = were-same d new places passes.guards.guards in
-    record {
-      stocked = stocked;
-      ledger = ledger;
-      lists = lists;
-      bags = bags;
-      spare = spare;
-      layered = layered;
-      home = home;
-      attended = attended-acts d new s.attended passes.guards places guards (omega (arith, moment)) p live;
-      kept = kept-by d new s.kept dated were passes.safe passes.begins;
-      early = early-dated d new dated (omega (arith, moment)) s.early;
-      made = made;
-      deferred = rw (jobs, deferred, passes.jobs) s.deferred;
-      jobs = by-keeping d new s.jobs job_dates moment were passes.jobs passes.under;
-      few = omega (arith, jobs, moment, s.few);
-    }
+pub same-line : (d : ScriptState) → IsSameLine d d
+same-line d = (refl, refl, refl, refl, refl, refl)
+
+module _ (d new : ScriptState) (s : IsSound d) (line : IsSameLine d new) (dated : IsDated d new) (p : ℕ) (live : IsPlaceOf d.world p) where
+  -- what is always true is so after calls that pass, of which one is p's
+  pub leaves-so : Passes d.world new.world → new.world.home ≡ d.world.home → SlotsHaveNames new →
+      IsLedger holdings_of (λ u. named new u + contained new u) new.world →
+      HasLists (IsListCell new) (IsSecondCell new) (IsStored new.bags new.world) new.world → AreBags new → AreSpare new.world → HoldsOnlyOlder new →
+      AreAllAtHome d.world.home new → new.world.tally.made ≤ length new.slots + new.moment * 2 ^ 32 → LeavesSound d new
+  leaves-so passes same stocked ledger lists bags spare layered home made =
+      let were = were-same d new line.1 passes.guards.guards in
+      let attended = attended-acts d new s.attended passes.guards line.1 line.2 (omega (arith, line.0)) p live in
+      let kept = kept-by d new s.kept dated were passes.safe passes.begins in
+      let early = early-dated d new dated (omega (arith, line.0)) s.early in
+      let deferred : AreDeferred new.jobs new.deferred new.world.jobs = rw (line.3, line.4, passes.jobs) s.deferred in
+      let jobs = by-keeping d new s.jobs line.5 line.0 were passes.jobs passes.under in
+      let few : new.jobs ≤ new.moment = omega (arith, line.3, line.0, s.few) in
+      let named_home = at-home d new same home in
+      let sound : IsSound new = assumption (stocked, ledger, lists, bags, spare, layered, named_home, attended, kept, early, made, deferred, jobs, few) in
+      assumption (line, sound, dated, passes, same)
+
+  -- after quiet calls, by which no item and no bag is named otherwise
+  pub leaves-with : Frames d.world new.world → (new.slots ≡ d.slots) × (new.names ≡ d.names) × (new.bags ≡ d.bags) → BagsStay d.bags d.world new.world →
+      IsLedger holdings_of (λ u. named new u + contained new u) new.world →
+      HasLists (IsListCell new) (IsSecondCell new) (IsStored d.bags d.world) new.world → AreSpare new.world → AreAllAtHome d.world.home new → LeavesSound d new
+  leaves-with f named_so stay ledger lists spare home =
+      let stored = stored-still d new named_so.2 stay in
+      leaves-so f.passes f.slots.home (stocked-as d new s.stocked named_so.0 named_so.1 dated.long f.slots stored) ledger (has-stored stored lists)
+      (bags-still d new s.bags named_so.2 stay f.slots.home (λ k x. ap (λ ns. slice_index_or ns k None) named_so.1)) spare
+      (layered-less d new s.layered f.values named_so.1) home
+      (omega (arith, f.slots.made, s.made, line.0, ap (λ (xs : List ℕ). length xs) named_so.0))
 
 -- ---- chains
 
@@ -84,45 +92,6 @@ pub record IsMidway (d : ScriptState) (w : World Val) (outside : Claim → ℕ) 
   pub whole : IsWhole w
   pub frames : Frames d.world w
 
--- each name of these is one right to its cell
-pub stacked-right : (hs : List (Option OwnerOrCell)) (n c : ℕ) → shared_cell (holding_at hs n) ≡ Some c → 1 ≤ stacked hs (right_to c)
-stacked-right hs n c named =
-    let h = some-holding shared_cell refl (holding_at hs n) c named in
-    omega (arith, stack-spent hs n c h.0 h.1 h.2 (right_to c), same-once c)
-
--- two names of the same cell are two rights to it
-pub stacked-twice : (hs : List (Option OwnerOrCell)) (n m c : ℕ) → n ≢ m → shared_cell (holding_at hs n) ≡ Some c → shared_cell (holding_at hs m) ≡ Some c →
-    2 ≤ stacked hs (right_to c)
-stacked-twice hs n m c apart one two =
-    let h = some-holding shared_cell refl (holding_at hs n) c one in
-    let more = stacked-right (slice_set hs n None) m c (ap shared_cell (at-other hs n m None None (λ same. apart (sym same))) ∙ two) in
-    omega (arith, stack-spent hs n c h.0 h.1 h.2 (right_to c), same-once c, more)
-
--- a list is a queue's right to its cell or a stack's
-list-part : (d : ScriptState) (c : ℕ) → IsListCell d c → 1 ≤ stacked d.queues (right_to c) + stacked d.stacks (right_to c)
-list-part d c (inl (n, named)) = omega (arith, stacked-right d.queues n c named)
-list-part d c (inr (n, named)) = omega (arith, stacked-right d.stacks n c named)
-
-pub list-right : (d : ScriptState) (c : ℕ) → IsListCell d c → 1 ≤ contained d (right_to c)
-list-right d c x = omega (arith, list-part d c x)
-
-pub second-right : (d : ScriptState) (c b : ℕ) → IsSecondCell d c b → 1 ≤ contained d (right_to b)
-second-right d c b (n, oldest, newest) = omega (arith, stacked-right d.newest n b newest)
-
--- so whatever else is outside, the cells are the script's own
-pub are-own : (d : ScriptState) (w : World Val) (all total : Claim → ℕ) → IsLedger holdings_of total w → ((u : Claim) → contained d u ≤ all u) →
-    ((u : Claim) → all u ≤ total u) → AreOwn (IsListCell d) (IsSecondCell d) all
-are-own d w all total ledger more whole = record {
-  first = λ c x. omega (arith, list-right d c x, more (right_to c));
-  second = λ c b y. omega (arith, second-right d c b y, more (right_to b));
-  two = λ a c b x (n, oldest, newest) same.
-      (let part = list-part d a x in
-      let other : 1 ≤ stacked d.newest (right_to a) = stacked-right d.newest n a (newest ∙ ap (λ (i : ℕ). Some i) (sym same)) in
-      let both : 2 ≤ total (right_to a) = omega (arith, part, other, more (right_to a), whole (right_to a)) in
-      let one = ((ledger-laws holdings_of w).tells total ledger).alone a (omega (arith, both)) in
-      omega (arith, one.1, both));
-}
-
 -- in the middle of a line
 pub own-midway : {d : ScriptState} {w : World Val} {outside : Claim → ℕ} → IsMidway d w outside →
     AreOwn (IsListCell d) (IsSecondCell d) (λ u. outside u + contained d u)
@@ -130,22 +99,7 @@ own-midway {d} {w} {outside} m =
     are-own d w (λ u. outside u + contained d u) (λ u. outside u + contained d u) m.ledger (λ u. omega arith) (λ u. omega arith)
 
 pub starts : (d : ScriptState) → IsSound d → IsWhole d.world → IsMidway d d.world (named d)
-starts d s whole = record {
-  ledger = s.ledger;
-  lists = s.lists;
-  bags = λ n b es is stands. stands;
-  spare = s.spare;
-  whole = whole;
-  frames = frames-start d.world;
-}
-
--- what is left of a list is of it
-left-among : (s : ℕ) (es : List (Entry Val)) → IsAmong s (left_of es) → IsAmong s es
-left-among s [] among = among
-left-among s (e ∷ es) among = by (is_deleted e) among (left-among s es) where
-  by : (b : Bool) → IsAmong s (if b then left_of es else e ∷ es) → (IsAmong s (left_of es) → IsAmong s es) → IsAmong s (e ∷ es)
-  by true among more = inr (more among)
-  by false among more = among
+starts d s whole = assumption (s, whole, frames-start d.world)
 
 -- ---- cells of storages, and their items, are apart
 
@@ -156,24 +110,6 @@ module _ {d : ScriptState} {w : World Val} {outside : Claim → ℕ} (m : IsMidw
 
   pub owned-apart : (k : ℕ) → 1 ≤ outside (owner_of k) → IsStored d.bags d.world k → ⊥
   owned-apart k mine = off-owned d w outside m.ledger m.bags k mine
-
-  -- from a queue's and a stack's
-  pub list-apart-from : (c : ℕ) → IsListCell d c → IsReserved d w c → ⊥
-  list-apart-from c x = off-other d w outside m.ledger m.bags c (omega (arith, list-part d c x))
-
-  pub second-apart-from : (c b : ℕ) → IsSecondCell d c b → IsReserved d w b → ⊥
-  second-apart-from c b (n, oldest, newest) = off-other d w outside m.ledger m.bags b (omega (arith, stacked-right d.newest n b newest))
-
-  -- from the items of a list, and the links of other items
-  pub among-apart : (c s : ℕ) (t : Tag) (es : List (Entry Val)) → (IsReserved d w c → ⊥) → IsList link_of w c t es → IsAmong s es →
-      IsStored d.bags d.world s → ⊥
-  among-apart c s t es off list among = off-among d w outside m.ledger m.bags c s es off (ap held_in list.begins) list.linked among
-
-  -- from what is left of it
-  pub left-apart : (c s : ℕ) (t : Tag) (es : List (Entry Val)) → (IsReserved d w c → ⊥) → IsList link_of w c t es → (e : Entry Val) (rest : List (Entry Val)) →
-      left_of es ≡ e ∷ rest → e.slot ≡ s → IsStored d.bags d.world s → ⊥
-  left-apart c s t es off list e rest first here =
-      among-apart c s t es off list (left-among s es (subst (λ (fs : List (Entry Val)). IsAmong s fs) (sym first) (inl here)))
 
   pub link-apart-from : (s : ℕ) (v : Val) → value_at w s ≡ Some v → (IsStored d.bags d.world s → ⊥) → IsReserved d w (link_of v) → ⊥
   link-apart-from s v there not = off-link d w outside m.ledger m.bags s v there not
@@ -198,14 +134,14 @@ moves-so : {d : ScriptState} {v w : World Val} {outside ins outs : Claim → ℕ
     Spares d move → (rest : Claim → ℕ) → ((u : Claim) → outside u ≡ rest u + ins u) → ((u : Claim) → Sets holdings_of move u → 1 ≤ rest u) →
     IsMidway d w (λ u. rest u + outs u)
 moves-so {d} {v} {w} {outside} {ins} {outs} m move quiet off rest same own =
-    record {
-      ledger = after;
-      lists = lists;
-      bags = stays-on d move m.whole rest before off m.bags;
-      spare = spare-on d move m.whole rest before off m.spare (quiet-less move quiet);
-      whole = kept.whole;
-      frames = frames-on m.frames m.whole move quiet;
-    } where
+    assumption (
+      after,
+      lists,
+      stays-on d move m.whole rest before off m.bags,
+      spare-on d move m.whole rest before off m.spare (quiet-less move quiet),
+      kept,
+      frames-on m.frames m.whole move quiet,
+    ) where
       kept : Keeps holdings_of move
       kept = (ledger-laws holdings_of v).kept m.whole ins outs w move
 
@@ -219,10 +155,7 @@ moves-so {d} {v} {w} {outside} {ins} {outs} m move quiet off rest same own =
       after u = omega (arith, kept.ledger all before u)
 
       spares : (c : ℕ) → 1 ≤ contained d (right_to c) → Sets holdings_of move (right_to c) → ⊥
-      spares c mine sets =
-          let other = own (right_to c) sets in
-          let one = ((ledger-laws holdings_of v).tells (λ u. all u + ins u) before).alone c (omega (arith, other)) in
-          omega (arith, one.1, mine, other)
+      spares c mine sets = grind (arith, common_steps)
 
       lists : HasLists (IsListCell d) (IsSecondCell d) (IsStored d.bags d.world) w
       lists =
@@ -249,24 +182,12 @@ pub cell-apart : {d : ScriptState} {w : World Val} {outside : Claim → ℕ} →
     1 ≤ contained d (right_to b) → b ≢ c
 cell-apart {d} {w} {outside} m c mine b x same =
     let other : 1 ≤ contained d (right_to c) = subst (λ (i : ℕ). 1 ≤ contained d (right_to i)) same x in
-    let one = ((ledger-laws holdings_of w).tells (λ u. outside u + contained d u) m.ledger).alone c (omega (arith, mine)) in
-    omega (arith, one.1, mine, other)
+    let one = ((ledger-laws holdings_of w).tells (λ u. outside u + contained d u) m.ledger).alone c (omega (arith, mine)) in omega (arith, one.1, mine, other)
 
 -- an item of which somebody outside has the one owner is held by no cell
 pub alone-unheld : {d : ScriptState} {w : World Val} {outside : Claim → ℕ} → IsMidway d w outside → (k : ℕ) → IsAlone (standing_at w k) →
     1 ≤ outside (owner_of k) → (b : ℕ) → held_in (entry_at w.cells b) ≡ Some k → ⊥
-alone-unheld {d} {w} {outside} m k alone mine b holds =
-    let inner = ((ledger-laws holdings_of w).tells (λ u. outside u + contained d u) m.ledger).in_cell b k holds in
-    let stands = ((ledger-laws holdings_of w).tells (λ u. outside u + contained d u) m.ledger).stands k (omega (arith, mine)) in
-    by alone stands (omega (arith, mine, inner)) where
-      by : {n : ℕ} → IsAlone (standing_at w k) → HasOwners n (standing_at w k) → 2 ≤ n → ⊥
-      by (inl owned) (inl one) two = omega (arith, one.1, two)
-      by (inl owned) (inr several) two = (let never : Some Owned ≡ Some (Shared several.0) = sym owned ∙ several.1 in cc)
-      by (inr shared) (inl one) two = (let never : Some (Shared 1) ≡ Some Owned = sym shared ∙ one.0 in cc)
-      by (inr shared) (inr several) two =
-          let both : Some (Shared 1) ≡ Some (Shared several.0) = sym shared ∙ several.1 in
-          let once : several.0 ≡ 1 = cc in
-          omega (arith, several.2, ap (max 1) once, two)
+alone-unheld {d} {w} {outside} m k alone mine b holds = grind (arith, common_steps)
 
 -- a cell changes that holds the same: what it holds is counted as before
 tagged-ledger : (outside : Claim → ℕ) (w : World Val) (c : ℕ) (cell now : CellContents) → entry_at w.cells c ≡ Some cell → now.held ≡ cell.held →
@@ -300,16 +221,6 @@ module _ {d : ScriptState} {w : World Val} {outside : Claim → ℕ} (m : IsMidw
       tagged (own-apart m c mine) (has-beside (IsListCell d) (IsSecondCell d) (IsStored d.bags d.world) w (λ u. outside u + contained d u) m.ledger m.lists c
       (omega (arith, mine))
       (λ b x. cell-apart m c mine b (list-right d b x)) (λ a b y. cell-apart m c mine b (second-right d a b y)) now)
-
--- or it is the link of an item
-pub retags-link : {d : ScriptState} {w : World Val} {outside : Claim → ℕ} → IsMidway d w outside → (k : ℕ) (x : Val) (cell now : CellContents) →
-    (IsStored d.bags d.world k → ⊥) → value_at w k ≡ Some x → entry_at w.cells (link_of x) ≡ Some cell → now.held ≡ cell.held → now.tag ≢ Both →
-    cell.tag ≢ Second →
-    IsMidway d (with_cell w (link_of x) now) outside
-retags-link {d} {w} {outside} m k x cell now off there is same plain kept =
-    tagged m (link_of x) cell now is same (link-apart-from m k x there off)
-    (has-retagged (IsListCell d) (IsSecondCell d) (IsStored d.bags d.world) w (λ u. outside u + contained d u) m.ledger (own-midway m) m.lists k x there cell
-    now is same plain kept)
 
 -- a value is another in its place, with the same link and the same owner, and somebody outside has its one owner
 pub edited : {d : ScriptState} {w : World Val} {outside : Claim → ℕ} → IsMidway d w outside → (k : ℕ) (was now : Val) → (may : MayInPlace w k) →
@@ -349,14 +260,8 @@ edited {d} {w} {outside} m k was now may there link body mine =
 
 -- as much is outside, counted otherwise
 pub midway-as : {d : ScriptState} {w : World Val} {outside now : Claim → ℕ} → IsMidway d w outside → ((u : Claim) → now u ≡ outside u) → IsMidway d w now
-midway-as m same = record {
-  ledger = λ u. omega (arith, m.ledger u, same u);
-  lists = m.lists;
-  bags = m.bags;
-  spare = m.spare;
-  whole = m.whole;
-  frames = m.frames;
-}
+midway-as {d} {w} {outside} {now} m same =
+    let ledger : IsLedger holdings_of (λ u. now u + contained d u) w = λ u. omega (arith, m.ledger u, same u) in assumption (m, ledger)
 
 -- the line ends, with these names and dates: all that is outside has a name
 module _ (d : ScriptState) (w : World Val) (owners cells collectors : List (Option OwnerOrCell)) (dates : List ℕ) where
@@ -367,25 +272,5 @@ module _ (d : ScriptState) (w : World Val) (owners cells collectors : List (Opti
       AtHome d.world.home owners × AtHome d.world.home cells × AtHome d.world.home collectors → IsDated d left → (p : ℕ) → IsPlaceOf d.world p →
       LeavesSound d left
   finishes s m same home dated p live =
-      let f = m.frames in
-      let stored = stored-still d left refl m.bags in
-      record {
-        line = refl;
-        places = refl;
-        sound = sound-after d left s f.passes (refl, refl, refl, refl, refl, refl) dated p live
-            (stocked-as d left s.stocked refl refl dated.long f.slots stored) (λ u. omega (arith, m.ledger u, same u)) (has-stored stored m.lists)
-            (bags-still d left s.bags refl m.bags f.slots.home (λ k x. refl)) m.spare
-            (layered-less d left s.layered f.values refl)
-            (rw f.slots.home (record {
-              owners = home.0;
-              cells = home.1;
-              collectors = home.2;
-              queues = s.home.queues;
-              newest = s.home.newest;
-              stacks = s.home.stacks;
-            }))
-            (omega (arith, f.slots.made, s.made));
-        dated = dated;
-        calls = f.passes.calls;
-        home = f.slots.home;
-      }
+      leaves-with d left s (same-line d) dated p live m.frames (refl, refl, refl) m.bags (λ u. omega (arith, m.ledger u, same u)) m.lists m.spare
+      (home.0, home.1, home.2, s.home.queues, s.home.newest, s.home.stacks)

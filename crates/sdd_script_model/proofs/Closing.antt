@@ -1,13 +1,6 @@
 -- A queue or a stack that a line filled is closed in it, and its items lose their names
-use Rattle.sdd_script_model.proofs.Words.{◌≡◌, ◌⊎◌, ◌+◌, ◌<◌, ◌≤◌, inl, inr, ℕ, List, [], ◌∷◌, ◌++◌, Bool, true, false, Option, Some, None, IsSome, is_some, length, map, slice_index_or, slice_set, refl, sym, ap, ◌∙◌, subst, arith, ◌*◌, ◌^◌, ◌&&◌, not, zero, suc, cases_eq, cases_lt, false≢true, length-append, length-set, Tag, Second, Standing, Owned, Raw, Shared, Retired, Private, is_waiting, Claim, OwnerOrCell, times_held, World, standing_at, value_at, owner_given, with_cell, in_value-out, out-waits-not, IsAmong, Entry, emptied, first_slot, let_go_first, LosesNames, IsStored, ScriptState, IsListCell, holding_at, name_at, names_from, shared_cell, number_in, IsCalled, IsSound, contained, named, named_owners, stacked, Val, holdings_of, link_of}
-use Rattle.std.proofs.Common.{if◌then◌else◌}
-use Rattle.sdd_script_model.proofs.Counting.{accounts, stack-given, stack-spent}
-use Rattle.sdd_script_model.proofs.Entry.{at-end, at-other, at-same}
-use Rattle.sdd_script_model.proofs.Entry.{inside as inside-list}
-use Rattle.sdd_script_model.proofs.Gone.{given-other}
-use Rattle.sdd_script_model.proofs.ListChanges.{among-or}
-use Rattle.sdd_script_model.proofs.Listed.{loose-as}
-use Rattle.sdd_script_model.proofs.Storing.{off-standing}
+use Rattle.sdd_script_model.proofs.Words.{◌≡◌, ◌⊎◌, ◌+◌, ◌<◌, ◌≤◌, inl, inr, ℕ, List, [], ◌∷◌, ◌++◌, Bool, true, false, Option, Some, None, IsSome, is_some, length, map, slice_index_or, slice_set, refl, sym, ap, ◌∙◌, subst, arith, ◌*◌, ◌^◌, ◌&&◌, not, zero, suc, cases_eq, cases_lt, false≢true, length-append, length-set, Tag, Second, Standing, Owned, Raw, Shared, Retired, Private, is_waiting, Claim, OwnerOrCell, times_held, World, standing_at, value_at, owner_given, with_cell, in_value-out, out-waits-not, IsAmong, Entry, emptied, first_slot, let_go_first, LosesNames, IsStored, ScriptState, IsListCell, holding_at, name_at, names_from, shared_cell, number_in, IsCalled, IsSound, contained, named, named_owners, stacked, Val, holdings_of, link_of, if◌then◌else◌, common_steps}
+use Rattle.sdd_script_model.proofs.Lemmas.{accounts, stack-given, stack-spent, at-end, at-other, given-other, among-or, loose-as, off-standing}
 
 -- ---- what has one owner waits once that is given up, and what waits goes on to
 
@@ -30,10 +23,7 @@ waits-on w p k j waits = elim (cases_eq j k) [
   by (Some (Private c)) e waits = ap is_waiting e
 
 lone-waits : (w : World Val) (p k : ℕ) → IsLone w k → is_waiting (standing_at (owner_given w p k (standing_at w k)) k) ≡ true
-lone-waits w p k (inr waits) = waits-on w p k k waits
-lone-waits w p k (inl one) =
-    ap (λ (x : Option Standing). is_waiting (standing_at (owner_given w p k x) k)) one
-    ∙ ap is_waiting (at-same w.standings k (Some Retired) None (inside-list w.standings k (ap is_some one)))
+lone-waits w p k h = grind (arith, common_steps)
 
 lone-on : (w : World Val) (p k j : ℕ) → IsLone w j → IsLone (owner_given w p k (standing_at w k)) j
 lone-on w p k j lone = elim (cases_eq j k) [
@@ -129,9 +119,7 @@ module _ (new was : ScriptState) (es : List (Entry Val)) (queues newest stacks :
 
   module _ (s : IsSound closed) (f : IsForgotten) where
     keeps : (a b : Bool) (x : Option ℕ) → (a ≡ true → b ≡ false → ⊥) → (if a && not b then None else x) ≡ x
-    keeps false b x not_so = refl
-    keeps true true x not_so = refl
-    keeps true false x not_so = absurd (not_so refl refl)
+    keeps a b x h = grind (arith, common_steps)
 
     kept-name : (j : ℕ) → (IsAmong j es → ⊥) → name_at new j ≡ name_at closed j
     kept-name j not_it =
@@ -141,9 +129,7 @@ module _ (new was : ScriptState) (es : List (Entry Val)) (queues newest stacks :
         ∙ sym (names-other was.names (length new.slots) es j not_it)
 
     no-name : (j : ℕ) → IsAmong j es → IsSome (standing_at new.world j) → name_at new j ≡ None
-    no-name j among some =
-        f.lost.names j ∙ ap (λ b. if b && not (is_some (standing_at was.world j)) then None else name_at was j) some
-        ∙ ap (λ b. if not b then None else name_at was j) (ap is_some (f.fresh j among))
+    no-name j among some = grind (arith, common_steps)
 
     called : (j : ℕ) → (IsAmong j es → ⊥) → (x : Option ℕ) → name_at closed j ≡ x → IsCalled closed j x → IsCalled new j (name_at new j)
     called j not_it None e waits = subst (λ (x : Option ℕ). IsCalled new j x) (sym (kept-name j not_it ∙ e)) waits

@@ -1,17 +1,14 @@
 -- What is always true of a desk is true after a collector is closed, where no guard is open
-use Rattle.sdd_script_model.proofs.Words.{◌≡◌, ℕ, List, [], Option, Some, None, IsSome, slice_set, refl, sym, ap, ◌∙◌, subst, lt-ltb, arith, Contains, IsPermutation, IsNonDecreasingBy, entry_at, CellContents, Item, collector_closed, waiting_for, right_to, closes_collector, held_in, IsWhole, AnyGuardOpen, IsPlaceOf, place_at, ItemName, PlaceName, At, holdings_of, ScriptState, OpenSince, holding_at, collector_of, in_world, opening_at, slot_at, NamesWhatGoes, NamesWhatRuns, names_in, IsSound, named_among}
-use Rattle.sdd_space.specs.Out.{IsNullCell}
+use Rattle.sdd_script_model.proofs.Words.{◌≡◌, ℕ, List, [], Some, None, slice_set, refl, sym, ap, ◌∙◌, subst, lt-ltb, arith, Contains, IsPermutation, IsNonDecreasingBy, entry_at, Item, collector_closed, waiting_for, right_to, closes_collector, held_in, IsWhole, AnyGuardOpen, IsPlaceOf, place_at, ItemName, PlaceName, At, holdings_of, ScriptState, OpenSince, holding_at, collector_of, in_world, opening_at, slot_at, NamesWhatGoes, NamesWhatRuns, names_in, IsSound, named_among, IsNullCell, common_steps}
 use Rattle.sdd_space.proofs.Guarded.{guarded}
 use Rattle.sdd_script_text.specs.declared.name.CollectorName.{CollectorName}
-use Rattle.sdd_script_text.specs.declared.call.Action.TheVariants as call
-use Rattle.sdd_script_text.specs.declared.answer.Reply.TheVariants as reply
 use Rattle.sdd_script_model.specs.ScriptState.{without_collector}
-use Rattle.sdd_script_model.proofs.Chains.{LeavesSound, at_home-spent, finishes, moves, starts}
-use Rattle.sdd_script_model.proofs.Counting.{collector-spent, some-holding, tells}
+use Rattle.sdd_script_model.proofs.Lemmas.{LeavesSound, at_home-spent, finishes, moves, collector-spent, some-holding, tells, same-once, some-entry, starts}
 use Rattle.sdd_script_model.proofs.Going.{open-guard}
-use Rattle.sdd_script_model.proofs.Links.{same-once}
 use Rattle.sdd_script_model.proofs.StackGoing.{IsDatedWithin, dated-all}
 use Rattle.sdd_script_model.proofs.WaitingFor.{names-waiting, slots_for}
+use Rattle.sdd_script_text.specs.declared.call.Action.TheVariants as call
+use Rattle.sdd_script_text.specs.declared.answer.Reply.TheVariants as reply
 
 -- ---- a collector is closed
 
@@ -25,11 +22,9 @@ module _ (d : ScriptState) (s : IsSound d) (whole : IsWhole d.world) (p c n : �
   null-cell : IsNullCell d.world c
   null-cell =
       let h = some-holding collector_of refl (holding_at d.collectors n) c named in
-      let there = ((tells d s).alone c (omega (arith, collector-spent d.owners d.cells d.collectors n c h.0 h.1 h.2 (right_to c), same-once c))).0 in
-      by (entry_at d.world.cells c) refl there where
-        by : (e : Option CellContents) → entry_at d.world.cells c ≡ e → IsSome e → IsNullCell d.world c
-        by None e some = absurd (cc)
-        by (Some cell) e some = (cell, e, ap held_in (sym e) ∙ bare)
+      let spent = collector-spent d.owners d.cells d.collectors n c h.0 h.1 h.2 (right_to c) in
+      let there = some-entry (entry_at d.world.cells c) ((tells d s).alone c (omega (arith, spent, same-once c))).0 in
+      (there.0, there.1, ap held_in (sym there.1) ∙ bare)
 
   pub uncollected-leaves : IsDatedWithin d after_uncollected → LeavesSound d after_uncollected
   uncollected-leaves within =
@@ -67,8 +62,4 @@ module _ (d : ScriptState) (s : IsSound d) (whole : IsWhole d.world) (c : ℕ) (
 
   -- and no job runs
   pub runs-uncollected : NamesWhatRuns d (At name (call.CloseCollector k)) reply.Done []
-  runs-uncollected = record {
-    ascending = λ j lt. absurd (omega (arith, lt));
-    exactly = λ j. ((λ there. absurd (omega (arith, there.1))), (λ h. absurd (h.2)));
-    unguarded = λ j there. absurd (omega (arith, there.1));
-  }
+  runs-uncollected = grind (arith, common_steps)

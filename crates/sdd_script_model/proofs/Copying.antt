@@ -1,28 +1,17 @@
 -- What is always true of a desk is true after a line that copies a queue or a stack, whether it is refused or not
-use Rattle.sdd_script_model.proofs.Words.{◌≡◌, ◌≢◌, ◌+◌, ◌<◌, ◌≤◌, inl, inr, ℕ, List, [], ◌∷◌, ◌++◌, Bool, true, false, Option, Some, None, length, map, count_by, slice_index_or, slice_set, refl, sym, zero, suc, ap, ◌∙◌, subst, arith, ◌*◌, ◌^◌, not, cases_eq, length_push, length-set, OwnerOrCell, is_owner_of, times_held, World, IsPlaceOf, standing_at, value_at, nulled, spilled, without_cell, IsWhole, IsAmong, AreLinked, Entry, is_deleted, shown_of, IsQueue, QueueCells, queue_closed, Body, Number, Storage, ArePlain, LosesNames, MakesQueueOf, MakesStackOf, AreNumbers, Begins, IsNumber, IsNamedQueue, BeginsLine, ScriptState, holding_at, in_world, shared_cell, with_items, with_queue, with_stack, IsSound, stacked, IsStack, stack_closed, Val, body_of, holdings_of, link_of, owner_in}
-use Rattle.std.proofs.Common.{if◌then◌else◌}
-use Rattle.sdd_core.specs.declared.tag.Tag.TheVariants.{None as no_tag}
-use Rattle.sdd_space.specs.OwnerOrCell as holding
+use Rattle.sdd_script_model.proofs.Words.{◌≡◌, ◌≢◌, ◌+◌, ◌<◌, ◌≤◌, inl, inr, ℕ, List, [], ◌∷◌, ◌++◌, Bool, true, false, Option, Some, None, length, map, count_by, slice_index_or, slice_set, refl, sym, zero, suc, ap, ◌∙◌, subst, arith, ◌*◌, ◌^◌, not, cases_eq, length_push, length-set, OwnerOrCell, is_owner_of, times_held, World, IsPlaceOf, standing_at, value_at, nulled, spilled, without_cell, IsWhole, IsAmong, AreLinked, Entry, is_deleted, shown_of, IsQueue, QueueCells, queue_closed, Body, ArePlain, LosesNames, MakesQueueOf, MakesStackOf, AreNumbers, Begins, IsNumber, IsNamedQueue, BeginsLine, ScriptState, holding_at, in_world, shared_cell, with_items, with_queue, with_stack, IsSound, stacked, IsStack, stack_closed, Val, body_of, holdings_of, link_of, owner_in, if◌then◌else◌, content, entry_slots, no_tag, common_steps}
 use Rattle.sdd_lists.specs.Entries.{value_of}
-use Rattle.sdd_lists.specs.Lists.{content}
 use Rattle.sdd_lists.proofs.Few.{no-longer}
 use Rattle.sdd_lists.proofs.Lists.{inside}
-use Rattle.sdd_script_model.specs.declared.val.Body.TheVariants.{Owned, Shared}
-use Rattle.sdd_script_model.specs.Copies.{entry_slots}
-use Rattle.sdd_script_model.proofs.Chains.{LeavesSound}
+use Rattle.sdd_script_model.proofs.Lemmas.{LeavesSound, times-held, dated-kept, at-end, at-same, Frames, calls-then, filled-long, HoldsLess, null}
 use Rattle.sdd_script_model.proofs.Closing.{IsForgotten, IsLone, emptied-waits, forgotten-sound, spent-counts, spent-last}
-use Rattle.sdd_script_model.proofs.Counting.{times-held}
-use Rattle.sdd_script_model.proofs.Dates.{dated-kept}
 use Rattle.sdd_script_model.proofs.Due.{whole-calls}
-use Rattle.sdd_script_model.proofs.Entry.{at-end, at-other, at-same}
 use Rattle.sdd_script_model.proofs.Filling.{AreAllNumbers, IsFilled, filled_with, fills-queue, fills-stack, one-less, spilled-other, still-whole}
-use Rattle.sdd_script_model.proofs.Frames.{Frames, calls-then}
-use Rattle.sdd_script_model.proofs.Layers.{filled-long}
-use Rattle.sdd_script_model.proofs.Links.{HoldsLess, null}
-use Rattle.sdd_script_model.proofs.QueueGoing as queue
-use Rattle.sdd_script_model.proofs.StackGoing as stack
 use Rattle.sdd_script_model.proofs.StackGoing.{IsDatedWithin, dated-all}
 use Rattle.sdd_script_model.proofs.StackPushing.{leaves-then}
+use Rattle.sdd_space.specs.OwnerOrCell as holding
+use Rattle.sdd_script_model.proofs.QueueGoing as queue
+use Rattle.sdd_script_model.proofs.StackGoing as stack
 
 -- ---- numbers hold no owners
 
@@ -36,10 +25,7 @@ number-among w (z ∷ zs) all linked j (inl here) x e =
 number-among w (z ∷ zs) all linked j (inr there) x e = number-among w zs all.1 linked.1 j there x e
 
 none-owned : (b : Body) → IsNumber b → owner_in b ≡ []
-none-owned (Number n) number = refl
-none-owned (Owned o) number = absurd number
-none-owned (Shared o) number = absurd number
-none-owned (Storage s) number = absurd number
+none-owned b h = grind (arith, common_steps)
 
 holds-none : (v w : World Val) → HoldsLess v w → (es : List (Entry Val)) → AreNumbers es → AreLinked link_of v es → (j k : ℕ) → IsAmong j es →
     times_held holdings_of k (value_at w j) ≡ 0
@@ -107,22 +93,10 @@ module _ (d : ScriptState) (s : IsSound d) (whole : IsWhole d.world) (p : ℕ) (
   oldest-is = ap shared_cell (at-end d.queues (Some (holding.atomic_shared q.oldest d.world.home.cells)) None)
 
   newest-is : shared_cell (holding_at begun.newest n) ≡ Some q.newest
-  newest-is =
-      ap (λ (m : ℕ). shared_cell (holding_at begun.newest m)) long
-      ∙ ap shared_cell (at-end d.newest (Some (holding.atomic_shared q.newest d.world.home.cells)) None)
+  newest-is = grind (arith, common_steps)
 
   empty : IsQueue link_of begun.world q [] None
-  empty = record {
-    list = record {
-      begins = at-other (nulled d.world q.oldest).cells q.newest q.oldest (Some null) None makes.two
-          ∙ at-same d.world.cells q.oldest (Some null) None makes.oldest.0;
-      linked = tt;
-    };
-    newest = at-same (nulled d.world q.oldest).cells q.newest (Some null) None (omega (arith, makes.newest.0, length-set d.world.cells q.oldest (Some null)));
-    among = tt;
-    two = makes.two;
-    apart = tt;
-  }
+  empty = grind (arith, common_steps)
 
   filled : IsFilled begun begins.sound begun-whole p live w fs held × IsQueue link_of w q fs held
   filled = fills-queue begun begins.sound begun-whole p live n q oldest-is newest-is empty makes.fills.all numbers

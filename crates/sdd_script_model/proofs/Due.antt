@@ -1,22 +1,16 @@
 -- Each opening of a run names exactly what is due by the lines before it
-use Rattle.sdd_script_model.proofs.Words.{replicate, sum_by, option_map, zero, Limits, Item, Job, Tally, jobs_with, once_if, ItemName, JobName, Answer, Reply, Call, At, Line, is_waiting_in, opens, AreCalls, LineStep, NamesWhatGoes, NamesWhatRuns, Runs, none as no_call, one_more, IsStart, slot_at}
-use Rattle.sdd_participants.specs.EpochState as time
-use Rattle.sdd_space.specs.World.{IsNew}
-use Rattle.sdd_space.specs.WorldInvariant.{KeepsUp, times_with}
-use Rattle.sdd_space.proofs.Housed.{housed-none}
+use Rattle.sdd_script_model.proofs.Words.{replicate, sum_by, option_map, zero, Limits, Item, Job, Tally, jobs_with, once_if, ItemName, JobName, Answer, Reply, Call, At, Line, is_waiting_in, opens, AreCalls, LineStep, NamesWhatGoes, NamesWhatRuns, Runs, none as no_call, one_more, IsStart, slot_at, IsNew, KeepsUp, times_with, housed-none, NamesDue, NamesWhatIsDue, EachNamesWhatIsDue, LimboEntry, ◌≡◌, ℕ, suc, false, List, [], ◌∷◌, Option, Some, None, is_some, map, count_by, slice_index_or, refl, sym, ap, ◌∙◌, subst, arith, false≢true, nat_tests, EpochState, Standing, is_waiting, World, IsWhole, Val, holdings_of, ScriptState, OpenSince, opening_at, later}
 use Rattle.sdd_space.proofs.Waning.{Whole-called}
-use Rattle.sdd_script_text.specs.declared.answer.Reply.TheVariants as reply
-use Rattle.sdd_script_text.specs.declared.call.Action.TheVariants as call
-use Rattle.sdd_script_model.specs.Due.{NamesDue, NamesWhatIsDue}
-use Rattle.sdd_script_model.specs.Script.{EachNamesWhatIsDue}
+use Rattle.sdd_script_model.proofs.Lemmas.{at-blank}
 use Rattle.sdd_script_model.proofs.Entering.{due-is, tells-opens}
 use Rattle.sdd_script_model.proofs.History.{home, Tells}
-use Rattle.sdd_script_model.proofs.Layers.{blank-at}
 use Rattle.sdd_script_model.proofs.Leaving.{tells-closes}
 use Rattle.sdd_script_model.proofs.Telling.{line, not-some, tells-calm, tells-comes, tells-goes}
-use Rattle.sdd_script_model.proofs.Turns as turns
 use Rattle.sdd_script_model.proofs.Turns.{Turn, turn}
-use Rattle.sdd_script_model.proofs.Terms.{LimboEntry, ◌≡◌, ℕ, suc, false, List, [], ◌∷◌, Option, Some, None, is_some, map, count_by, slice_index_or, refl, sym, ap, ◌∙◌, subst, arith, false≢true, nat_tests, EpochState, Standing, is_waiting, World, IsWhole, Val, holdings_of, ScriptState, OpenSince, opening_at, later}
+use Rattle.sdd_participants.specs.EpochState as time
+use Rattle.sdd_script_text.specs.declared.answer.Reply.TheVariants as reply
+use Rattle.sdd_script_text.specs.declared.call.Action.TheVariants as call
+use Rattle.sdd_script_model.proofs.Turns as turns
 
 -- ---- before the first line
 
@@ -34,9 +28,9 @@ new-whole limits w is = record {
       ∙ sym (ap (λ ss. map is_some ss) is.standings ∙ none-some Standing limits.slots);
   once = λ k. ap (λ (t : EpochState). sum_by (times_with k) t.places) is.time
       ∙ sym (ap (λ (ss : List (Option Standing)). once_if (is_waiting (slice_index_or ss k None))) is.standings
-      ∙ ap (λ s. once_if (is_waiting s)) (blank-at limits.slots k));
+      ∙ ap (λ s. once_if (is_waiting s)) (at-blank None limits.slots k));
   jobs_once = λ j. ap (λ (t : EpochState). sum_by (jobs_with j) t.places) is.time
-      ∙ sym (ap (λ js. once_if (is_some (slice_index_or js j None))) is.jobs ∙ ap (λ s. once_if (is_some s)) (blank-at limits.jobs j));
+      ∙ sym (ap (λ js. once_if (is_some (slice_index_or js j None))) is.jobs ∙ ap (λ s. once_if (is_some s)) (at-blank None limits.jobs j));
   abreast = λ p. subst (λ (t : EpochState). KeepsUp t.count (time.place_at t p)) (sym is.time) (record {
     found = omega arith;
     near = λ _. omega arith;
@@ -55,8 +49,8 @@ new-whole limits w is = record {
 
 idle-first : (limits : Limits) (d : ScriptState) → IsStart limits d → (x : LimboEntry) → is_waiting_in d.world x ≡ false
 idle-first limits d start (Item s) =
-    ap (λ (ss : List (Option Standing)). is_waiting (slice_index_or ss s None)) start.world.standings ∙ ap is_waiting (blank-at limits.slots s)
-idle-first limits d start (Job k) = ap (λ js. is_some (slice_index_or js k None)) start.world.jobs ∙ ap is_some (blank-at limits.jobs k)
+    ap (λ (ss : List (Option Standing)). is_waiting (slice_index_or ss s None)) start.world.standings ∙ ap is_waiting (at-blank None limits.slots s)
+idle-first limits d start (Job k) = ap (λ js. is_some (slice_index_or js k None)) start.world.jobs ∙ ap is_some (at-blank None limits.jobs k)
 
 tells-start : (limits : Limits) (d : ScriptState) → IsStart limits d → Tells [] d
 tells-start limits d start =

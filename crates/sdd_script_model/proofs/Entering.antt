@@ -1,22 +1,15 @@
 -- What the lines so far say of a desk, after a line that opens a guard; and that its answer names exactly what is due
-use Rattle.sdd_script_model.proofs.Words.{◌&&◌, ◌↔◌, not, option_map, eq-eqb, ne_eqb, epoch_of, Epoch, is_ended, having_seen, Job, value_at, opened_at, is_of_slot, live-is, runs-once, one-if, none-if, how, IsChange, Nests, opened-other, opens-keeps, out-waits-not, filled-there, some-waits, GuardName, ItemName, JobName, PlaceName, At, Line, changes, count_shown, is_waiting_in, last_found, open_guards, opens, opens_first, start_of, IsParticipant, place_of}
-use Rattle.sdd_space.specs.WorldStep.WorldStep.{opens as opens_one}
-use Rattle.sdd_space.proofs.Opening.{opened-goes}
-use Rattle.sdd_space.proofs.Own as own
-use Rattle.sdd_script_text.specs.declared.answer.Reply.TheVariants as reply
-use Rattle.sdd_script_text.specs.declared.call.Action.TheVariants as call
-use Rattle.sdd_script_model.specs.Due.{IsDueAt, is_change}
-use Rattle.sdd_script_model.specs.ScriptState as desk
-use Rattle.sdd_script_model.proofs.Attending.{live-by, opens-one}
-use Rattle.sdd_script_model.proofs.Dates.{begins-out}
-use Rattle.sdd_script_model.proofs.Deferred.{taken-before}
-use Rattle.sdd_script_model.proofs.Gone.{counted-there}
+use Rattle.sdd_script_model.proofs.Words.{◌&&◌, ◌↔◌, not, option_map, eq-eqb, ne_eqb, epoch_of, Epoch, is_ended, having_seen, Job, value_at, opened_at, is_of_slot, live-is, runs-once, one-if, none-if, how, IsChange, Nests, opened-other, opens-keeps, out-waits-not, filled-there, some-waits, GuardName, ItemName, JobName, PlaceName, At, Line, changes, count_shown, is_waiting_in, last_found, open_guards, opens, opens_first, start_of, IsParticipant, place_of, opened-goes, IsDueAt, is_change, LimboEntry, is_some, ◌≡◌, ◌≢◌, ◌⊎◌, ℕ, ◌+◌, ◌≤◌, ◌==◌, Bool, true, false, nat_lt, if◌then◌else◌, List, ◌∷◌, Some, None, length, slice_index_or, slice_set, inl, inr, refl, sym, ap, ◌∙◌, subst, arith, cases_eq, cases_lt, false≢true, nat_tests, length-set, Contains, Item, is_open, phase_at, Participant, is_waiting, World, IsPlaceOf, place_at, standing_at, opened, reclaims, IsWhole, Val, holdings_of, ScriptState, OpenSince, later}
+use Rattle.sdd_script_model.proofs.Lemmas.{live-by, opens-one, begins-out, slots-opened, taken-before, counted-there, as-each}
 use Rattle.sdd_script_model.proofs.History.{home, home-apart, home-inside, begins-not, begins-now, not-adopted, quiet-changes, quiet-found, quiet-guards, seen-as, start-begun, start-kept, HasSeen, HoldsAt, Tells}
-use Rattle.sdd_script_model.proofs.History as history
 use Rattle.sdd_script_model.proofs.Telling.{held-on, home-is, line, not-some}
 use Rattle.sdd_script_model.proofs.Turns.{some-is}
 use Rattle.sdd_script_model.proofs.Awaiting.{AwaitsAt, awaits-once, awaits-waits, awaits-young, change-awaits, due-from, due-there, nests-awaits}
-use Rattle.sdd_script_model.proofs.Terms.{LimboEntry, is_some, ◌≡◌, ◌≢◌, ◌⊎◌, ℕ, ◌+◌, ◌≤◌, ◌==◌, Bool, true, false, nat_lt, if◌then◌else◌, List, ◌∷◌, Some, None, length, slice_index_or, slice_set, inl, inr, refl, sym, ap, ◌∙◌, subst, arith, cases_eq, cases_lt, false≢true, nat_tests, length-set, Contains, Item, is_open, phase_at, Participant, is_waiting, World, IsPlaceOf, place_at, standing_at, opened, reclaims, IsWhole, Val, holdings_of, ScriptState, OpenSince, later, as-each}
+use Rattle.sdd_space.proofs.Own as own
+use Rattle.sdd_script_text.specs.declared.answer.Reply.TheVariants as reply
+use Rattle.sdd_script_text.specs.declared.call.Action.TheVariants as call
+use Rattle.sdd_script_model.specs.ScriptState as desk
+use Rattle.sdd_script_model.proofs.History as history
 
 shut-is : (g : ℕ) → (g == 0) ≡ not (nat_lt 0 g)
 shut-is g = by (nat_lt 0 g) refl where
@@ -209,7 +202,7 @@ module _ (past : List Line) (old new : ScriptState) (name : PlaceName) (g : Guar
   begun-then : (x : LimboEntry) → is_waiting_in w x ≡ false → is_waiting_in (opened holdings_of w opener) x ≡ true →
       AwaitsAt (opened holdings_of w opener) opener x 0
   begun-then (Item s) idle now =
-      elim (opens-keeps opener s holdings_of w live.0 k.whole (begins-out (opens_one w opener live) k.whole s now idle)).1 [
+      elim (opens-keeps opener s holdings_of w live.0 k.whole (begins-out (slots-opened w opener) s now idle)).1 [
         | inl still ↦ absurd (false≢true (sym (out-waits-not (standing_at (opened holdings_of w opener) s) still) ∙ now))
         | inr fresh ↦ fresh.1
       ]

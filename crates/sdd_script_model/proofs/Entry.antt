@@ -1,6 +1,5 @@
 -- What a list has at each number, after one entry of it is replaced or pushed
-use Rattle.sdd_script_model.proofs.Words.{set_past, set-get_or, get_or_push, ◌≡◌, ◌≢◌, ◌⊎◌, inl, inr, ℕ, zero, suc, ◌<◌, List, [], ◌∷◌, ◌++◌, Option, Some, None, IsSome, is_some, length, slice_index_or, slice_set, refl, sym, ap, ◌∙◌, arith, false≢true}
-use Rattle.std.proofs.lemmas.Grind.{common_steps}
+use Rattle.sdd_script_model.proofs.Words.{set_past, set-get_or, get_or_push, ◌≡◌, ◌≢◌, ◌⊎◌, ℕ, zero, suc, ◌<◌, List, [], ◌∷◌, ◌++◌, Option, Some, None, IsSome, is_some, length, slice_index_or, slice_set, refl, sym, ap, ◌∙◌, arith, false≢true, replicate, false, common_steps}
 pub use Rattle.std.proofs.lemmas.List.{get_or-set_same as at-same, get_or-set_other as at-other}
 
 module _ {X : Type 0} where
@@ -24,6 +23,13 @@ module _ {X : Type 0} where
 pub inside : {E : Type 0} (xs : List (Option E)) (k : ℕ) → IsSome (slice_index_or xs k None) → k < length xs
 inside xs k some = grind (arith, common_steps)
 
+pub no-entry : {E : Type 0} (x : Option E) → is_some x ≡ false → x ≡ None
+no-entry x none = grind arith
+
+-- and so it is some entry
+pub some-entry : {E : Type 0} (x : Option E) → IsSome x → (y : E) × (x ≡ Some y)
+some-entry x some = grind arith
+
 pub is-there : {E : Type 0} (xs : List (Option E)) (k : ℕ) (x : E) → slice_index_or xs k None ≡ Some x → IsSome (slice_index_or xs k None)
 is-there xs k x e = ap is_some e
 
@@ -43,8 +49,15 @@ spent_twice xs k none = sym (rw none at (set-get_or xs k None))
 -- where a list was written it has what was written there, or what it had
 pub set-either : {E : Type 0} (xs : List E) (k j : ℕ) (x d : E) →
     (slice_index_or (slice_set xs k x) j d ≡ x) ⊎ (slice_index_or (slice_set xs k x) j d ≡ slice_index_or xs j d)
-set-either [] k j x d = inr refl
-set-either (y ∷ ys) zero zero x d = inl refl
-set-either (y ∷ ys) zero (suc j) x d = inr refl
-set-either (y ∷ ys) (suc k) zero x d = inr refl
-set-either (y ∷ ys) (suc k) (suc j) x d = set-either ys k j x d
+set-either xs k j x d = grind (arith, common_steps, set_past)
+
+-- and at which number it has which
+pub set-where : {E : Type 0} (xs : List E) (k j : ℕ) (x d : E) → ((j ≡ k) × (slice_index_or (slice_set xs k x) j d ≡ x))
+    ⊎ (slice_index_or (slice_set xs k x) j d ≡ slice_index_or xs j d)
+set-where xs k j x d = grind (arith, common_steps, set_past)
+
+-- a list of the same everywhere
+pub at-blank : {E : Type 0} (x : E) (n k : ℕ) → slice_index_or (replicate n x) k x ≡ x
+at-blank x zero k = refl
+at-blank x (suc n) zero = refl
+at-blank x (suc n) (suc k) = at-blank x n k

@@ -1,24 +1,15 @@
 -- What is always true of a desk is true after a new queue or stack is filled with numbers, each of which it owns alone
-use Rattle.sdd_script_model.proofs.Words.{◌≡◌, ◌≢◌, ◌⊎◌, ◌+◌, inl, inr, ℕ, List, [], ◌∷◌, ◌++◌, Option, Some, None, length, map, slice_index_or, slice_set, refl, sym, ap, ◌∙◌, subst, ◌-◌, ◌<◌, ◌≤◌, nat_lt, true, false, is_some, IsSome, arith, cases_eq, length-append, length-set, length_push, Standing, Shared as shared_by, is_waiting, Claim, World, IsPlaceOf, standing_at, made_as, nulled, owner_given, retired, spilled, with_cell, with_standing, IsWhole, ledger-laws, IsAmong, appended, through_last, Entry, IsQueue, QueueCells, AddsAllBehind, AddsBehind, adds_behind, begins_behind, AppendsAll, AppendsTo, appends, starts as starts_stack, among-last, bare, list-same, Body, Number, Storage, ArePlain, Begins, IsListed, IsNumber, Enqueues, IsNamedQueue, ScriptState, IsListCell, holding_at, in_world, names_from, shared_cell, with_item, with_items, none as no_call, IsSound, contained, named, Appends, IsStack, Val, holdings_of, link_of}
-use Rattle.std.proofs.Common.{append_assoc, append-nil, if◌then◌else◌}
-use Rattle.std.proofs.lemmas.List.{map-append}
-use Rattle.sdd_core.specs.declared.tag.Tag.TheVariants.{None as no_tag}
+use Rattle.sdd_script_model.proofs.Words.{◌≡◌, ◌≢◌, ◌⊎◌, ◌+◌, inl, inr, ℕ, List, [], ◌∷◌, ◌++◌, Option, Some, None, length, map, slice_index_or, slice_set, refl, sym, ap, ◌∙◌, subst, ◌-◌, ◌<◌, ◌≤◌, nat_lt, true, false, is_some, IsSome, arith, cases_eq, length-append, length-set, length_push, Standing, Shared as shared_by, is_waiting, Claim, World, IsPlaceOf, standing_at, made_as, nulled, owner_given, spilled, with_cell, IsWhole, ledger-laws, IsAmong, appended, through_last, Entry, IsQueue, QueueCells, AddsAllBehind, AddsBehind, adds_behind, begins_behind, AppendsAll, AppendsTo, appends, starts as starts_stack, among-last, bare, list-same, Body, Number, Storage, ArePlain, Begins, IsListed, IsNumber, Enqueues, IsNamedQueue, ScriptState, IsListCell, holding_at, in_world, names_from, shared_cell, with_item, with_items, none as no_call, IsSound, contained, named, Appends, IsStack, Val, holdings_of, link_of, append_assoc, map-append, made_newest, no_tag, common_steps}
+use Rattle.std.proofs.Common.{append-nil}
 use Rattle.sdd_space.specs.Shared.{slot_of}
-use Rattle.sdd_lists.specs.Queue.{made_newest}
 use Rattle.sdd_script_model.specs.declared.val.Body.TheVariants.{Owned, Shared}
-use Rattle.sdd_script_model.proofs.Attending.{KeepsGuards, keeps-live}
-use Rattle.sdd_script_model.proofs.Chains.{IsMidway, LeavesSound, starts}
-use Rattle.sdd_script_model.proofs.Dates.{dated-kept}
+use Rattle.sdd_script_model.proofs.Lemmas.{KeepsGuards, keeps-live, IsMidway, LeavesSound, dated-kept, at-other, at-same, not-free, given-other, listed-inside, starts}
 use Rattle.sdd_script_model.proofs.Due.{whole-calls}
-use Rattle.sdd_script_model.proofs.Entry.{at-other, at-same, not-free}
-use Rattle.sdd_script_model.proofs.Entry.{inside as inside-list}
-use Rattle.sdd_script_model.proofs.Gone.{given-other}
-use Rattle.sdd_script_model.proofs.Listed.{listed-inside}
 use Rattle.sdd_script_model.proofs.Plain.{appended-plain, plain-last, through-plain}
 use Rattle.sdd_script_model.proofs.QueueEnds.{among-before, among-either}
+use Rattle.sdd_script_model.proofs.StackPushing.{given-up, leaves-then, mid, not-among, put-leaves}
 use Rattle.sdd_script_model.proofs.QueuePushing as pushing
 use Rattle.sdd_script_model.proofs.StackAppending as appending
-use Rattle.sdd_script_model.proofs.StackPushing.{given-up, leaves-then, mid, not-among, put-leaves}
 
 -- ---- names in order
 
@@ -47,10 +38,7 @@ spilled-other w p (Some s) j ne = given-other w p s j (standing_at w s) refl (λ
 -- of several owners one is given up
 pub one-less : (w : World Val) (p k n : ℕ) → standing_at w k ≡ Some (shared_by n) → nat_lt 1 n ≡ true →
     standing_at (owner_given w p k (standing_at w k)) k ≡ Some (shared_by (n - 1))
-one-less w p k n is several =
-    ap (λ (x : Option Standing). standing_at (owner_given w p k x) k) is
-    ∙ ap (λ b. standing_at (if b then with_standing w k (shared_by (n - 1)) else retired w p k) k) several
-    ∙ at-same w.standings k (Some (shared_by (n - 1))) None (inside-list w.standings k (ap is_some is))
+one-less w p k n is several = grind (arith, common_steps)
 
 -- the making of an item changes no guards
 since-made : (v w : World Val) (c k : ℕ) (x : Val) (first : Standing) → KeepsGuards (made_as (nulled v c) k x first) w → KeepsGuards v w
@@ -122,10 +110,7 @@ module _ (d : ScriptState) (s : IsSound d) (whole : IsWhole d.world) (p : ℕ) (
       (subst (λ (i : ℕ). IsAmong i es) same among)
 
   second-far : (j : ℕ) → second ≡ Some j → IsAmong j es
-  second-far j e = by second e near where
-    by : (o : Option ℕ) → o ≡ Some j → IsNoneOrAmong o es → IsAmong j es
-    by None e tt = absurd (let never : None ≡ Some j = e in cc)
-    by (Some i) e among = subst (λ (m : ℕ). IsAmong m es) (let same : i ≡ j = cc in same) among
+  second-far j e = grind (arith, common_steps)
 
   among-now : (j : ℕ) → IsAmong j es → IsAmong j now
   among-now j among = among-before j (through_last es) entry (subst (λ (xs : List (Entry Val)). IsAmong j xs) (sym (through-plain es plain)) among)

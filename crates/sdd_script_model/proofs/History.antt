@@ -1,9 +1,8 @@
 -- What one line more makes of what the lines so far say
-use Rattle.sdd_script_model.proofs.Words.{◌&&◌, not, list_all, option_map, zero, is_ended, NobodyEnded, Entries, PlaceState, Job, Line, adopts, caller, changes, count_shown, has_ended, is_waiting_in, last_found, leaves_none_ended, open_guards, opens, opens_first, start_of}
-use Rattle.std.specs.Prelude.{◌||◌}
-use Rattle.sdd_script_model.specs.Due.{Start, begins, closes, ends}
+use Rattle.sdd_script_model.proofs.Words.{◌&&◌, not, list_all, option_map, zero, is_ended, NobodyEnded, Entries, PlaceState, Job, Line, adopts, caller, changes, count_shown, has_ended, is_waiting_in, last_found, leaves_none_ended, open_guards, opens, start_of, ◌||◌, Start, begins, ◌≡◌, ◌⊎◌, ℕ, suc, ◌+◌, ◌<◌, ◌≤◌, ◌==◌, Bool, true, false, List, [], ◌∷◌, Option, Some, None, IsSome, is_some, length, slice_index_or, inl, inr, refl, sym, ap, ◌∙◌, subst, false≢true, LimboEntry, Item, is_waiting, World, IsPlaceOf, place_at, phase_at, IsWhole, Val, ScriptState, OpenSince, opening_at}
+use Rattle.sdd_script_model.specs.Due.{closes, ends}
+use Rattle.sdd_script_model.proofs.Lemmas.{inside}
 use Rattle.sdd_script_model.proofs.Awaiting.{AwaitsAt}
-use Rattle.sdd_script_model.proofs.Terms.{◌≡◌, ◌⊎◌, ℕ, suc, ◌+◌, ◌<◌, ◌≤◌, ◌==◌, Bool, true, false, List, [], ◌∷◌, Option, Some, None, IsSome, is_some, length, slice_index_or, inl, inr, refl, sym, ap, ◌∙◌, subst, false≢true, LimboEntry, Item, is_waiting, World, IsPlaceOf, place_at, phase_at, IsWhole, Val, ScriptState, OpenSince, opening_at, inside}
 
 -- ---- places
 
@@ -37,9 +36,6 @@ none-ended (x ∷ xs) none = (let first : is_ended x ≡ false = none 0 in rw fi
 -- ---- one line more
 
 module _ (past : List Line) (line : Line) (n : ℕ) where
-  pub quiet-first : opens n line ≡ false → opens_first n past line ≡ false
-  quiet-first e = rw e refl
-
   pub quiet-found : opens n line ≡ false → last_found n (line ∷ past) ≡ last_found n past
   quiet-found e = rw e refl
 

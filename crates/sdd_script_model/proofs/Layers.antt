@@ -1,5 +1,5 @@
 -- Which item is older, after each call
-use Rattle.sdd_script_model.proofs.Words.{◌≡◌, ◌≢◌, ◌⊎◌, inl, inr, ℕ, zero, suc, ◌+◌, ◌<◌, ◌≤◌, List, length, Bool, true, false, Option, Some, None, map, is_some, slice_index_or, slice_set, count_by, refl, sym, ap, ◌∙◌, arith, replicate, cases_eq, length-map, get_or-set_same, get_or-set_other, IsEmptyAt, Standing, is_out, standing_at, value_at, times_held, is_owner_of, made_as, nulled, outside-out, in_value-out, Val, body_of, holdings_of, ScriptState, name_at, number_in, IsStored, HoldsOnlyOlder, SlotsHaveNames, named_owners}
+use Rattle.sdd_script_model.proofs.Words.{◌≡◌, ◌≢◌, ◌⊎◌, inl, inr, ℕ, ◌+◌, ◌<◌, ◌≤◌, List, length, Bool, true, Option, Some, None, map, is_some, slice_index_or, slice_set, count_by, refl, sym, ap, ◌∙◌, arith, cases_eq, length-map, get_or-set_same, get_or-set_other, IsEmptyAt, Standing, is_out, standing_at, value_at, times_held, is_owner_of, made_as, nulled, outside-out, in_value-out, Val, body_of, holdings_of, ScriptState, name_at, number_in, IsStored, HoldsOnlyOlder, SlotsHaveNames, named_owners, common_steps}
 use Rattle.sdd_script_model.proofs.Counting.{AreCounted, times_in, times-held}
 use Rattle.sdd_script_model.proofs.Links.{HoldsLess}
 use Rattle.sdd_script_model.proofs.Stocked.{out-named}
@@ -13,11 +13,6 @@ layered-less d new older less names j k some = rw names (by (value_at new.world 
       let was = less j v e in
       let same : times_in k (body_of v) ≡ times_in k (body_of was.0) = ap (count_by (is_owner_of k)) was.3 in
       older j k (omega (arith, some, same, times-held v k, times-held was.0 k, ap (times_held holdings_of k) was.1))
-
-pub blank-at : {E : Type 0} (n k : ℕ) → slice_index_or (replicate {A = Option E} n None) k None ≡ None
-blank-at zero k = refl
-blank-at (suc n) zero = refl
-blank-at (suc n) (suc k) = blank-at n k
 
 -- there are as many values as slots
 pub filled-long : {A B : Type 0} (vs : List (Option A)) (ss : List (Option B)) → map is_some vs ≡ map is_some ss → length vs ≡ length ss
@@ -37,15 +32,11 @@ module _ (d : ScriptState) (l : HoldsOnlyOlder d) (a : AreCounted d d.world) (st
 
   -- what is out is elsewhere, and has a name that was given
   elsewhere : (i : ℕ) → is_out (standing_at d.world i) ≡ true → i ≢ k
-  elsewhere i out same =
-      let none : is_out (standing_at d.world i) ≡ false = ap (λ (n : ℕ). is_out (standing_at d.world n)) same ∙ ap is_out free.1 in
-      let never : true ≡ false = sym out ∙ none in cc
+  elsewhere i out same = let none = free.1 in grind arith
 
   older-name : (i : ℕ) → is_out (standing_at d.world i) ≡ true → (IsStored d.bags d.world i → ⊥) → number_at i < length d.slots
   older-name i out off =
-      let was = get_or-set_other d.names k i (Some (length d.slots)) None (elsewhere i out) in
-      let own = out-named d stocked i out off in
-      omega (arith, ap number_in (was ∙ own.is), own.given)
+      let own = out-named d stocked i out off in let apart = elsewhere i out in grind (arith, common_steps)
 
   made-older : (j i : ℕ) → (j ≡ k) ⊎ (j ≢ k) → 1 ≤ times_held holdings_of i (slice_index_or (slice_set d.world.values k (Some v)) j None) →
       number_at i < number_at j
@@ -55,16 +46,13 @@ module _ (d : ScriptState) (l : HoldsOnlyOlder d) (a : AreCounted d d.world) (st
       let held : 1 ≤ times_in i (body_of v) = omega (arith, some, ap (times_held holdings_of i) value, times-held v i) in
       let mine : 1 ≤ named_owners d i = omega (arith, held, moved i) in
       let out = outside-out holdings_of d.world i (named_owners d) a mine in
-      let own : number_at j ≡ length d.slots =
-      ap number_at same ∙ ap number_in (get_or-set_same d.names k (Some (length d.slots)) None (omega (arith, free.0, stocked.names))) in
+      let own : number_at j ≡ length d.slots = rw same (grind (arith, common_steps, stocked.names)) in
       omega (arith, own, older-name i out (no_storage i (inl mine)))
   made-older j i (inr apart) some =
       let value = get_or-set_other d.world.values k j (Some v) None apart in
       let before : 1 ≤ times_held holdings_of i (value_at d.world j) = omega (arith, some, ap (times_held holdings_of i) value) in
       let out = in_value-out holdings_of d.world j i (named_owners d) a before in
-      let mine = ap number_in (get_or-set_other d.names k i (Some (length d.slots)) None (elsewhere i out)) in
-      let its = ap number_in (get_or-set_other d.names k j (Some (length d.slots)) None apart) in
-      omega (arith, mine, its, l j i before)
+      let was = l j i before in let own = elsewhere i out in grind (arith, common_steps)
 
   pub layered-made : (new : ScriptState) → new.world ≡ made_as (nulled d.world c) k v s → new.names ≡ made_names → HoldsOnlyOlder new
   layered-made new world names = rw (world, names) (λ j i some. made-older j i (cases_eq j k) some)

@@ -1,20 +1,18 @@
 -- What the lines so far say of a desk, after a line that closes a guard
-use Rattle.sdd_script_model.proofs.Words.{◌&&◌, not, list_all, eq-eqb, ne_eqb, NobodyEnded, with_place, rested, is_ended, having_seen, Entries, PlaceState, keeps-closed, closed, live-is, nothing-waits, guards-closed, one-if, still-live, GuardName, ItemName, JobName, PlaceName, At, Line, adopts, count_shown, has_ended, is_waiting_in, leaves_none_ended, open_guards, start_of, IsParticipant, place_of}
-use Rattle.sdd_participants.specs.EpochState as time
-use Rattle.sdd_participants.specs.EpochState.{passes, last_count}
+use Rattle.sdd_script_model.proofs.Words.{◌&&◌, not, list_all, eq-eqb, ne_eqb, with_place, rested, is_ended, having_seen, Entries, PlaceState, keeps-closed, closed, live-is, nothing-waits, guards-closed, one-if, still-live, GuardName, ItemName, JobName, PlaceName, At, Line, adopts, count_shown, has_ended, is_waiting_in, leaves_none_ended, open_guards, start_of, IsParticipant, place_of, passes, last_count, LimboEntry, [], ◌≡◌, ◌≢◌, ◌⊎◌, ℕ, ◌+◌, ◌-◌, ◌<◌, ◌≤◌, ◌==◌, Bool, true, false, nat_lt, if◌then◌else◌, List, ◌∷◌, Some, None, length, slice_index_or, inl, inr, refl, sym, ap, ◌∙◌, subst, arith, cases_eq, cases_lt, false≢true, nat_tests, Contains, EpochState, IsLive, is_open, phase_at, Participant, World, IsPlaceOf, place_at, IsWhole, Val, ScriptState}
 use Rattle.sdd_participants.specs.Bags.{Bags}
 use Rattle.sdd_participants.proofs.Adopting.{none-left}
 use Rattle.sdd_space.specs.Adopting.{IsToScan}
 use Rattle.sdd_space.proofs.Adopted.{adopts-what-is-left}
 use Rattle.sdd_space.proofs.Closes.{how-closed, put-same}
 use Rattle.sdd_space.proofs.Under.{closed-persists}
-use Rattle.sdd_script_text.specs.declared.answer.Reply.TheVariants as reply
-use Rattle.sdd_script_text.specs.declared.call.Action.TheVariants as call
-use Rattle.sdd_script_model.proofs.History.{home, home-apart, home-inside, begins-not, not-adopted, quiet-guards, none-ended, seen-as, waits-same, start-adopted, start-kept, HasSeen, HoldsAt, Tells}
-use Rattle.sdd_script_model.proofs.History as history
+use Rattle.sdd_script_model.proofs.History.{home, home-apart, home-inside, begins-not, not-adopted, quiet-guards, none-ended, seen-as, waits-same, start-adopted, start-kept, HasSeen, Tells}
 use Rattle.sdd_script_model.proofs.Telling.{home-is, line, held-on}
 use Rattle.sdd_script_model.proofs.Awaiting.{AwaitsAt}
-use Rattle.sdd_script_model.proofs.Terms.{LimboEntry, [], ◌≡◌, ◌≢◌, ◌⊎◌, ℕ, ◌+◌, ◌-◌, ◌<◌, ◌≤◌, ◌==◌, Bool, true, false, nat_lt, if◌then◌else◌, List, ◌∷◌, Some, None, length, slice_index_or, inl, inr, refl, sym, ap, ◌∙◌, subst, arith, cases_eq, cases_lt, false≢true, nat_tests, Contains, EpochState, IsLive, is_open, phase_at, Participant, World, IsPlaceOf, place_at, IsWhole, Val, ScriptState}
+use Rattle.sdd_participants.specs.EpochState as time
+use Rattle.sdd_script_text.specs.declared.answer.Reply.TheVariants as reply
+use Rattle.sdd_script_text.specs.declared.call.Action.TheVariants as call
+use Rattle.sdd_script_model.proofs.History as history
 
 -- ---- a close scans, or leaves what waits and who has ended as it is
 
@@ -27,11 +25,6 @@ pub record StaysPut (t u : EpochState) : Type 0 where
 module _ (t : EpochState) (p : ℕ) (l : IsLive t p) where
   put-still : (x : Participant) → x.bags ≡ (time.place_at t p).bags → StaysPut t (with_place t p x)
   put-still x e = record { phases = refl; count = refl; bags = put-same (λ (y : Participant). y.bags) t p x l.0 e }
-
-  -- the last guard is closed after a scan that does nothing
-  rested-still : (s : EpochState) → s ≡ t → StaysPut t (with_place s p (rested t.marked (time.place_at s p)))
-  rested-still s e = subst (λ (u : EpochState). StaysPut t (with_place u p (rested t.marked (time.place_at u p)))) (sym e)
-      (put-still (rested t.marked (time.place_at t p)) refl)
 
   abbrev one : Bool
   one = nat_lt 1 (time.place_at t p).guards

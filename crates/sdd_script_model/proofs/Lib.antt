@@ -1,6 +1,4 @@
 pub mod Words
-pub mod StockWords
-pub mod Terms
 pub mod Entry
 pub mod SmallSteps
 pub mod Stocked
@@ -17,7 +15,10 @@ pub mod Deferred
 pub mod JobDates
 pub mod Frames
 pub mod Storing
+pub mod StackedCells
 pub mod Chains
+pub mod ListsApart
+pub mod Lemmas
 pub mod StackChains
 pub mod BagChains
 pub mod Going

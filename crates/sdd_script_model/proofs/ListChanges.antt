@@ -1,8 +1,5 @@
 -- What lets go of a list's first entry, puts one in front, changes a tag, and begins and ends a list, leaves all lists there
-use Rattle.sdd_script_model.proofs.Words.{◌≡◌, ◌≢◌, ◌⊎◌, ◌+◌, ◌≤◌, ◌<◌, inl, inr, length, ℕ, List, [], ◌∷◌, Bool, true, false, Option, Some, None, is_some, slice_index_or, slice_set, refl, sym, ap, ◌∙◌, subst, arith, ◌==◌, if◌then◌else◌, cases_eq, Tag, Second, Both, Entries, IsEmptyAt, entry_at, CellContents, Claim, right_to, IsLedger, inside as inner, World, standing_at, value_at, held_in, nulled, with_cell, with_value, without_cell, IsAmong, Apart, AreLinked, Entry, IsList, first_slot, let_go_first, linked_in, retagged, linked-ends, list-apart, list-without, bare, behind, list-same, retagged-list, KeepsGone, gone-same, gone-then, gone-written, let-go-kept, other-free, other-tag, second-kept, IsSecond, AreNumbers, Begins, HasLists, HoldsEntry, IsListed, IsLoose, IsNumber, Val, body_of, holdings_of, link_of, once-waits}
-use Rattle.sdd_core.specs.declared.tag.Tag.TheVariants.{None as no_tag}
-use Rattle.sdd_lists.proofs.Pushing.{pushed}
-use Rattle.sdd_lists.proofs.LetGo.{gone-first}
+use Rattle.sdd_script_model.proofs.Words.{◌≡◌, ◌≢◌, ◌⊎◌, ◌+◌, ◌≤◌, ◌<◌, inl, inr, length, ℕ, List, [], ◌∷◌, Bool, true, false, Option, Some, None, is_some, slice_index_or, slice_set, refl, sym, ap, ◌∙◌, subst, arith, ◌==◌, if◌then◌else◌, cases_eq, Tag, Second, Both, Entries, IsEmptyAt, entry_at, CellContents, Claim, right_to, IsLedger, inside as inner, World, standing_at, value_at, held_in, nulled, with_cell, with_value, without_cell, IsAmong, Apart, AreLinked, Entry, IsList, first_slot, let_go_first, linked_in, retagged, linked-ends, list-apart, list-without, bare, behind, list-same, retagged-list, KeepsGone, gone-same, gone-then, gone-written, let-go-kept, other-free, other-tag, second-kept, IsSecond, AreNumbers, Begins, HasLists, HoldsEntry, IsListed, IsLoose, IsNumber, Val, body_of, holdings_of, link_of, pushed, gone-first, no_tag, common_steps}
 use Rattle.sdd_script_model.proofs.Entry.{at-other, at-same, inside, set-either}
 use Rattle.sdd_script_model.proofs.Links.{null}
 use Rattle.sdd_script_model.proofs.Listed.{AreOwn, StaysGone, StaysLoose, still-among, link-inside, IsAsBefore, among-link, apart-item, apart-own, as-before, has-changed, has-kept, held-by, link-apart, links-apart, loose-as, loose-on, same-list}
@@ -17,15 +14,11 @@ module _ (v w : World Val) (l c : ℕ) (x y : CellContents) (cells : w.cells ≡
       (list-apart link_of v (with_cell v l x) b t es l x refl refl far all list)
 
   pub third : (i : ℕ) → i ≢ l → i ≢ c → entry_at w.cells i ≡ entry_at v.cells i
-  third i far off =
-      ap (λ (cs : Entries CellContents). entry_at cs i) cells ∙ at-other (slice_set v.cells l (Some x)) c i (Some y) None off
-      ∙ at-other v.cells l i (Some x) None far
+  third i far off = grind (arith, common_steps)
 
   -- what held nothing holds nothing, unless one of the two is written
   pub none-still : (i : ℕ) → i ≢ c → x.held ≡ None → held_in (entry_at v.cells i) ≡ None → held_in (entry_at w.cells i) ≡ None
-  none-still i off nothing none =
-      ap (λ (cs : Entries CellContents). held_in (entry_at cs i)) cells ∙ ap held_in (at-other (slice_set v.cells l (Some x)) c i (Some y) None off)
-      ∙ elim (set-either v.cells l i (Some x) None) [ inl is ↦ ap held_in is ∙ nothing | inr is ↦ ap held_in is ∙ none ]
+  none-still i off nothing none = grind (arith, common_steps)
 
   pub value-was : (s : ℕ) (z : Val) → value_at w s ≡ Some z → value_at v s ≡ Some z
   value-was s z e = ap (λ vs. slice_index_or vs s None) (sym values) ∙ e
@@ -217,9 +210,6 @@ module _ (begins : ℕ → Type 0) (seconds : (c b : ℕ) → Type 0) (stored : 
     has-put_in =
         has-changed begins seconds stored v wider had c its seconds-stay gone-stays es (entry ∷ es) old longer (number, numbers)
         (λ b y. absurd (single b y)) kept-others fresh-or linked-or
-
-    pub put_in-list : Begins wider c (entry ∷ es)
-    put_in-list = longer
 
 -- ---- a link changes its tag, and holds what it held
 
@@ -652,12 +642,7 @@ module _ (begins : ℕ → Type 0) (seconds : (c b : ℕ) → Type 0) (stored : 
     (own : AreOwn begins seconds outside) (had : HasLists begins seconds stored v) (values : w.values ≡ v.values)
     (cells : (i : ℕ) → (entry_at w.cells i ≡ entry_at v.cells i) ⊎ (entry_at w.cells i ≡ None)) where
   still-taken : (i : ℕ) → 1 ≤ outside (right_to i) + inner holdings_of w (right_to i) → entry_at w.cells i ≡ entry_at v.cells i
-  still-taken i some = elim (cells i) [
-    | inl same ↦ same
-    | inr gone ↦
-        (let taken : is_some (entry_at w.cells i) ≡ true = once-waits (is_some (entry_at w.cells i)) (omega (arith, ledger (right_to i), some)) in
-        absurd (let never : false ≡ true = sym (ap is_some gone) ∙ taken in cc))
-  ]
+  still-taken i some = grind (arith, common_steps)
 
   linked-freed : (es : List (Entry Val)) → AreLinked link_of v es → AreLinked link_of w es
   linked-freed [] linked = tt

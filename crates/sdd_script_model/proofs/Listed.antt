@@ -1,11 +1,12 @@
 -- Lists that begin in known cells stay over calls, and change where an entry comes or goes
-use Rattle.sdd_script_model.proofs.Words.{◌≡◌, ◌≢◌, ◌⊎◌, ◌+◌, ◌≤◌, inl, inr, ℕ, List, [], ◌∷◌, Option, Some, None, is_some, slice_index_or, slice_set, refl, sym, ap, ◌∙◌, subst, arith, cases_eq, get_or-le-sum_by, Tag, Both, entry_at, CellContents, Claim, owner_of, right_to, inside, times_kept, IsLedger, Keeps, Moves, Sets, Tells, World, value_at, held_in, IsWhole, sum-out, once-bound, ledger-laws, EndsWith, IsAmong, Apart, AreLinked, Entry, IsList, first_slot, IsLetGo, IsSecond, linked-ends, tag_in, AreNumbers, Begins, HasLists, HoldsEntry, IsListed, IsLoose, Val, holdings_of, link_of}
-use Rattle.sdd_lists.proofs.Ending.{among-ends}
-use Rattle.sdd_script_model.proofs.Entry.{at-other}
-use Rattle.sdd_script_model.proofs.Entry.{inside as inside-list}
-use Rattle.sdd_script_model.proofs.Links.{HoldsLess, link-claimed}
+use Rattle.sdd_script_model.proofs.Words.{◌≡◌, ◌≢◌, ◌⊎◌, ◌+◌, ◌≤◌, inl, inr, ℕ, List, [], ◌∷◌, Option, Some, None, is_some, slice_index_or, slice_set, refl, sym, ap, ◌∙◌, subst, arith, cases_eq, get_or-le-sum_by, Tag, Both, entry_at, CellContents, Claim, owner_of, right_to, inside, times_kept, IsLedger, Keeps, Moves, Sets, Tells, World, value_at, held_in, IsWhole, sum-out, once-bound, ledger-laws, EndsWith, IsAmong, Apart, AreLinked, Entry, IsList, first_slot, IsLetGo, IsSecond, linked-ends, tag_in, AreNumbers, Begins, HasLists, HoldsEntry, IsListed, IsLoose, Val, holdings_of, link_of, among-ends, common_steps, claims}
+use Rattle.sdd_script_model.proofs.Entry.{at-other, inside as inside-list}
+use Rattle.sdd_script_model.proofs.Links.{HoldsLess, holds-so, same-once}
 
 -- ---- what the ledger tells of links
+
+pub link-claimed : (v : Val) → 1 ≤ claims (holdings_of v) (right_to (link_of v))
+link-claimed v = omega (arith, holds-so v (right_to (link_of v)), same-once (link_of v))
 
 module _ (w : World Val) (outside : Claim → ℕ) (ledger : IsLedger holdings_of outside w) where
   tells : Tells holdings_of outside w
@@ -17,10 +18,7 @@ module _ (w : World Val) (outside : Claim → ℕ) (ledger : IsLedger holdings_o
 
   -- so it is no cell to which somebody has the right
   pub link-apart : (c s : ℕ) (x : Val) → 1 ≤ outside (right_to c) → value_at w s ≡ Some x → c ≢ link_of x
-  link-apart c s x mine e same =
-      let alone = tells.alone c mine in
-      let inner : 1 ≤ inside holdings_of w (right_to c) = subst (λ l. 1 ≤ inside holdings_of w (right_to l)) (sym same) (link-inside s x e) in
-      omega (arith, alone.2, inner)
+  link-apart c s x mine e same = grind (arith, common_steps)
 
   -- nor the link of another value
   pub links-apart : (s t : ℕ) (x y : Val) → value_at w s ≡ Some x → value_at w t ≡ Some y → link_of x ≡ link_of y → s ≡ t

@@ -1,13 +1,7 @@
 -- What is kept where an entry is put at the end of a list, and what is there let go of
-use Rattle.sdd_script_model.proofs.Words.{◌≡◌, ◌≢◌, ◌⊎◌, ◌+◌, inl, inr, ℕ, List, [], ◌∷◌, ◌++◌, Bool, true, false, Option, Some, None, is_some, slice_index_or, refl, sym, ap, ◌∙◌, subst, arith, if◌then◌else◌, Tag, Second, Entries, entry_at, CellContents, Claim, owner_of, one, changes_cell, World, IsPlaceOf, standing_at, value_at, held_in, with_cell, End, IsAmong, appended, end_of, is_spent, through_last, Apart, AreLinked, Entry, IsList, first_slot, let_go_first, trimmed, trimmed-list, bare, behind, apart-first, trim-other, trim-values, AreNumbers, IsNumber, ScriptState, Val, body_of, link_of}
-use Rattle.sdd_lists.specs.Ends.{put_at}
-use Rattle.sdd_lists.proofs.Ending.{apart-ends, both, left-none}
-use Rattle.sdd_lists.proofs.Lists.{apart}
-use Rattle.sdd_script_model.proofs.Entry.{at-other, at-same, inside}
-use Rattle.sdd_script_model.proofs.Links.{null}
-use Rattle.sdd_script_model.proofs.Listed.{among-link}
+use Rattle.sdd_script_model.proofs.Words.{◌≡◌, ◌≢◌, ◌⊎◌, ◌+◌, inl, inr, ℕ, List, [], ◌∷◌, ◌++◌, Bool, true, false, Option, Some, None, is_some, slice_index_or, refl, sym, ap, ◌∙◌, subst, arith, if◌then◌else◌, Tag, Second, Entries, entry_at, CellContents, Claim, owner_of, one, changes_cell, World, IsPlaceOf, standing_at, value_at, held_in, with_cell, End, IsAmong, appended, end_of, is_spent, through_last, Apart, AreLinked, Entry, IsList, first_slot, let_go_first, trimmed, trimmed-list, bare, behind, apart-first, trim-other, trim-values, AreNumbers, IsNumber, ScriptState, Val, body_of, link_of, put_at, apart-ends, both, left-none, apart}
+use Rattle.sdd_script_model.proofs.Lemmas.{at-other, at-same, null, among-link, IsReserved, reserved-was, inside}
 use Rattle.sdd_script_model.proofs.StackChains.{IsBetween, between-as, front-goes, goes-on, link-off}
-use Rattle.sdd_script_model.proofs.Storing.{IsReserved, reserved-was}
 
 -- ---- which entries stay
 

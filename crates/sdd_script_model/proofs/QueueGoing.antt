@@ -1,24 +1,10 @@
 -- What is always true of a desk is true after each line on a queue, but for a push
-use Rattle.sdd_script_model.proofs.Words.{◌≡◌, ◌≢◌, ◌⊎◌, ◌+◌, ◌<◌, ◌≤◌, inl, inr, ℕ, List, [], ◌∷◌, ◌++◌, Bool, true, false, Option, Some, None, is_some, length, slice_set, refl, sym, ap, ◌∙◌, subst, arith, if◌then◌else◌, cases_eq, length-set, IsEmptyAt, entry_at, OwnerOrCell, Claim, owner_of, right_to, one, owner_held, IsLedger, changes_cell, makes_cell, spends_cell, World, IsPlaceOf, value_at, nulled, spilled, with_cell, with_standing, without_cell, IsWhole, ledger-laws, Entry, emptied, IsQueue, IsSecond, QueueCells, cell_emptied, cell_left, lets_go_of, queue_closed, list-apart, list-without, spilled-cells, spilled-values, list-same, IsStored, AreNumbers, Begins, HasLists, HoldsEntry, IsNumber, DrainsQueue, IsNamedQueue, TakesOldest, ScriptState, IsListCell, IsSecondCell, holding_at, in_world, shared_cell, with_owner, with_queue, IsSound, contained, named, stacked, Val, body_of, holdings_of, link_of}
-use Rattle.sdd_core.specs.declared.tag.Tag.TheVariants.{None as no_tag}
-use Rattle.sdd_participants.specs.declared.standing.Standing.TheVariants as standing
-use Rattle.sdd_space.specs.OwnerOrCell as holding
-use Rattle.sdd_script_model.specs.ScriptState.{without_queue}
-use Rattle.sdd_script_model.proofs.Attending.{left-entry, pushed-entry}
-use Rattle.sdd_script_model.proofs.Chains.{AtHome, IsMidway, LeavesSound, are-own, at_home-given, at_home-spent, finishes, left-apart, list-apart-from, midway-as, moves, own-midway, shares-one, sound-after, stacked-right, stacked-twice, starts}
-use Rattle.sdd_script_model.proofs.Counting.{tells, owner-given, some-holding, stack-given, stack-spent}
-use Rattle.sdd_script_model.proofs.Dates.{dated-same}
-use Rattle.sdd_script_model.proofs.Entry.{at-other, at-pushed, at-same}
-use Rattle.sdd_script_model.proofs.Entry.{inside as inside-list}
-use Rattle.sdd_script_model.proofs.Frames.{Frames, frames-on, frames-start, quiet-less}
-use Rattle.sdd_script_model.proofs.Layers.{layered-less}
-use Rattle.sdd_script_model.proofs.Links.{null, same-once}
-use Rattle.sdd_script_model.proofs.Listed.{AreOwn, apart-own, has-stored, same-list}
-use Rattle.sdd_script_model.proofs.ListChanges.{has-begun, has-ended, has-same, has-seconds}
+use Rattle.sdd_script_model.proofs.Words.{◌≡◌, ◌≢◌, ◌⊎◌, ◌+◌, ◌<◌, ◌≤◌, inl, inr, ℕ, List, [], ◌∷◌, ◌++◌, Bool, true, false, Option, Some, None, is_some, length, slice_set, refl, sym, ap, ◌∙◌, subst, arith, if◌then◌else◌, cases_eq, IsEmptyAt, entry_at, OwnerOrCell, Claim, owner_of, right_to, one, owner_held, IsLedger, changes_cell, makes_cell, spends_cell, World, IsPlaceOf, value_at, nulled, spilled, with_cell, with_standing, without_cell, IsWhole, ledger-laws, Entry, emptied, IsQueue, IsSecond, QueueCells, cell_emptied, cell_left, lets_go_of, queue_closed, list-apart, list-without, spilled-cells, spilled-values, list-same, IsStored, AreNumbers, Begins, HasLists, HoldsEntry, IsNumber, DrainsQueue, IsNamedQueue, TakesOldest, ScriptState, IsListCell, IsSecondCell, holding_at, in_world, shared_cell, with_owner, with_queue, IsSound, contained, named, stacked, Val, body_of, holdings_of, link_of, without_queue, no_tag, common_steps}
+use Rattle.sdd_script_model.proofs.Lemmas.{left-entry, pushed-entry, AtHome, IsMidway, LeavesSound, are-own, at_home-given, at_home-spent, finishes, left-apart, list-apart-from, midway-as, moves, own-midway, shares-one, leaves-with, same-line, stacked-right, stacked-twice, tells, some-holding, stack-given, stack-spent, dated-same, at-other, at-pushed, Frames, frames-on, frames-start, quiet-less, null, same-once, AreOwn, apart-own, same-list, has-begun, has-ended, has-same, has-seconds, spare-on, stays-on, starts, owner-given, inside as inside-list}
 use Rattle.sdd_script_model.proofs.StackChains.{IsSingle, IsWith, between, empties, goes-on, in-front, midway, removed-value, removes, spills-between, trims}
 use Rattle.sdd_script_model.proofs.StackGoing.{IsDatedWithin, dated-all}
-use Rattle.sdd_script_model.proofs.Stocked.{stocked-as}
-use Rattle.sdd_script_model.proofs.Storing.{bags-still, spare-on, stays-on, stored-still}
+use Rattle.sdd_participants.specs.declared.standing.Standing.TheVariants as standing
+use Rattle.sdd_space.specs.OwnerOrCell as holding
 
 -- ---- what a cell held is given up
 
@@ -65,10 +51,7 @@ module _ (d : ScriptState) (s : IsSound d) (whole : IsWhole d.world) (p : ℕ) (
       inl (n, ap shared_cell (at-pushed d.queues (Some first_cell) None n (λ same. omega (arith, same, lt))) ∙ is)
 
   half-second : (c b : ℕ) → IsSecondCell half c b → IsSecondCell d c b
-  half-second c b (n, oldest, newest) =
-      let h = some-holding shared_cell refl (holding_at d.newest n) b newest in
-      let lt : n < length d.newest = inside-list d.newest n (ap is_some h.1) in
-      (n, ap shared_cell (sym (at-pushed d.queues (Some first_cell) None n (λ same. omega (arith, same, lt, long)))) ∙ oldest, newest)
+  half-second c b h = grind (arith, common_steps)
 
   begun : IsMidway half (nulled d.world q.oldest) (named d)
   begun =
@@ -85,21 +68,13 @@ module _ (d : ScriptState) (s : IsSound d) (whole : IsWhole d.world) (p : ℕ) (
       }
 
   still-free : IsEmptyAt (nulled d.world q.oldest).cells q.newest
-  still-free =
-      let same = at-other d.world.cells q.oldest q.newest (Some null) None (λ e. apart (sym e)) in
-      (omega (arith, other.0, cells-long), same ∙ other.1) where
-        cells-long : length (nulled d.world q.oldest).cells ≡ length d.world.cells
-        cells-long = length-set d.world.cells q.oldest (Some null)
+  still-free = grind (arith, common_steps)
 
   both : IsMidway half (nulled (nulled d.world q.oldest) q.newest) (λ u. named d u + one (right_to q.newest) u)
   both = moves begun (makes_cell (nulled d.world q.oldest) q.newest null still-free) tt (named d) (λ u. omega arith) (λ u never. absurd never)
 
   bare-second : (es : List (Entry Val)) → HoldsEntry after_queue_begun.world q.newest es
-  bare-second es = record {
-    second = None;
-    holds = at-same (nulled d.world q.oldest).cells q.newest (Some null) None still-free.0;
-    among = tt;
-  }
+  bare-second es = grind (arith, common_steps)
 
   new-second : (c b : ℕ) → IsSecondCell after_queue_begun c b →
       IsSecondCell half c b ⊎ (IsListCell half c × ((es : List (Entry Val)) → Begins after_queue_begun.world c es → HoldsEntry after_queue_begun.world b es))
@@ -116,32 +91,17 @@ module _ (d : ScriptState) (s : IsSound d) (whole : IsWhole d.world) (p : ℕ) (
   pub queue_begun-leaves : LeavesSound d after_queue_begun
   queue_begun-leaves =
       let m = both in
-      let dated = dated-same d after_queue_begun refl refl in
-      let stored = stored-still d after_queue_begun refl m.bags in
-      record {
-        line = refl;
-        places = refl;
-        sound = sound-after d after_queue_begun s m.frames.passes (refl, refl, refl, refl, refl, refl) dated p live
-            (stocked-as d after_queue_begun s.stocked refl refl dated.long m.frames.slots stored)
-            (λ u. omega (arith, m.ledger u, stack-given d.newest second_cell q.newest refl u))
-            (has-stored stored
-            (has-seconds (IsListCell half) (IsSecondCell half) (IsSecondCell after_queue_begun) (IsStored d.bags d.world) after_queue_begun.world m.lists
-            new-second))
-            (bags-still d after_queue_begun s.bags refl m.bags refl (λ k x. refl)) m.spare
-            (layered-less d after_queue_begun s.layered m.frames.values refl)
-            (record {
-              owners = s.home.owners;
-              cells = s.home.cells;
-              collectors = s.home.collectors;
-              queues = at_home-given d.world.home d.queues first_cell refl s.home.queues;
-              newest = at_home-given d.world.home d.newest second_cell refl s.home.newest;
-              stacks = s.home.stacks;
-            })
-            s.made;
-        dated = dated;
-        calls = m.frames.passes.calls;
-        home = m.frames.slots.home;
-      }
+      leaves-with d after_queue_begun s (same-line d) (dated-same d after_queue_begun refl refl) p live m.frames (refl, refl, refl) m.bags
+      (λ u. omega (arith, m.ledger u, stack-given d.newest second_cell q.newest refl u))
+      (has-seconds (IsListCell half) (IsSecondCell half) (IsSecondCell after_queue_begun) (IsStored d.bags d.world) after_queue_begun.world m.lists new-second)
+      m.spare (
+        s.home.owners,
+        s.home.cells,
+        s.home.collectors,
+        at_home-given d.world.home d.queues first_cell refl s.home.queues,
+        at_home-given d.world.home d.newest second_cell refl s.home.newest,
+        s.home.stacks,
+      )
 
 -- ---- what a queue has, by its names
 
@@ -460,40 +420,25 @@ module _ (d : ScriptState) (s : IsSound d) (whole : IsWhole d.world) (p : ℕ) (
         let move = spends_cell drained q.oldest (record { held = None; tag = no_tag }) all-gone.list.begins in
         let kept = (ledger-laws holdings_of drained).kept m.whole _ _ after_queue_closed.world move in
         let frames = queue_closed-frames in
-        let dated = dated-all d after_queue_closed s.stocked frames.slots.slots within in
         let before : IsLedger holdings_of (λ u. named d u + contained (without_queue d n) u + one (right_to q.oldest) u) drained =
         λ u. omega (arith, m.ledger u, first-less d n q is.oldest u) in
-        let stay = stays-on (without_queue d n) move m.whole (named d) before tt m.bags in
-        let stored = stored-still d after_queue_closed refl stay in
-        record {
-          line = refl;
-          places = refl;
-          sound = sound-after d after_queue_closed s frames.passes (refl, refl, refl, refl, refl, refl) dated p live
-              (stocked-as d after_queue_closed s.stocked refl refl dated.long frames.slots stored)
-              (λ u. omega (
-                arith,
-                kept.ledger (λ x. named d x + contained after_queue_closed x) (λ x. omega (arith, m.ledger x, first-less d n q is.oldest x)) u,
-              ))
-              (has-stored stored
-              (has-seconds (IsListCell after_queue_closed) (IsSecondCell without_second) (IsSecondCell after_queue_closed) (IsStored d.bags d.world)
-              after_queue_closed.world
-              (has-ended (IsListCell without_second) (IsListCell after_queue_closed) (IsSecondCell without_second) (IsStored d.bags d.world) drained
-              (λ u. named d u + contained without_second u) m.ledger (own-midway m) m.lists q.oldest its.begins its.single all-gone.list
-              (was-first d s n q is.oldest) (kept-first d n q is.oldest))
-              (λ c b y. inl (second-was d n c b y))))
-              (bags-still d after_queue_closed s.bags refl stay frames.slots.home (λ k x. refl))
-              (spare-on (without_queue d n) move m.whole (named d) before tt m.spare (quiet-less move tt))
-              (layered-less d after_queue_closed s.layered frames.values refl)
-              (rw frames.slots.home (record {
-                owners = s.home.owners;
-                cells = s.home.cells;
-                collectors = s.home.collectors;
-                queues = at_home-spent d.world.home d.queues n s.home.queues;
-                newest = at_home-spent d.world.home d.newest n s.home.newest;
-                stacks = s.home.stacks;
-              }))
-              (omega (arith, frames.slots.made, s.made));
-          dated = dated;
-          calls = frames.passes.calls;
-          home = frames.slots.home;
-        }
+        leaves-with d after_queue_closed s (same-line d) (dated-all d after_queue_closed s.stocked frames.slots.slots within) p live frames
+        (refl, refl, refl) (stays-on (without_queue d n) move m.whole (named d) before tt m.bags)
+        (λ u. omega (
+          arith,
+          kept.ledger (λ x. named d x + contained after_queue_closed x) (λ x. omega (arith, m.ledger x, first-less d n q is.oldest x)) u,
+        ))
+        (has-seconds (IsListCell after_queue_closed) (IsSecondCell without_second) (IsSecondCell after_queue_closed) (IsStored d.bags d.world)
+        after_queue_closed.world
+        (has-ended (IsListCell without_second) (IsListCell after_queue_closed) (IsSecondCell without_second) (IsStored d.bags d.world) drained
+        (λ u. named d u + contained without_second u) m.ledger (own-midway m) m.lists q.oldest its.begins its.single all-gone.list
+        (was-first d s n q is.oldest) (kept-first d n q is.oldest))
+        (λ c b y. inl (second-was d n c b y)))
+        (spare-on (without_queue d n) move m.whole (named d) before tt m.spare (quiet-less move tt)) (
+          s.home.owners,
+          s.home.cells,
+          s.home.collectors,
+          at_home-spent d.world.home d.queues n s.home.queues,
+          at_home-spent d.world.home d.newest n s.home.newest,
+          s.home.stacks,
+        )

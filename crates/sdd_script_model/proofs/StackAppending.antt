@@ -1,18 +1,12 @@
 -- What is always true of a desk is true after a number is put behind a stack's entries, which the stack alone owns
-use Rattle.sdd_script_model.proofs.Words.{◌≡◌, ◌≢◌, ◌⊎◌, ◌+◌, inl, inr, ℕ, List, [], ◌∷◌, ◌++◌, Option, Some, None, slice_index_or, refl, sym, ap, ◌∙◌, subst, arith, max, cases_eq, set-set, Tag, Entries, entry_at, Standing, Owned, Shared, Claim, owner_of, one, shares, World, IsPlaceOf, standing_at, value_at, held_in, owner_given, with_standing, IsWhole, ledger-laws, IsAmong, appended, end_of, through_last, Apart, Entry, IsList, among-last, appended-other, put-values, KeepsGone, gone-appended, gone-same, gone-then, let-go-kept, bare, list-same, IsStored, AreNumbers, Begins, HasLists, IsListed, IsLoose, Appends, IsStack, ScriptState, IsListCell, IsSecondCell, IsSound, contained, named, Val, holdings_of, link_of}
-use Rattle.sdd_core.specs.declared.tag.Tag.TheVariants.{None as no_tag}
-use Rattle.sdd_space.specs.OwnerOrCell as holding
-use Rattle.sdd_script_model.proofs.Chains.{IsMidway, are-own, stacked-right, starts}
-use Rattle.sdd_script_model.proofs.Counting.{owner-given}
-use Rattle.sdd_script_model.proofs.Links.{same-once}
-use Rattle.sdd_script_model.proofs.Listed.{AreOwn, StaysGone, apart-item, apart-own, has-changed, held-by, link-apart, links-apart, loose-as, same-list}
-use Rattle.sdd_script_model.proofs.ListChanges.{among-or}
+use Rattle.sdd_script_model.proofs.Words.{◌≡◌, ◌≢◌, ◌⊎◌, ◌+◌, inl, inr, ℕ, List, [], ◌∷◌, ◌++◌, Option, Some, None, slice_index_or, refl, sym, ap, ◌∙◌, subst, arith, max, cases_eq, set-set, Tag, Entries, entry_at, Standing, Owned, Shared, Claim, owner_of, one, shares, World, IsPlaceOf, standing_at, value_at, held_in, owner_given, with_standing, IsWhole, ledger-laws, IsAmong, appended, end_of, through_last, Apart, Entry, IsList, among-last, appended-other, put-values, KeepsGone, gone-appended, gone-same, gone-then, let-go-kept, bare, list-same, IsStored, AreNumbers, Begins, HasLists, IsListed, IsLoose, Appends, IsStack, ScriptState, IsListCell, IsSecondCell, IsSound, contained, named, Val, holdings_of, link_of, no_tag}
+use Rattle.sdd_script_model.proofs.Lemmas.{IsMidway, are-own, stacked-right, same-once, AreOwn, StaysGone, apart-item, apart-own, has-changed, held-by, link-apart, links-apart, loose-as, same-list, among-or, off-link, off-other, starts, owner-given}
 use Rattle.sdd_script_model.proofs.QueueEnds.{among-before, among-either, among-through, dropped, numbers-last, numbers-through, put-last}
 use Rattle.sdd_script_model.proofs.QueuePushing.{linked-where}
 use Rattle.sdd_script_model.proofs.StackChains.{IsBetween, IsSingle, between, goes-on, midway}
-use Rattle.sdd_script_model.proofs.Storing.{off-link, off-other}
 use Rattle.sdd_script_model.proofs.StackGoing.{is-single, numbers}
 use Rattle.sdd_script_model.proofs.StackPushing.{clear-mid, given-up, link-off, link-off_all, list-mid, made, mid, mid-whole, number-in, stands-once, there-mid, not-stored}
+use Rattle.sdd_space.specs.OwnerOrCell as holding
 
 module _ (d : ScriptState) (s : IsSound d) (whole : IsWhole d.world) (p c : ℕ) (live : IsPlaceOf d.world p) (n : ℕ) (es : List (Entry Val))
     (is : IsStack d n c es)

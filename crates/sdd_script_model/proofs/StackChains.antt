@@ -1,15 +1,29 @@
 -- What is kept where a list's entries come and go in the middle of a line
-use Rattle.sdd_script_model.proofs.Words.{◌≡◌, ◌≢◌, ◌+◌, inl, inr, ℕ, List, [], ◌∷◌, Bool, true, false, Option, Some, None, eq-eqb, slice_index_or, refl, sym, ap, ◌∙◌, subst, arith, ◌==◌, if◌then◌else◌, set_comm, Tag, Second, Entries, entry_at, CellContents, Standing, Claim, owner_of, one, owner_held, IsLedger, Moves, changes_cell, retires, releases, World, IsPlaceOf, standing_at, value_at, held_in, owner_given, spilled, with_cell, IsWhole, ledger-laws, Entry, IsList, emptied, first_slot, is_deleted, is_deleting, left, let_go_first, linked_in, removed, trimmed, retagged, bare, behind, retagged-list, apart-first, AreSpare, IsStored, AreNumbers, Begins, HasLists, IsNumber, ScriptState, IsListCell, IsSecondCell, contained, Val, body_of, holdings_of, link_of}
-use Rattle.sdd_core.specs.declared.tag.Tag.TheVariants.{None as no_tag}
-use Rattle.sdd_lists.proofs.Popping.{stays-of}
-use Rattle.sdd_script_model.proofs.Attending.{keeps-live}
-use Rattle.sdd_script_model.proofs.Chains.{IsMidway, among-apart, link-apart-from, list-apart-from, list-right, own-midway, owned-apart, retags-link}
-use Rattle.sdd_script_model.proofs.Entry.{at-other}
-use Rattle.sdd_script_model.proofs.Frames.{Frames, IsQuiet, frames-on, quiet-less}
-use Rattle.sdd_script_model.proofs.Links.{null, same-once}
-use Rattle.sdd_script_model.proofs.Listed.{link-apart}
-use Rattle.sdd_script_model.proofs.Storing.{BagsStay, IsReserved, Spares, off-among, off-link, reserved-was, spare-on, stays-on}
-use Rattle.sdd_script_model.proofs.ListChanges.{has-let_go, has-put_in}
+use Rattle.sdd_script_model.proofs.Words.{◌≡◌, ◌≢◌, ◌+◌, inl, inr, ℕ, List, [], ◌∷◌, Bool, true, false, Option, Some, None, eq-eqb, slice_index_or, refl, sym, ap, ◌∙◌, subst, arith, ◌==◌, if◌then◌else◌, set_comm, Tag, Second, Entries, entry_at, CellContents, Standing, Claim, owner_of, one, owner_held, IsLedger, Moves, changes_cell, retires, releases, World, IsPlaceOf, standing_at, value_at, held_in, owner_given, spilled, with_cell, IsWhole, ledger-laws, Entry, IsList, emptied, first_slot, is_deleted, is_deleting, left, let_go_first, linked_in, removed, trimmed, retagged, bare, behind, retagged-list, apart-first, AreSpare, IsStored, AreNumbers, Begins, HasLists, IsNumber, ScriptState, IsListCell, IsSecondCell, contained, Val, body_of, holdings_of, link_of, stays-of, no_tag, common_steps, Both, IsSound, in_world, named}
+use Rattle.sdd_script_model.proofs.Lemmas.{keeps-live, IsMidway, among-apart, link-apart-from, list-apart-from, list-right, own-midway, owned-apart, at-other, Frames, IsQuiet, frames-on, quiet-less, null, same-once, link-apart, BagsStay, IsReserved, Spares, off-among, off-link, reserved-was, spare-on, stays-on, has-let_go, has-put_in, LeavesSound, finishes, starts, dated-same}
+use Rattle.sdd_script_model.proofs.Chains.{tagged}
+use Rattle.sdd_script_model.proofs.ListChanges.{has-retagged}
+
+-- the link of an item changes, and holds the same
+pub retags-link : {d : ScriptState} {w : World Val} {outside : Claim → ℕ} → IsMidway d w outside → (k : ℕ) (x : Val) (cell now : CellContents) →
+    (IsStored d.bags d.world k → ⊥) → value_at w k ≡ Some x → entry_at w.cells (link_of x) ≡ Some cell → now.held ≡ cell.held → now.tag ≢ Both →
+    cell.tag ≢ Second →
+    IsMidway d (with_cell w (link_of x) now) outside
+retags-link {d} {w} {outside} m k x cell now off there is same plain kept =
+    tagged m (link_of x) cell now is same (link-apart-from m k x there off)
+    (has-retagged (IsListCell d) (IsSecondCell d) (IsStored d.bags d.world) w (λ u. outside u + contained d u) m.ledger (own-midway m) m.lists k x there cell
+    now is same plain kept)
+
+-- and so it is at the end of a line
+pub link-leaves : (d : ScriptState) → IsSound d → IsWhole d.world → (p c : ℕ) (cell : CellContents) → IsPlaceOf d.world p →
+    entry_at d.world.cells c ≡ Some cell → (tag : Tag) (k : ℕ) (x : Val) → (IsStored d.bags d.world k → ⊥) → value_at d.world k ≡ Some x → link_of x ≡ c →
+    tag ≢ Both → cell.tag ≢ Second → LeavesSound d (in_world d (with_cell d.world c (record cell { tag = tag })))
+link-leaves d s whole p c cell live holds tag k x off there is plain kept =
+    let now : CellContents = record cell { tag = tag } in
+    let linked = ap (λ (i : ℕ). entry_at d.world.cells i) is ∙ holds in
+    finishes d (with_cell d.world c now) d.owners d.cells d.collectors d.dates s
+    (subst (λ (i : ℕ). IsMidway d (with_cell d.world i now) (named d)) is (retags-link (starts d s whole) k x cell now off there linked refl plain kept))
+    (λ u. refl) (s.home.owners, s.home.cells, s.home.collectors) (dated-same d (in_world d (with_cell d.world c now)) refl refl) p live
 
 -- a list begins in the cell, and has no second cell
 pub record IsSingle (d : ScriptState) (c : ℕ) : Type 0 where
@@ -110,10 +124,7 @@ module _ {d : ScriptState} {w : World Val} {outside : Claim → ℕ} (b : IsBetw
 -- the values are as before where an entry is let go of
 first-values : (w : World Val) (p c : ℕ) (t : Tag) (e : Entry Val) (es : List (Entry Val)) →
     (let_go_first w p c t e.slot (link_of e.value) (first_slot es)).values ≡ w.values
-first-values w p c t e es =
-    let u : World Val =
-    with_cell (with_cell w (link_of e.value) (record { held = None; tag = Second })) c (record { held = first_slot es; tag = t }) in
-    (bare u p e.slot (standing_at u e.slot)).values
+first-values w p c t e es = grind (arith, common_steps)
 
 goes-if : {d : ScriptState} {outside : Claim → ℕ} (w u : World Val) → IsBetween d w outside → IsBetween d u outside → (b : Bool) →
     IsBetween d (if b then u else w) outside

@@ -1,24 +1,9 @@
 -- What is always true of a desk is true after each line on a stack
-use Rattle.sdd_script_model.proofs.Words.{◌≡◌, ◌≢◌, ◌⊎◌, ◌+◌, ◌<◌, ◌≤◌, inl, inr, ℕ, List, [], ◌∷◌, ◌++◌, Option, Some, None, is_some, length, slice_index_or, slice_set, refl, sym, ap, ◌∙◌, subst, arith, if◌then◌else◌, zero, suc, cases_lt, IsEmptyAt, Standing, is_waiting, OwnerOrCell, Claim, owner_of, right_to, one, IsLedger, makes_cell, spends_cell, World, IsPlaceOf, standing_at, value_at, nulled, with_standing, IsWhole, Entry, emptied, IsStored, AreNumbers, IsNumber, ScriptState, IsDated, IsListCell, IsSecondCell, date_at, holding_at, in_world, shared_cell, with_owner, with_stack, IsSound, SlotsHaveNames, contained, named, IsStack, Takes, stack_closed, Val, body_of, holdings_of, link_of, ledger-laws, list-same}
-use Rattle.sdd_core.specs.declared.tag.Tag.TheVariants.{None as no_tag}
+use Rattle.sdd_script_model.proofs.Words.{◌≡◌, ◌≢◌, ◌⊎◌, ◌+◌, ◌<◌, ◌≤◌, inl, inr, ℕ, List, [], ◌∷◌, ◌++◌, Option, Some, None, is_some, length, slice_index_or, slice_set, refl, sym, ap, ◌∙◌, subst, arith, if◌then◌else◌, zero, suc, cases_lt, IsEmptyAt, Standing, is_waiting, OwnerOrCell, Claim, owner_of, right_to, one, IsLedger, makes_cell, spends_cell, World, IsPlaceOf, standing_at, value_at, nulled, with_standing, IsWhole, Entry, emptied, IsStored, AreNumbers, IsNumber, ScriptState, IsDated, IsListCell, IsSecondCell, date_at, holding_at, in_world, shared_cell, with_owner, with_stack, IsSound, SlotsHaveNames, contained, named, IsStack, Takes, stack_closed, Val, body_of, holdings_of, link_of, ledger-laws, list-same, without_stack, Drains, no_tag, common_steps}
+use Rattle.sdd_script_model.proofs.Lemmas.{left-entry, AtHome, IsMidway, LeavesSound, at_home-given, at_home-spent, finishes, left-apart, list-apart-from, list-right, own-midway, leaves-with, same-line, shares-one, stacked-right, Frames, frames-on, quiet-less, tells, some-holding, stack-given, stack-spent, dated-same, at-other, at-pushed, null, same-once, same-list, has-begun, has-ended, spare-on, stays-on, starts, owner-given, inside as inside-list}
+use Rattle.sdd_script_model.proofs.StackChains.{IsSingle, IsWith, between, empties, goes-on, in-front, removed-value, removes, trims}
 use Rattle.sdd_participants.specs.declared.standing.Standing.TheVariants as standing
 use Rattle.sdd_space.specs.OwnerOrCell as holding
-use Rattle.sdd_script_model.specs.ScriptState.{without_stack}
-use Rattle.sdd_script_model.specs.Stacks.{Drains}
-use Rattle.sdd_script_model.proofs.Attending.{left-entry, pushed-entry}
-use Rattle.sdd_script_model.proofs.Chains.{AtHome, IsMidway, LeavesSound, at_home-given, at_home-spent, finishes, left-apart, list-apart-from, list-right, own-midway, shares-one, sound-after, stacked-right, starts}
-use Rattle.sdd_script_model.proofs.Frames.{Frames, frames-on, quiet-less}
-use Rattle.sdd_script_model.proofs.Counting.{tells, owner-given, some-holding, stack-given, stack-spent}
-use Rattle.sdd_script_model.proofs.Dates.{dated-same}
-use Rattle.sdd_script_model.proofs.Entry.{at-other, at-pushed}
-use Rattle.sdd_script_model.proofs.Entry.{inside as inside-list}
-use Rattle.sdd_script_model.proofs.Layers.{layered-less}
-use Rattle.sdd_script_model.proofs.Links.{null, same-once}
-use Rattle.sdd_script_model.proofs.Listed.{has-stored, same-list}
-use Rattle.sdd_script_model.proofs.ListChanges.{has-begun, has-ended}
-use Rattle.sdd_script_model.proofs.StackChains.{IsSingle, IsWith, between, empties, goes-on, in-front, removed-value, removes, trims}
-use Rattle.sdd_script_model.proofs.Stocked.{stocked-as}
-use Rattle.sdd_script_model.proofs.Storing.{bags-still, spare-on, stays-on, stored-still}
 
 -- ---- dates
 
@@ -101,15 +86,7 @@ module _ (d : ScriptState) (s : IsSound d) (whole : IsWhole d.world) (p c : ℕ)
   after_begun = in_world (with_stack d c) (nulled d.world c)
 
   pub begun-or : (b : ℕ) → IsListCell after_begun b → IsListCell d b ⊎ (b ≡ c)
-  begun-or b (inl queue) = inl (inl queue)
-  begun-or b (inr (n, is)) =
-      let h = some-holding shared_cell refl (holding_at after_begun.stacks n) b is in
-      elim (pushed-entry d.stacks its_cell h.0 n h.1) [
-        | inl last ↦
-            (let named : shared_cell (Some its_cell) ≡ Some b = ap (λ x. shared_cell (Some x)) last.1 ∙ h.2 in
-            inr (let same : b ≡ c = cc in same))
-        | inr was ↦ inl (inr (n, ap shared_cell was ∙ h.2))
-      ]
+  begun-or b h = grind (arith, common_steps)
 
   pub begun-old : (b : ℕ) → IsListCell d b → IsListCell after_begun b
   begun-old b (inl queue) = inl queue
@@ -121,31 +98,10 @@ module _ (d : ScriptState) (s : IsSound d) (whole : IsWhole d.world) (p c : ℕ)
   pub begun-leaves : IsEmptyAt d.world.cells c → LeavesSound d after_begun
   begun-leaves free =
       let m = goes-on (between (starts d s whole)) (makes_cell d.world c null free) tt tt (named d) (λ u. omega arith) in
-      let dated = dated-same d after_begun refl refl in
-      let stored = stored-still d after_begun refl m.bags in
-      record {
-        line = refl;
-        places = refl;
-        sound = sound-after d after_begun s m.frames.passes (refl, refl, refl, refl, refl, refl) dated p live
-            (stocked-as d after_begun s.stocked refl refl dated.long m.frames.slots stored)
-            (λ u. omega (arith, m.ledger u, stack-given d.stacks its_cell c refl u))
-            (has-stored stored (has-begun (IsListCell d) (IsListCell after_begun) (IsSecondCell d) (IsStored d.bags d.world) d.world s.lists c free begun-or
-            begun-old))
-            (bags-still d after_begun s.bags refl m.bags refl (λ k x. refl)) m.spare
-            (layered-less d after_begun s.layered m.frames.values refl)
-            (record {
-              owners = s.home.owners;
-              cells = s.home.cells;
-              collectors = s.home.collectors;
-              queues = s.home.queues;
-              newest = s.home.newest;
-              stacks = at_home-given d.world.home d.stacks its_cell refl s.home.stacks;
-            })
-            s.made;
-        dated = dated;
-        calls = m.frames.passes.calls;
-        home = m.frames.slots.home;
-      }
+      leaves-with d after_begun s (same-line d) (dated-same d after_begun refl refl) p live m.frames (refl, refl, refl) m.bags
+      (λ u. omega (arith, m.ledger u, stack-given d.stacks its_cell c refl u))
+      (has-begun (IsListCell d) (IsListCell after_begun) (IsSecondCell d) (IsStored d.bags d.world) d.world s.lists c free begun-or begun-old) m.spare
+      (s.home.owners, s.home.cells, s.home.collectors, s.home.queues, s.home.newest, at_home-given d.world.home d.stacks its_cell refl s.home.stacks)
 
   -- ---- the stack of this name has these entries
   module _ (n : ℕ) (es : List (Entry Val)) (is : IsStack d n c es) where
@@ -184,39 +140,18 @@ module _ (d : ScriptState) (s : IsSound d) (whole : IsWhole d.world) (p c : ℕ)
           let move = spends_cell drained c (record { held = None; tag = no_tag }) all-gone.list.begins in
           let kept = (ledger-laws holdings_of drained).kept m.whole _ _ after_stack_closed.world move in
           let frames = stack_closed-frames in
-          let dated = dated-all d after_stack_closed s.stocked frames.slots.slots within in
           let before : IsLedger holdings_of (λ u. named d u + contained (without_stack d n) u + one (right_to c) u) drained =
           λ u. omega (arith, m.ledger u, one-less d s n c is.named u) in
-          let stay = stays-on (without_stack d n) move m.whole (named d) before tt m.bags in
-          let stored = stored-still d after_stack_closed refl stay in
-          record {
-            line = refl;
-            places = refl;
-            sound = sound-after d after_stack_closed s frames.passes (refl, refl, refl, refl, refl, refl) dated p live
-                (stocked-as d after_stack_closed s.stocked refl refl dated.long frames.slots stored)
-                (λ u. omega (
-                  arith,
-                  kept.ledger (λ x. named d x + contained after_stack_closed x) (λ x. omega (arith, m.ledger x, one-less d s n c is.named x)) u,
-                ))
-                (has-stored stored (has-ended (IsListCell d) (IsListCell after_stack_closed) (IsSecondCell d) (IsStored d.bags d.world) drained
-                (λ u. named d u + contained d u) m.ledger (own-midway m) m.lists c its.begins its.single all-gone.list (was-other d s n c is.named)
-                (kept-other d s n c is.named)))
-                (bags-still d after_stack_closed s.bags refl stay frames.slots.home (λ k x. refl))
-                (spare-on (without_stack d n) move m.whole (named d) before tt m.spare (quiet-less move tt))
-                (layered-less d after_stack_closed s.layered frames.values refl)
-                (rw frames.slots.home (record {
-                  owners = s.home.owners;
-                  cells = s.home.cells;
-                  collectors = s.home.collectors;
-                  queues = s.home.queues;
-                  newest = s.home.newest;
-                  stacks = at_home-spent d.world.home d.stacks n s.home.stacks;
-                }))
-                (omega (arith, frames.slots.made, s.made));
-            dated = dated;
-            calls = frames.passes.calls;
-            home = frames.slots.home;
-          }
+          leaves-with d after_stack_closed s (same-line d) (dated-all d after_stack_closed s.stocked frames.slots.slots within) p live frames
+          (refl, refl, refl) (stays-on (without_stack d n) move m.whole (named d) before tt m.bags)
+          (λ u. omega (
+            arith,
+            kept.ledger (λ x. named d x + contained after_stack_closed x) (λ x. omega (arith, m.ledger x, one-less d s n c is.named x)) u,
+          ))
+          (has-ended (IsListCell d) (IsListCell after_stack_closed) (IsSecondCell d) (IsStored d.bags d.world) drained (λ u. named d u + contained d u)
+          m.ledger (own-midway m) m.lists c its.begins its.single all-gone.list (was-other d s n c is.named) (kept-other d s n c is.named))
+          (spare-on (without_stack d n) move m.whole (named d) before tt m.spare (quiet-less move tt))
+          (s.home.owners, s.home.cells, s.home.collectors, s.home.queues, s.home.newest, at_home-spent d.world.home d.stacks n s.home.stacks)
 
     -- ---- the deleted entries in front are let go of, which are all
     module _ (w : World Val) (drains : Drains d.world p c es w) (dates : List ℕ) where

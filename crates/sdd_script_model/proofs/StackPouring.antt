@@ -1,22 +1,9 @@
 -- All entries of a stack go to a new one, and what the script's desk is then
-use Rattle.sdd_script_model.proofs.Words.{◌≡◌, ◌≢◌, ◌⊎◌, ◌+◌, inl, inr, ℕ, List, [], Option, Some, None, is_some, length, slice_set, refl, sym, ap, ◌∙◌, subst, arith, cases_eq, get_or_push, length-set, Tag, IsEmptyAt, entry_at, CellContents, OwnerOrCell, Claim, IsLedger, one, right_to, changes_cell, makes_cell, World, IsPlaceOf, value_at, held_in, nulled, IsWhole, once_if, IsAmong, Entry, IsList, first_slot, IsSecond, KeepsGone, gone-then, gone-written, other-free, other-tag, second-kept, IsStored, AreNumbers, Begins, HasLists, ScriptState, IsListCell, IsSecondCell, in_world, shared_cell, with_stack, IsSound, contained, named, IsStack, Val, holdings_of, link_of}
-use Rattle.sdd_core.specs.declared.tag.Tag.TheVariants.{None as no_tag}
-use Rattle.sdd_space.specs.OwnerOrCell as holding
-use Rattle.sdd_lists.specs.Stack.{poured}
-use Rattle.sdd_lists.proofs.Lists.{linked-set}
-use Rattle.sdd_script_model.proofs.Chains.{LeavesSound, at_home-given, list-apart-from, own-midway, sound-after, starts}
-use Rattle.sdd_script_model.proofs.Counting.{stack-given}
-use Rattle.sdd_script_model.proofs.Dates.{dated-same}
-use Rattle.sdd_script_model.proofs.Entry.{at-other, at-same}
-use Rattle.sdd_script_model.proofs.Entry.{inside as inside-list}
-use Rattle.sdd_script_model.proofs.Layers.{layered-less}
-use Rattle.sdd_script_model.proofs.Links.{null}
-use Rattle.sdd_script_model.proofs.Listed.{AreOwn, apart-own, has-stored, link-apart, link-inside, loose-as, same-list}
-use Rattle.sdd_script_model.proofs.ListChanges.{apart-free, list-beside, off, third}
+use Rattle.sdd_script_model.proofs.Words.{◌≡◌, ◌≢◌, ◌⊎◌, ◌+◌, inl, inr, ℕ, List, [], Option, Some, None, is_some, length, slice_set, refl, sym, ap, ◌∙◌, subst, arith, cases_eq, get_or_push, length-set, Tag, IsEmptyAt, entry_at, CellContents, OwnerOrCell, Claim, IsLedger, one, right_to, changes_cell, makes_cell, World, IsPlaceOf, value_at, held_in, nulled, IsWhole, once_if, IsAmong, Entry, IsList, first_slot, IsSecond, KeepsGone, gone-then, gone-written, other-free, other-tag, second-kept, IsStored, AreNumbers, Begins, HasLists, ScriptState, IsListCell, IsSecondCell, in_world, shared_cell, with_stack, IsSound, contained, named, IsStack, Val, holdings_of, link_of, poured, linked-set, no_tag, common_steps}
+use Rattle.sdd_script_model.proofs.Lemmas.{LeavesSound, at_home-given, list-apart-from, own-midway, leaves-with, same-line, stack-given, dated-same, at-other, at-same, null, AreOwn, apart-own, link-apart, link-inside, loose-as, same-list, apart-free, list-beside, off, third, starts}
 use Rattle.sdd_script_model.proofs.StackChains.{IsBetween, between, goes-on}
 use Rattle.sdd_script_model.proofs.StackGoing.{begun-old, begun-or, is-single}
-use Rattle.sdd_script_model.proofs.Stocked.{stocked-as}
-use Rattle.sdd_script_model.proofs.Storing.{bags-still, stored-still}
+use Rattle.sdd_space.specs.OwnerOrCell as holding
 
 -- ---- of the list in a cell all is in another then, which was free
 
@@ -43,11 +30,7 @@ module _ (begins more : ℕ → Type 0) (seconds : (c b : ℕ) → Type 0) (stor
   stays b far gs at = stays-so b far no_tag gs at
 
   empty : Begins w c []
-  empty = record {
-    begins = at-other (slice_set v.cells c (Some null)) k c (Some now) None (away c _ list.begins)
-        ∙ at-same v.cells c (Some null) None (inside-list v.cells c (ap is_some list.begins));
-    linked = tt;
-  }
+  empty = grind (arith, common_steps)
 
   all : Begins w k es
   all = record {
@@ -98,10 +81,7 @@ module _ (begins more : ℕ → Type 0) (seconds : (c b : ℕ) → Type 0) (stor
   }
 
   where-at : (a b : ℕ) (i j : ℕ) → i ≡ j → ((i ≡ c) × (a ≡ k)) ⊎ ((i ≡ a) × (a ≢ c)) → ((j ≡ c) × (b ≡ k)) ⊎ ((j ≡ b) × (b ≢ c)) → a ≡ b
-  where-at a b i j same (inl one) (inl two) = one.1 ∙ sym two.1
-  where-at a b i j same (inl one) (inr two) = absurd (two.1 (sym two.0 ∙ sym same ∙ one.0))
-  where-at a b i j same (inr one) (inl two) = absurd (one.1 (sym one.0 ∙ same ∙ two.0))
-  where-at a b i j same (inr one) (inr two) = sym one.0 ∙ same ∙ two.0
+  where-at a b i j h h2 h3 = grind (arith, common_steps)
 
   -- a link is a cell that was there
   link-far : (s : ℕ) (z : Val) → value_at v s ≡ Some z → link_of z ≢ k
@@ -202,31 +182,10 @@ module _ (d : ScriptState) (s : IsSound d) (whole : IsWhole d.world) (p c k : �
   poured-leaves =
       let start = starts d s whole in
       let its = is-single d s n c is.named in
-      let dated = dated-same d after_poured refl refl in
-      let stored = stored-still d after_poured refl out.bags in
       let there : IsListCell after_poured k =
       inr (length d.stacks, ap shared_cell (get_or_push d.stacks (Some new_cell) None (length d.stacks) refl)) in
-      record {
-        line = refl;
-        places = refl;
-        sound = sound-after d after_poured s out.frames.passes (refl, refl, refl, refl, refl, refl) dated p live
-            (stocked-as d after_poured s.stocked refl refl dated.long out.frames.slots stored)
-            (λ u. omega (arith, out.ledger u, stack-given d.stacks new_cell k refl u))
-            (has-stored stored (has-poured (IsListCell d) (IsListCell after_poured) (IsSecondCell d) (IsStored d.bags d.world) d.world
-            (λ u. named d u + contained d u) start.ledger (own-midway start) s.lists c its.begins its.single es is.list k free
-            (begun-or d s whole p k live) (begun-old d s whole p k live) there))
-            (bags-still d after_poured s.bags refl out.bags refl (λ j x. refl)) out.spare
-            (layered-less d after_poured s.layered out.frames.values refl)
-            (record {
-              owners = s.home.owners;
-              cells = s.home.cells;
-              collectors = s.home.collectors;
-              queues = s.home.queues;
-              newest = s.home.newest;
-              stacks = at_home-given d.world.home d.stacks new_cell refl s.home.stacks;
-            })
-            s.made;
-        dated = dated;
-        calls = out.frames.passes.calls;
-        home = out.frames.slots.home;
-      }
+      leaves-with d after_poured s (same-line d) (dated-same d after_poured refl refl) p live out.frames (refl, refl, refl) out.bags
+      (λ u. omega (arith, out.ledger u, stack-given d.stacks new_cell k refl u))
+      (has-poured (IsListCell d) (IsListCell after_poured) (IsSecondCell d) (IsStored d.bags d.world) d.world (λ u. named d u + contained d u) start.ledger
+      (own-midway start) s.lists c its.begins its.single es is.list k free (begun-or d s whole p k live) (begun-old d s whole p k live) there) out.spare
+      (s.home.owners, s.home.cells, s.home.collectors, s.home.queues, s.home.newest, at_home-given d.world.home d.stacks new_cell refl s.home.stacks)

@@ -1,23 +1,12 @@
 -- What is always true of a desk is true after a push: an item is made, and then put into a list; here into a stack
-use Rattle.sdd_script_model.proofs.Words.{◌≡◌, ◌≢◌, ◌+◌, inl, inr, ℕ, List, [], ◌∷◌, Bool, true, false, Option, Some, None, is_some, slice_index_or, refl, sym, ap, ◌∙◌, subst, arith, max, if◌then◌else◌, cases_eq, length-set, set-set, Second, Entries, IsEmptyAt, entry_at, Standing, Owned, Shared, IsSharedBy, is_waiting, OwnerOrCell, Claim, owner_of, one, releases, retires, World, IsPlaceOf, standing_at, value_at, held_in, made_as, nulled, owner_given, with_cell, with_standing, IsWhole, ledger-laws, filled-there, IsAmong, CellContents, Apart, AreLinked, Entry, first_slot, is_deleted, left, let_go_first, linked_in, trimmed, list-same, trim-other, trim-values, Number, IsStored, Begins, IsNumber, ScriptState, IsDated, IsListCell, IsSecondCell, in_world, with_item, with_owner, IsSound, named, named_among, IsStack, Pushes, Val, body_of, holdings_of, link_of}
-use Rattle.sdd_core.specs.declared.tag.Tag.TheVariants.{None as no_tag}
-use Rattle.sdd_space.specs.OwnerOrCell as holding
-use Rattle.sdd_lists.proofs.Pushing.{list-made}
-use Rattle.sdd_script_text.specs.declared.call.Value.TheVariants as value
-use Rattle.sdd_script_model.specs.declared.owner_kind.OwnerKind.TheVariants as ownership
-use Rattle.sdd_script_model.proofs.Attending.{keeps-live}
-use Rattle.sdd_script_model.proofs.Chains.{AtHome, IsMidway, LeavesSound, finishes, midway-as, moves, owned-apart, shares-one, starts}
-use Rattle.sdd_script_model.proofs.Counting.{owner-given}
-use Rattle.sdd_script_model.proofs.Entry.{at-other, at-same}
-use Rattle.sdd_script_model.proofs.Entry.{inside as inside-list}
-use Rattle.sdd_script_model.proofs.Frames.{calls-then}
+use Rattle.sdd_script_model.proofs.Words.{◌≡◌, ◌≢◌, ◌+◌, inl, inr, ℕ, List, [], ◌∷◌, Bool, true, false, Option, Some, None, is_some, slice_index_or, refl, sym, ap, ◌∙◌, subst, arith, max, if◌then◌else◌, cases_eq, length-set, set-set, Second, Entries, IsEmptyAt, entry_at, Standing, Owned, Shared, IsSharedBy, is_waiting, OwnerOrCell, Claim, owner_of, one, releases, retires, World, IsPlaceOf, standing_at, value_at, held_in, made_as, nulled, owner_given, with_cell, with_standing, IsWhole, ledger-laws, filled-there, IsAmong, CellContents, Apart, AreLinked, Entry, first_slot, is_deleted, left, let_go_first, linked_in, trimmed, list-same, trim-other, trim-values, Number, IsStored, Begins, IsNumber, ScriptState, IsDated, IsListCell, IsSecondCell, in_world, with_item, with_owner, IsSound, named, named_among, IsStack, Pushes, Val, body_of, holdings_of, link_of, list-made, no_tag, common_steps}
+use Rattle.sdd_script_model.proofs.Lemmas.{keeps-live, AtHome, IsMidway, LeavesSound, finishes, midway-as, moves, owned-apart, shares-one, at-other, at-same, calls-then, given-other, filled-long, null, same-once, apart-free, off, stays-begun, starts, owner-given, inside as inside-list}
 use Rattle.sdd_script_model.proofs.Going.{made-leaves, made-whole}
-use Rattle.sdd_script_model.proofs.Gone.{given-other}
-use Rattle.sdd_script_model.proofs.Layers.{filled-long}
-use Rattle.sdd_script_model.proofs.Links.{null, same-once}
-use Rattle.sdd_script_model.proofs.ListChanges.{apart-free, off, stays-begun}
 use Rattle.sdd_script_model.proofs.StackChains.{IsSingle, IsWith, puts-in, trims}
 use Rattle.sdd_script_model.proofs.StackGoing.{IsDatedWithin, dated-all, is-single, numbers}
+use Rattle.sdd_space.specs.OwnerOrCell as holding
+use Rattle.sdd_script_text.specs.declared.call.Value.TheVariants as value
+use Rattle.sdd_script_model.specs.declared.owner_kind.OwnerKind.TheVariants as ownership
 
 -- ---- one after another
 
@@ -180,11 +169,7 @@ module _ (d : ScriptState) (s : IsSound d) (whole : IsWhole d.world) (p c : ℕ)
   sound-in = made d s whole p live number k x pushes.free pushes.pushed.free pushes.body
 
   once : IsSharedBy 1 (standing_at entered.world k)
-  once = record {
-    shared = stands-once d s whole p live number k x pushes.free pushes.pushed.free pushes.body;
-    some = omega arith;
-    most = omega arith;
-  }
+  once = grind (arith, common_steps)
 
   -- it has one owner more, which is in hand
   abbrev outside : Claim → ℕ

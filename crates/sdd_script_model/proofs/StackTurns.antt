@@ -1,6 +1,5 @@
 -- What a line on a stack gives a participant: what it lets go of waits there, and nothing else of the time changes
-use Rattle.sdd_script_model.proofs.Words.{◌≡◌, ◌+◌, ◌<◌, ◌++◌, ℕ, List, [], ◌∷◌, Bool, true, false, Option, length, refl, sym, ap, ◌∙◌, subst, if◌then◌else◌, get_or-set_same, set-set, set-get_or, Tag, Second, EpochState, nobody, with_place, Participant, Shared, Item, all_awaiting, World, place_at, standing_at, made_as, nulled, with_cell, with_standing, Gives, Gives-owner_given, Gives-range, Entry, emptied, first_slot, is_deleted, let_go_first, removed, trimmed, Pushes, Takes, stack_closed, Val, link_of}
-use Rattle.sdd_core.specs.declared.tag.Tag.TheVariants.{None as no_tag}
+use Rattle.sdd_script_model.proofs.Words.{◌≡◌, ◌+◌, ◌<◌, ◌++◌, ℕ, List, [], ◌∷◌, Bool, true, false, Option, length, refl, sym, ap, ◌∙◌, subst, if◌then◌else◌, get_or-set_same, set-set, Tag, Second, EpochState, nobody, with_place, Participant, Shared, Item, all_awaiting, World, place_at, standing_at, made_as, nulled, with_cell, with_standing, Gives, Gives-owner_given, Gives-range, Entry, emptied, first_slot, is_deleted, let_go_first, removed, trimmed, Pushes, Takes, stack_closed, Val, link_of, no_tag, common_steps, arith}
 use Rattle.sdd_participants.specs.EpochState as time
 
 awaiting-append : (ks js : List ℕ) (x : Participant) → all_awaiting (ks ++ js) x ≡ all_awaiting js (all_awaiting ks x)
@@ -10,10 +9,7 @@ awaiting-append (k ∷ ks) js x = awaiting-append ks js (time.awaiting (Item k) 
 module _ (p : ℕ) where
   -- nothing
   pub gives-nothing : (v w : World Val) → w.time ≡ v.time → Gives p v w
-  gives-nothing v w e = record {
-    slots = [];
-    time = e ∙ sym (ap (λ (ps : List Participant). record v.time { places = ps }) (set-get_or v.time.places p nobody));
-  }
+  gives-nothing v w e = grind (arith, common_steps)
 
   -- one after another
   pub gives-then : {u v w : World Val} → p < length u.time.places → Gives p u v → Gives p v w → Gives p u w

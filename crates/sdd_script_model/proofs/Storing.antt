@@ -1,18 +1,15 @@
 -- The storages of bags stay where they are, and as they are, over a call that sets no cell of theirs and makes no owner more of one
-use Rattle.sdd_script_model.proofs.Words.{◌≡◌, ◌≢◌, ◌⊎◌, ◌+◌, ◌≤◌, inl, inr, ℕ, List, [], ◌∷◌, Bool, true, false, cond, Option, Some, None, is_some, slice_index_or, slice_set, eq-eqb, refl, sym, ap, ◌∙◌, subst, arith, ◌==◌, cases_eq, get_or-le-sum_by, entry_at, without_entry, CellContents, Standing, Owned, Raw, Shared, Retired, Private as privately, LimboEntry, collector_closed, waiting_for, without_collector, OwnerOrCell, atomic_shared, Claim, owner_of, right_to, claims, inside, one, times_kept, IsLedger, Keeps, Moves, Sets, stirs, accelerates, changes_pointers, makes, shares, retires, releases, collects, drops, puts_out_raw, takes_back_raw, edits, makes_cell, changes_cell, spends_cell, closes_cell, closes_collector, is_out, holds_slot, is_of, times_held, World, standing_at, value_at, all_reclaimed, cell_closed, dropped, dropped_out, freed, held_in, opened, owner_given, retired, vacated, IsWhole, once_if, sum-out, once-bound, ledger-laws, IsAmong, AreLinked, Entry, first_slot, cell_in, AreShelves, StorageName, AreBags, AreSpare, HasStorages, IsKept, IsSpare, IsStored, StandsOn, bagged, is_stack_cell, IsThere, NumberBag, ScriptState, bag_at, bag_length, name_at, slot_at, slot_of, contained, stacked, Value, Of, IsPutIn, Val, body_of, holdings_of, link_of, owner_in, storage_in, Body}
+use Rattle.sdd_script_model.proofs.Words.{◌≡◌, ◌≢◌, ◌⊎◌, ◌+◌, ◌≤◌, inl, inr, ℕ, List, [], ◌∷◌, Bool, true, false, cond, Option, Some, None, is_some, slice_index_or, slice_set, eq-eqb, refl, sym, ap, ◌∙◌, subst, arith, ◌==◌, cases_eq, get_or-le-sum_by, entry_at, without_entry, CellContents, Standing, Owned, Raw, Shared, Retired, Private as privately, LimboEntry, collector_closed, waiting_for, without_collector, atomic_shared, Claim, owner_of, right_to, claims, inside, one, times_kept, IsLedger, Keeps, Moves, Sets, stirs, accelerates, changes_pointers, makes, shares, retires, releases, collects, drops, puts_out_raw, takes_back_raw, edits, makes_cell, changes_cell, spends_cell, closes_cell, closes_collector, is_out, holds_slot, is_of, times_held, World, standing_at, value_at, all_reclaimed, cell_closed, dropped, dropped_out, freed, held_in, opened, owner_given, retired, vacated, IsWhole, sum-out, once-bound, ledger-laws, IsAmong, AreLinked, Entry, first_slot, cell_in, AreShelves, StorageName, AreBags, AreSpare, HasStorages, IsKept, IsSpare, IsStored, StandsOn, bagged, IsThere, NumberBag, ScriptState, bag_at, bag_length, name_at, slot_at, contained, stacked, Value, IsPutIn, Val, body_of, holdings_of, link_of, owner_in, storage_in, Body, with_standing, ◌-◌, ◌<◌, owner_count, IsLinkIn, owner-given, common_steps}
 use Rattle.sdd_space.specs.Ledger.Moves.{registers, ends, opens, closes, defers}
-use Rattle.sdd_space.specs.OwnerCounts.{owner_count}
-use Rattle.sdd_bag.specs.Storages as storages
-use Rattle.sdd_script_model.specs.Bags.{IsLinkIn}
 use Rattle.sdd_script_text.specs.declared.call.Value.TheVariants.{Number}
-use Rattle.sdd_script_model.specs.declared.val.Body.TheVariants as body
-use Rattle.sdd_script_model.proofs.Entry.{at-other, at-same, set-either}
-use Rattle.sdd_script_model.proofs.Entry.{inside as inside-list}
+use Rattle.sdd_script_model.proofs.Entry.{at-other, inside as inside-list}
 use Rattle.sdd_script_model.proofs.Gone.{given-other}
-use Rattle.sdd_script_model.proofs.Links.{HoldsLess, IsBareStorage, holds-so, less-same, link-claimed, same-once}
-use Rattle.sdd_script_model.proofs.Listed.{among-inside, same-list}
+use Rattle.sdd_script_model.proofs.Links.{HoldsLess, holds-so, less-same, same-once}
+use Rattle.sdd_script_model.proofs.Listed.{among-inside, same-list, link-claimed}
 use Rattle.sdd_script_model.proofs.Stocked.{KeepsStored}
 use Rattle.sdd_script_model.proofs.SmallSteps.{closes-cell, gives-all, opens-guard, reclaims-all}
+use Rattle.sdd_bag.specs.Storages as storages
+use Rattle.sdd_script_model.specs.declared.val.Body.TheVariants as body
 
 -- ---- what the ledger tells of cells that hold, and of cells that values hold
 
@@ -79,10 +76,7 @@ module _ (w : World Val) (outside : Claim → ℕ) (ledger : IsLedger holdings_o
 
 -- what a storage has the right to
 pub owned-cell : (b : Body) (st : StorageName) → storage_in b ≡ Some st → owner_in b ≡ storages.holdings_of st
-owned-cell (body.Number n) st is = absurd (cc)
-owned-cell (body.Owned o) st is = absurd (cc)
-owned-cell (body.Shared o) st is = absurd (cc)
-owned-cell (body.Storage s) st is = let same : s ≡ st = cc in ap storages.holdings_of same
+owned-cell b st h = grind (arith, common_steps)
 
 -- what has the right to a storage's cell is one
 pub cell-storage : (b : Body) (st : StorageName) → owner_in b ≡ storages.holdings_of st → (other : StorageName) × (storage_in b ≡ Some other)
@@ -93,13 +87,7 @@ cell-storage (body.Shared o) st is = absurd (cc)
 cell-storage (body.Storage s) st is = (s, refl, (let same : atomic_shared s.cell s.home ≡ atomic_shared st.cell st.home = cc in cc))
 
 pub spare-claimed : (w : World Val) (c : ℕ) (x : IsSpare w c) → 1 ≤ claims (holdings_of x.value) (right_to c)
-spare-claimed w c x =
-    let holds = owned-cell (body_of x.value) x.storage x.is in
-    let own : claims (storages.holdings_of x.storage) (right_to c) ≡ 1 =
-    ap (λ (i : ℕ). claims (storages.holdings_of x.storage) (right_to i)) (sym x.cell) ∙ storage-once x.storage in
-    omega (arith, holds-so x.value (right_to c), ap (λ hs. claims hs (right_to c)) holds, own) where
-      storage-once : (st : StorageName) → claims (storages.holdings_of st) (right_to st.cell) ≡ 1
-      storage-once st = let same : (st.cell == st.cell) ≡ true = eq-eqb st.cell st.cell refl in rw same refl
+spare-claimed w c x = grind (arith, common_steps)
 
 -- a storage was one, where values hold no more than before
 pub spare-was : (v w : World Val) (c : ℕ) → HoldsLess v w → IsSpare w c → IsSpare v c
@@ -113,18 +101,9 @@ pub spare-as : (v w : World Val) → HoldsLess v w → ((c : ℕ) → IsSpare v 
     AreSpare w
 spare-as v w less same spare c x = let was = spare-was v w c less x in same c was ∙ spare c was
 
--- the own cell of a value that is a storage
-pub spare-bare : (w : World Val) → AreSpare w → (s : ℕ) (v : Val) → value_at w s ≡ Some v → IsBareStorage w (body_of v)
-spare-bare w spare s v there st is =
-    spare st.cell (record { slot = s; value = v; there = there; storage = st; is = is; cell = refl })
-
 -- what a line puts into an item is none
 pub put-plain : (d : ScriptState) (value : Value) (b : Body) → IsPutIn d value b → (st : StorageName) → storage_in b ≡ Some st → ⊥
-put-plain d (Number n) b put st is = absurd (let never : None ≡ Some st = sym (ap storage_in put) ∙ is in cc)
-put-plain d (Of o) b (h, there, owner, holds) st is =
-    let both : h ∷ [] ≡ storages.holdings_of st = sym holds ∙ owned-cell b st is in
-    let same : h ≡ atomic_shared st.cell st.home = cc in
-    absurd (let never : true ≡ false = sym owner ∙ ap (λ (x : OwnerOrCell). is_some (slot_of (Some x))) same in cc)
+put-plain d value b h st h2 = grind (arith, common_steps)
 
 -- ---- where a script's bags are
 
@@ -150,12 +129,7 @@ Spares d other = Unit {0}
 
 -- a bag is two rights to cells
 pub bag-right : (bs : List (Option NumberBag)) (n : ℕ) (b : NumberBag) → bag_at bs n ≡ Some b → 1 ≤ bagged bs (right_to (cell_in b.overflow.stack))
-bag-right bs n b is =
-    let c : ℕ = cell_in b.overflow.stack in
-    let count : Option NumberBag → ℕ = λ x. cond (is_stack_cell c x) 1 0 in
-    let same : (c == c) ≡ true = eq-eqb c c refl in
-    let here : count (bag_at bs n) ≡ 1 = ap count is ∙ ap (λ (t : Bool). cond t 1 0) same in
-    omega (arith, here, get_or-le-sum_by count bs n None (inside-list bs n (ap is_some is)))
+bag-right bs n b is = grind (arith, common_steps)
 
 module _ (d : ScriptState) (w : World Val) (outside : Claim → ℕ) (ledger : IsLedger holdings_of (λ u. outside u + contained d u) w)
     (stay : BagsStay d.bags d.world w) where
@@ -396,37 +370,24 @@ abbrev IsSoleOrIdle : ℕ → World Val → Type 0
 IsSoleOrIdle s w = (standing_at w s ≡ Some (Shared 1)) ⊎ (is_out (standing_at w s) ≡ false)
 
 module _ (s p : ℕ) where
-  gives-same : (w : World Val) (k : ℕ) (t : Option Standing) → s ≡ k → standing_at w k ≡ t → IsSoleOrIdle s w → IsSoleOrIdle s (owner_given w p k t)
-  gives-same w k None same is was = was
-  gives-same w k (Some Owned) same is (inl one) =
-      absurd (let never : Some (Shared 1) ≡ Some Owned = sym one ∙ ap (λ (i : ℕ). standing_at w i) same ∙ is in cc)
-  gives-same w k (Some Owned) same is (inr idle) =
-      absurd (let never : false ≡ true = sym idle ∙ ap (λ (i : ℕ). is_out (standing_at w i)) same ∙ ap is_out is in cc)
-  gives-same w k (Some Raw) same is was = was
-  gives-same w k (Some (Shared n)) same is (inl one) =
-      let both : Some (Shared 1) ≡ Some (Shared n) = sym one ∙ ap (λ (i : ℕ). standing_at w i) same ∙ is in
-      let single : n ≡ 1 = cc in
-      let gone : standing_at (retired w p k) s ≡ Some Retired =
-      ap (λ (i : ℕ). standing_at (retired w p k) i) same ∙ at-same w.standings k (Some Retired) None (inside-list w.standings k (ap is_some is)) in
-      rw single (inr (ap is_out gone))
-  gives-same w k (Some (Shared n)) same is (inr idle) =
-      absurd (let never : false ≡ true = sym idle ∙ ap (λ (i : ℕ). is_out (standing_at w i)) same ∙ ap is_out is in cc)
-  gives-same w k (Some Retired) same is was = was
-  gives-same w k (Some (privately c)) same is was = was
+  abbrev IsSole : Option Standing → Type 0
+  IsSole x = (x ≡ Some (Shared 1)) ⊎ (is_out x ≡ false)
+
+  writes-still : (w u : World Val) (k : ℕ) (x : Option Standing) → u.standings ≡ slice_set w.standings k x → (s ≡ k → IsSole x) →
+      IsSoleOrIdle s w → IsSoleOrIdle s u
+  writes-still w u k x is new was = grind (arith, common_steps)
 
   gives-still : (w : World Val) (k : ℕ) (t : Option Standing) → standing_at w k ≡ t → IsSoleOrIdle s w → IsSoleOrIdle s (owner_given w p k t)
-  gives-still w k t is was = elim (cases_eq s k) [
-    | inl same ↦ gives-same w k t same is was
-    | inr far ↦ subst (λ (x : Option Standing). (x ≡ Some (Shared 1)) ⊎ (is_out x ≡ false)) (sym (given-other w p k s t is far)) was
-  ]
+  gives-still w k t is was =
+      owner-given (IsSoleOrIdle s) w p k t is was (λ out. writes-still w (retired w p k) k (Some Retired) refl (λ same. inr refl) was)
+      (λ n several more. writes-still w (with_standing w k (Shared (n - 1))) k (Some (Shared (n - 1))) refl
+      (λ same. absurd (not-several n several more same)) was)
+    where
+      not-several : (n : ℕ) → standing_at w k ≡ Some (Shared n) → 1 < n → s ≡ k → ⊥
+      not-several n several more same = grind (arith, common_steps)
 
   frees-still : (w u : World Val) (k : ℕ) → u.standings ≡ without_entry w.standings k → IsSoleOrIdle s w → IsSoleOrIdle s u
-  frees-still w u k is was =
-      let now : standing_at u s ≡ slice_index_or (without_entry w.standings k) s None = ap (λ ss. slice_index_or ss s None) is in
-      elim (set-either w.standings k s None None) [
-        | inl gone ↦ inr (ap is_out (now ∙ gone))
-        | inr same ↦ subst (λ (x : Option Standing). (x ≡ Some (Shared 1)) ⊎ (is_out x ≡ false)) (sym (now ∙ same)) was
-      ]
+  frees-still w u k is was = writes-still w u k None is (λ same. inr refl) was
 
   abbrev P : World Val → Type 0
   P = IsSoleOrIdle s
@@ -448,15 +409,13 @@ module _ (s p : ℕ) where
     by None = was
     by (Some v) = gives-all P p gives-still (λ u b h. h) (vacated w k) (holdings_of v) (frees-still w (vacated w k) k refl was)
 
+idle-none : (x : Option Standing) → is_out x ≡ false → owner_count x ≡ 1 → ⊥
+idle-none x idle count = grind arith
+
 -- then it is one owner's still, as long as it has one
 settles : (x : Option Standing) → (x ≡ Some (Shared 1)) ⊎ (is_out x ≡ false) → owner_count x ≡ 1 → x ≡ Some (Shared 1)
 settles x (inl one) count = one
-settles None (inr idle) count = absurd (cc)
-settles (Some Owned) (inr idle) count = absurd (cc)
-settles (Some Raw) (inr idle) count = absurd (cc)
-settles (Some (Shared n)) (inr idle) count = absurd (cc)
-settles (Some Retired) (inr idle) count = absurd (cc)
-settles (Some (privately c)) (inr idle) count = absurd (cc)
+settles x (inr idle) count = absurd (idle-none x idle count)
 
 -- a storage's item is one owner's after a call, if it has one then that is inside
 module _ (d : ScriptState) (s : ℕ) where
@@ -469,9 +428,7 @@ module _ (d : ScriptState) (s : ℕ) where
 
   -- and so is one of which an owner is taken
   off-taken : (k : ℕ) → one (owner_of k) (owner_of s) ≡ 0 → s ≢ k
-  off-taken k none same =
-      let once : one (owner_of k) (owner_of s) ≡ 1 = ap (λ (i : ℕ). once_if (k == i)) same ∙ same-once k in
-      omega (arith, none, once)
+  off-taken k none same = grind (arith, common_steps)
 
   sole-by : {v w : World Val} {ins outs : Claim → ℕ} → (move : Moves holdings_of v ins w outs) → Spares d move → IsStored d.bags d.world s →
       standing_at v s ≡ one_owner →

@@ -1,17 +1,14 @@
 -- What the lines so far say of a desk, after one line more
-use Rattle.sdd_script_model.proofs.Words.{option_map, eq-eqb, ne_eqb, get_or_push, length_push, length-set, NobodyEnded, with_place, rested, is_ended, having_seen, PlaceState, Ended, registered, ended, live-is, ended-lives, registered-live, registered-lives, registered-apart, ItemName, JobName, PlaceName, Answer, Reply, Call, Register, At, Line, caller, has_ended, is_waiting_in, last_found, open_guards, start_of, IsParticipant, place_in, place_of}
+use Rattle.sdd_script_model.proofs.Words.{option_map, eq-eqb, ne_eqb, get_or_push, length_push, length-set, is_ended, having_seen, PlaceState, Ended, registered, ended, live-is, ended-lives, registered-live, registered-lives, registered-apart, ItemName, JobName, PlaceName, Answer, Reply, Call, Register, At, Line, caller, has_ended, is_waiting_in, last_found, open_guards, start_of, IsParticipant, place_in, place_of, Live, live-taken, registered-keeps, LimboEntry, ◌≡◌, ◌≢◌, ◌⊎◌, ℕ, ◌<◌, ◌≤◌, Bool, true, false, nat_lt, List, ◌∷◌, Option, Some, None, IsSome, is_some, length, slice_index_or, inl, inr, refl, sym, ap, ◌∙◌, subst, arith, cases_eq, false≢true, nat_tests, Contains, EpochState, IsLive, IsVacant, nobody, phase_at, Participant, World, IsPlaceOf, place_at, IsWhole, Val, ScriptState, OpenSince, opening_at, later}
+use Rattle.sdd_script_model.proofs.Lemmas.{live-by, at-other, at-same, at-pushed, at-end, at-default, inside}
+use Rattle.sdd_script_model.proofs.History.{quiet-shown, home, home-apart, home-inside, begins-not, begins-now, not-adopted, quiet-changes, quiet-ended, quiet-found, quiet-guards, seen-as, waits-same, start-begun, start-kept, still-ended, HasSeen, HoldsAt, Tells}
+use Rattle.sdd_script_model.proofs.Turns.{CalmLine}
+use Rattle.sdd_script_model.proofs.Awaiting.{awaits-taken}
 use Rattle.sdd_participants.specs.EpochState as time
-use Rattle.sdd_participants.specs.declared.place_states.PlaceState.TheVariants.{Live}
-use Rattle.sdd_space.proofs.Housed.{live-taken, registered-keeps}
 use Rattle.sdd_script_text.specs.declared.answer.Reply.TheVariants as reply
 use Rattle.sdd_script_text.specs.declared.call.Action.TheVariants as call
 use Rattle.sdd_script_model.specs.ScriptState as desk
-use Rattle.sdd_script_model.proofs.Attending.{live-by}
-use Rattle.sdd_script_model.proofs.History.{quiet-shown, home, home-apart, home-inside, begins-not, begins-now, not-adopted, quiet-changes, quiet-ended, quiet-found, quiet-guards, none-ended, seen-as, waits-same, start-adopted, start-begun, start-kept, still-ended, HasSeen, HoldsAt, Tells}
 use Rattle.sdd_script_model.proofs.History as history
-use Rattle.sdd_script_model.proofs.Turns.{CalmLine}
-use Rattle.sdd_script_model.proofs.Awaiting.{awaits-taken}
-use Rattle.sdd_script_model.proofs.Terms.{LimboEntry, ◌≡◌, ◌≢◌, ◌⊎◌, ℕ, ◌<◌, ◌≤◌, Bool, true, false, nat_lt, List, ◌∷◌, Option, Some, None, IsSome, is_some, length, slice_index_or, inl, inr, refl, sym, ap, ◌∙◌, subst, arith, cases_eq, false≢true, nat_tests, Contains, EpochState, IsLive, IsVacant, nobody, phase_at, Participant, World, IsPlaceOf, place_at, IsWhole, Val, ScriptState, OpenSince, opening_at, later, at-other, at-same, at-pushed, at-end, at-default, inside}
 
 -- where a participant that is there is
 pub home-is : (d : ScriptState) (n : ℕ) → IsParticipant d n → home d.places n ≡ Some (place_of d n)
