@@ -1,6 +1,7 @@
 -- What the acts of a script share: what is left in hand is sound, and is what a call means
-use Rattle.sdd_interpreter.proofs.Words.{◌≡◌, ℕ, ◌+◌, [], ◌∷◌, ◌++◌, Option, Some, None, IsSome, map, length, slice_index_or, slice_set, refl, sym, ap, ◌∙◌, subst, arith, IsTrue, option_map, Vec, get_or-map, map-set, map_push, IsSharedBy, Shared, with_standing, World, standing_at, index_of, PlaceName, Val, AnyOwner, Share, NamedParticipant, NamedGuard, Environment, ScriptState, OpenSince, opening_at, holding_at, place_in, since_in, since_of, Acts, IsParticipant, CanPointTo, attending, guarding, owner_holding, cell_holding, collector_holding, newest_holding, oldest_holding, stack_holding, desk_of, IsTied}
+use Rattle.sdd_interpreter.proofs.Words.{◌≡◌, ℕ, ◌+◌, [], ◌∷◌, ◌++◌, Option, Some, None, IsSome, map, length, slice_index_or, slice_set, refl, sym, ap, ◌∙◌, subst, arith, IsTrue, option_map, Vec, get_or-map, map-set, map_push, IsSharedBy, Shared, with_standing, World, standing_at, index_of, PlaceName, Val, AnyOwner, Share, NamedParticipant, NamedGuard, Environment, List, length-map, ScriptState, OpenSince, opening_at, holding_at, place_in, since_in, since_of, Acts, IsParticipant, CanPointTo, attending, guarding, owner_holding, cell_holding, collector_holding, newest_holding, oldest_holding, stack_holding, desk_of, IsTied}
 use Rattle.std.proofs.Common.{lt-ltb}
+use Rattle.std.proofs.lemmas.List.{set-get_or, set-set}
 use Rattle.std.specs.Prelude.{replicate}
 use Rattle.sdd_participants.specs.EpochState as time
 use Rattle.sdd_participants.specs.EpochState.{is_open}
@@ -58,6 +59,23 @@ leads {new} {e} h t call given same desk left meets =
     does (desk_of h) call given
     (goes desk left.sound (λ g. rw (left.home, left.places, same) (t.guards g)))
     (record { meets = meets; dated = left.dated; line = left.line; calls = left.calls })
+
+-- what a name of a table stands for, as the desk has it
+pub named : {X Y : Type 0} (f : X → Y) (xs : List (Option X)) (n : ℕ) {x : X} → slice_index_or xs n None ≡ Some x →
+    slice_index_or (map (option_map f) xs) n None ≡ Some (f x)
+named f xs n e = get_or-map (option_map f) xs n None ∙ ap (option_map f) e
+
+-- and the name that a table gives next
+pub next : {X Y : Type 0} (f : X → Y) {xs ys : List (Option X)} {r : ℕ} → r ≡ length ys → ys ≡ xs → r ≡ length (map (option_map f) xs)
+next f {xs} is same = is ∙ ap length same ∙ sym (length-map xs (option_map f))
+
+-- what was taken stands under its name again, as what it was
+pub restored : {X Y : Type 0} (f : X → Y) (xs : List (Option X)) (n : ℕ) {ys zs : List (Option X)} {x y : X} →
+    slice_index_or xs n None ≡ Some x → ys ≡ slice_set xs n None →
+    zs ≡ slice_set ys n (Some y) → f y ≡ f x → map (option_map f) zs ≡ map (option_map f) xs
+restored f xs n {y = y} mine taken back same =
+    ap (map (option_map f)) (back ∙ ap (λ ws. slice_set ws n (Some y)) taken ∙ set-set xs n None (Some y)) ∙ map-set (option_map f) xs n (Some y)
+    ∙ ap (slice_set (map (option_map f) xs) n) (ap Some same ∙ sym (named f xs n mine)) ∙ set-get_or (map (option_map f) xs) n None
 
 -- a call that changes nothing
 pub still : (d : ScriptState) (call : Call) (given : Reply) → Meets d call given d → Acts d call given d
@@ -151,10 +169,32 @@ pub got : (places : NameTable NamedParticipant) (n : ℕ) (a : NamedParticipant)
     attending (Some a) ≡ slice_index_or (map attending places.entries.items) n None
 got places n a e = ap attending e ∙ sym (get_or-map attending places.entries.items n None)
 
--- where the world and the names are as before, so is the desk
-pub same-owners : (h : Environment) (w : World Val) (owners : Vec (Option AnyOwner)) → w ≡ h.world → owners.items ≡ h.owners.entries.items →
-    desk_of (record h { world = w; owners = record { entries = owners } }) ≡ desk_of h
-same-owners h w owners world same = let named = ap (map (option_map owner_holding)) same in cc
+-- of a hand that is sound, on a whole world, participant n is there
+pub record Here (h : Environment) (n : ℕ) (a : NamedParticipant) : Type 0 where
+  pub tied : IsTied h
+  pub whole : IsWhole h.world
+  pub there : attending (Some a) ≡ opening_at (desk_of h).places n
+
+pub here : {h : Environment} {a : NamedParticipant} (n : ℕ) → IsTied h → IsWhole h.world → Some a ≡ slice_index_or h.places.entries.items n None → Here h n a
+here {h} {a} n t whole e = record { tied = t; whole = whole; there = got h.places n a e }
+
+pub under : {h : Environment} {a : NamedParticipant} (n : ℕ) → IsTied h → IsWhole h.world → attending (Some a) ≡ opening_at (desk_of h).places n → Here h n a
+under n t whole e = record { tied = t; whole = whole; there = e }
+
+module _ {h : Environment} {n : ℕ} {a : NamedParticipant} (at : Here h n a) where
+  pub place-is : place_of (desk_of h) n ≡ index_of a.place
+  place-is = ap place_in (sym at.there)
+
+  pub attends : IsParticipant (desk_of h) n
+  attends = subst (λ x. IsSome x) at.there refl
+
+  pub sits : IsPlaceOf h.world (index_of a.place)
+  sits = at.tied.sound.attended.inside n (record { place = index_of a.place; since = a.since }) (sym at.there)
+
+  -- a call of the participant that leaves this, with the same guards in hand
+  pub leaves : {new : Environment} {call : Call} {given : Reply} {e : ScriptState} → new.guards.entries.items ≡ h.guards.entries.items →
+      desk_of new ≡ e → LeavesSound (desk_of h) e → Meets (desk_of h) call given e → Does (desk_of h) call given new
+  leaves {call = call} {given = given} same desk left meets = leads h at.tied call given same desk left meets
 
 -- nothing is in hand at the start
 pub tied-start : (h : Environment) (l : Limits) → IsNew l 0 h.world → h.moment ≡ 0 → h.places.entries.items ≡ [] → h.guards.entries.items ≡ [] →

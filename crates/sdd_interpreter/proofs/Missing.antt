@@ -3,7 +3,7 @@ use Rattle.sdd_interpreter.proofs.Words.{◌≡◌, ◌≢◌, ℕ, Option, Some
 use Rattle.sdd_script_text.specs.declared.call.Call.TheVariants.{At}
 use Rattle.sdd_script_text.specs.declared.call.Action.{Action}
 use Rattle.sdd_script_text.specs.declared.answer.Reply.TheVariants as reply
-use Rattle.sdd_script_model.specs.Script.{IsOwnerName, IsSole, IsShared, IsCellName, IsValid}
+use Rattle.sdd_script_model.specs.Script.{IsShared, IsValid}
 use Rattle.sdd_interpreter.specs.Environment.{CanPointAt}
 use Rattle.sdd_interpreter.proofs.Acts.{still}
 
@@ -27,20 +27,10 @@ module _ (h : Environment) where
       Acts d (At name a) reply.Invalid d
   nobody name a none there = invalid d name a (λ valid. no-participant name.0 none (there valid))
 
-  -- ---- no owner has this name, or none of this kind
+  -- ---- no owner of this kind has this name
 
   owner-entry : (o : ℕ) (x : Option AnyOwner) → slice_index_or h.owners.entries.items o None ≡ x → holding_at d.owners o ≡ option_map owner_holding x
   owner-entry o x e = get_or-map (option_map owner_holding) h.owners.entries.items o None ∙ ap (option_map owner_holding) e
-
-  pub no-owner : (o : ℕ) → None ≡ slice_index_or h.owners.entries.items o None → ¬ (IsOwnerName d o)
-  no-owner o none there = let entry = owner-entry o None (sym none) in false≢true (rw entry at there)
-
-  pub no-sole : (o : ℕ) → ((owner : Owned Val) → slice_index_or h.owners.entries.items o None ≢ Some (Sole owner)) → ¬ (IsSole d o)
-  no-sole o none there = by (slice_index_or h.owners.entries.items o None) refl where
-    by : (x : Option AnyOwner) → slice_index_or h.owners.entries.items o None ≡ x → ⊥
-    by None e = let entry = owner-entry o None e in false≢true (rw entry at there)
-    by (Some (Sole x)) e = none x e
-    by (Some (Share x)) e = let entry = owner-entry o (Some (Share x)) e in false≢true (rw entry at there)
 
   pub no-shared : (o : ℕ) → ((owner : Shared Val) → slice_index_or h.owners.entries.items o None ≢ Some (Share owner)) → ¬ (IsShared d o)
   no-shared o none there = by (slice_index_or h.owners.entries.items o None) refl where
@@ -48,13 +38,6 @@ module _ (h : Environment) where
     by None e = let entry = owner-entry o None e in false≢true (rw entry at there)
     by (Some (Sole x)) e = let entry = owner-entry o (Some (Sole x)) e in false≢true (rw entry at there)
     by (Some (Share x)) e = none x e
-
-  -- ---- no cell has this name
-
-  pub no-cell : (c : ℕ) → None ≡ slice_index_or h.cells.entries.items c None → ¬ (IsCellName d c)
-  no-cell c none there =
-      let entry : holding_at d.cells c ≡ None = get_or-map (option_map cell_holding) h.cells.entries.items c None ∙ ap (option_map cell_holding) (sym none) in
-      false≢true (rw entry at there)
 
   -- ---- the participant can't point to this item
 

@@ -1,10 +1,9 @@
 -- What a cell holds is taken out and put back
-use Rattle.sdd_interpreter.proofs.Words.{◌≡◌, ℕ, Some, None, slice_set, sym, ap, ◌∙◌, entry_at, CellContents, nulled, held_in, World}
+use Rattle.sdd_interpreter.proofs.Words.{◌≡◌, ℕ, Some, None, slice_set, ap, ◌∙◌, entry_at, CellContents, nulled, World}
 use Rattle.std.proofs.lemmas.List.{set-set, set-get_or}
 use Rattle.sdd_core.specs.declared.tag.Tag.TheVariants.{None as no_tag}
 use Rattle.sdd_participants.specs.Slab.{Entries}
 use Rattle.sdd_space.specs.WorldChanges.{with_cell}
-use Rattle.sdd_script_model.proofs.Entry.{inside, is-there, at-same}
 
 module _ {T : Type 0} (old mid : World T) (k : ℕ) (was : CellContents) (there : entry_at old.cells k ≡ Some was) (out : mid ≡ nulled old k) where
   -- then all is as before
@@ -13,12 +12,3 @@ module _ {T : Type 0} (old mid : World T) (k : ℕ) (was : CellContents) (there 
       let cells : slice_set (slice_set old.cells k (Some (record { held = None; tag = no_tag }))) k (Some was) ≡ old.cells =
       set-set old.cells k _ (Some was) ∙ (rw there at (set-get_or old.cells k None)) in
       back ∙ ap (λ (w : World T). with_cell w k was) out ∙ ap (λ (cells : Entries CellContents). record old { cells = cells }) cells
-
-  -- and in between it held nothing
-  pub nothing-rests : (rest : CellContents) → entry_at mid.cells k ≡ Some rest → rest.held ≡ None
-  nothing-rests rest found =
-      let null : CellContents = record { held = None; tag = no_tag } in
-      let within = inside old.cells k (is-there old.cells k was there) in
-      let now : entry_at mid.cells k ≡ Some null = ap (λ (w : World T). entry_at w.cells k) out ∙ at-same old.cells k (Some null) None within in
-      let same : Some rest ≡ Some null = sym found ∙ now in
-      ap held_in same
