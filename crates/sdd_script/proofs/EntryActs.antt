@@ -12,7 +12,7 @@ use Rattle.sdd_script_model.specs.Containers.{HasNewest, HasNumber}
 use Rattle.sdd_script_model.specs.Script.{AddsOwner, HasCrowdedFirst, IsDrainedOf, PutsIn, TakesOut}
 use Rattle.sdd_script_model.specs.ScriptState.{with_item}
 use Rattle.sdd_script_model.specs.Stacks.{RefusesEntry}
-use Rattle.sdd_script_model.proofs.Chains.{left-apart, list-apart-from}
+use Rattle.sdd_script_model.proofs.ListsApart.{left-apart, list-apart-from}
 use Rattle.sdd_script_model.proofs.QueueGoing.{queue_drained-leaves, taken-home, taken-leaves, taken-number, taken-value}
 use Rattle.sdd_script_model.proofs.QueuePushing.{enqueued-leaves}
 use Rattle.sdd_script_model.proofs.StackGoing.{drained-leaves, popped-home, popped-leaves, popped-number, popped-value}

@@ -2,10 +2,8 @@ pub mod Words
 pub mod ScheduleLines
 pub mod ScheduleTexts
 pub mod ScheduleTaken
-pub mod OwnerActs
 pub mod ItemActs
 pub mod Making
-pub mod Unshared
 pub mod RawActs
 pub mod CollectorActs
 pub mod CellActs
@@ -18,10 +16,6 @@ pub mod BagActs
 pub mod GuardActs
 pub mod Ranks
 pub mod Ending
-pub mod ListEnding
-pub mod StackEnding
-pub mod QueueEnding
-pub mod StackLeaving
-pub mod BagEnding
+pub mod ContainerEnding
 pub mod ContainerActs
 pub mod EntryActs

@@ -1,5 +1,5 @@
 -- What a change of a link leaves in hand: it is sound, and it is what the call means
-use Rattle.sdd_script.proofs.Words.{◌≡◌, ◌≢◌, ◌+◌, ℕ, Bool, true, false, List, [], ◌∷◌, Option, None, Some, inl, inr, slice_index_or, slice_set, refl, sym, ap, ◌∙◌, subst, IfSome, IsTrue, option_map, Vec, Tag, Second, entry_at, CellContents, World, standing_at, value_at, IsWhole, Claim, is_out, held_in, Shared, AreLinked, Entry, first_slot, left, index_of, PlaceName, ItemName, GuardName, OwnerName, At, Val, link_of, IsLooseEntry, item_in, ScriptState, holding_at, in_world, opening_at, shared_slot, slot_at, Acts, CanPointTo, HasOpen, IsUnderGuard, IsValid, Meets, contained, named, NamedParticipant, Environment, attending, owner_holding, AnyOwner, Share, desk_of, IsTied, Does, does, goes, in_range, is, leads, named-owner, owner-spent, still, changing, accounts, owned-out, there-apart, starts}
+use Rattle.sdd_script.proofs.Words.{restored, ◌≡◌, ◌≢◌, ◌+◌, ℕ, Bool, true, false, List, [], ◌∷◌, Option, None, Some, inl, inr, slice_index_or, slice_set, refl, sym, ap, ◌∙◌, subst, IfSome, IsTrue, option_map, Vec, Tag, Second, entry_at, CellContents, World, standing_at, value_at, IsWhole, Claim, is_out, held_in, Shared, AreLinked, Entry, first_slot, left, index_of, PlaceName, ItemName, GuardName, OwnerName, At, Val, link_of, IsLooseEntry, item_in, ScriptState, holding_at, in_world, opening_at, shared_slot, slot_at, Acts, CanPointTo, HasOpen, IsUnderGuard, IsValid, Meets, contained, named, NamedParticipant, Environment, attending, owner_holding, AnyOwner, Share, desk_of, IsTied, Does, does, goes, in_range, is, leads, named-owner, owner-spent, still, changing, accounts, owned-out, there-apart, starts}
 use Rattle.std.specs.Prelude.{IsSome}
 use Rattle.sdd_core.specs.declared.tag.Tag.TheVariants.{None as no_tag, Both}
 use Rattle.sdd_space.specs.Shared.{holding_of, slot_of}
@@ -14,8 +14,8 @@ use Rattle.sdd_script_model.specs.declared.link_change.LinkChange.TheVariants.{M
 use Rattle.sdd_script_model.specs.Appending.{MayAppend}
 use Rattle.sdd_script_model.specs.Link.{IsBehind, IsLink, may_change, retagged, tag_after}
 use Rattle.sdd_script_model.proofs.BehindGoing.{behind-named, behind-there, next-leaves}
-use Rattle.sdd_script_model.proofs.CellGoing.{link-leaves}
-use Rattle.sdd_script.proofs.RawActs.{put-back, same-desk}
+use Rattle.sdd_script_model.proofs.StackChains.{link-leaves}
+use Rattle.sdd_script.proofs.RawActs.{same-desk}
 use Rattle.sdd_script.proofs.StackActs.{AreDatedNow, AreTold, dated-within}
 use Rattle.sdd_script_model.proofs.Appending.{appended-leaves}
 use Rattle.sdd_script_model.proofs.Listed.{apart-item, links-apart}
@@ -217,6 +217,6 @@ module _ (h : Environment) (t : IsTied h) (whole : IsWhole h.world) (name : Plac
         Does (desk_of h) (At name (call.Append i o mark g)) reply.Deleted (record h { world = w; owners = record { entries = after } })
     acts-deleted w between after y did taken back =
         let (deleted, same, world) = did cell loose.entry its-list.2.list.begins loose.there in
-        let as_before = same-desk h w after world (put-back h between after o.0 (Share x) (Share y) mine taken back same) in
+        let as_before = same-desk h w after world (restored owner_holding h.owners.entries.items o.0 mine taken back same) in
         does (desk_of h) (At name (call.Append i o mark g)) reply.Deleted (goes as_before t.sound t.guards)
         (still (desk_of h) (At name (call.Append i o mark g)) reply.Deleted (valid, ((link_of v, cell, its-link, deleted), refl)))

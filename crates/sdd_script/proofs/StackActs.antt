@@ -1,5 +1,5 @@
 -- What each action on a stack leaves in hand: it is sound, and it is what the call means
-use Rattle.sdd_script.proofs.Words.{◌≡◌, ◌<◌, inr, ℕ, Bool, false, List, [], ◌∷◌, ◌++◌, Option, Some, None, is_some, map, length, slice_index, slice_index_or, slice_set, if◌then◌else◌, refl, sym, ap, ◌∙◌, subst, arith, option_map, Vec, length-map, NoCell, IsEmptyAt, IsFull, is_waiting, OwnerOrCell, World, IsPlaceOf, standing_at, nulled, IsWhole, Entry, cell_in, home_in, Stack, index_of, PlaceName, GuardName, StackName, At, Body, Begins, ScriptState, in_world, opening_at, place_of, without_stack, Acts, HasOpen, IsParticipant, IsUnderGuard, IsStack, stack_closed, Val, stack_holding, NamedParticipant, attending, Environment, IsTied, desk_of, Does, does, goes, in_range, is-there, leads, owner-more, still, stack-cell, stacks-more, stacks-spent}
+use Rattle.sdd_script.proofs.Words.{◌≡◌, ◌<◌, inr, ℕ, Bool, false, List, [], ◌∷◌, ◌++◌, Option, Some, None, is_some, map, length, slice_index, slice_index_or, slice_set, if◌then◌else◌, refl, sym, ap, ◌∙◌, subst, arith, option_map, Vec, length-map, NoCell, IsEmptyAt, IsFull, is_waiting, World, IsPlaceOf, standing_at, nulled, IsWhole, Entry, cell_in, home_in, Stack, index_of, PlaceName, GuardName, StackName, At, Body, Begins, ScriptState, in_world, opening_at, place_of, without_stack, Acts, HasOpen, IsParticipant, IsUnderGuard, IsStack, stack_closed, Val, stack_holding, NamedParticipant, attending, Environment, IsTied, desk_of, Does, in_range, is-there, leads, still, stack-cell, stacks-more, stacks-spent}
 use Rattle.sdd_space.specs.OwnerOrCell as holding
 use Rattle.sdd_lists.specs.Stack.{poured}
 use Rattle.sdd_script_text.specs.declared.call.Action.TheVariants as call

@@ -15,10 +15,10 @@ pub use Rattle.sdd_core.specs.declared.refused.Refused.{Refused}
 pub use Rattle.sdd_core.specs.declared.refused.Refused.TheVariants.{GuardOpen, NoCell, TooManyOwners}
 pub use Rattle.sdd_core.specs.declared.tag.Tag.{Tag}
 pub use Rattle.sdd_core.specs.declared.tag.Tag.TheVariants.{Second}
-pub use Rattle.sdd_interpreter.proofs.Acts.{Does, Goes, adds-owner, answers-plain, does, goes, got, in_range, is, is-there, leads, named-owner, owner-home, owner-more, owner-spent, place, same-owners, stays-here, still, still-as}
+pub use Rattle.sdd_interpreter.proofs.Acts.{Does, Goes, Here, adds-owner, attends, here, leaves, named as named-as, next, place-is, restored, sits, under, answers-plain, does, goes, got, in_range, is, is-there, leads, named-owner, owner-home, owner-more, owner-spent, place, stays-here, still, still-as}
 pub use Rattle.sdd_interpreter.proofs.Collectors.{collector-home, collectors-spent, number-is}
 pub use Rattle.sdd_interpreter.proofs.Inside.{value-named}
-pub use Rattle.sdd_interpreter.proofs.Missing.{invalid, no-cell, no-owner, no-shared, no-sole, nobody, points, points-not}
+pub use Rattle.sdd_interpreter.proofs.Missing.{invalid, no-shared, nobody, points, points-not}
 pub use Rattle.sdd_interpreter.proofs.Queues.{both-long, newest-cell, no-queue, oldest-cell, queue-home, queues-more, queues-spent}
 pub use Rattle.sdd_interpreter.proofs.Stacks.{no-stack, stack-cell, stack-home, stacks-more, stacks-spent}
 pub use Rattle.sdd_interpreter.specs.Containers.{list_cell}
@@ -43,35 +43,30 @@ pub use Rattle.sdd_machine.specs.History.{history, state}
 pub use Rattle.sdd_machine.specs.Sizes.{size_for}
 pub use Rattle.sdd_machine.specs.Table.{did}
 pub use Rattle.sdd_machine.specs.declared.machine.steps.Step.{Step}
-pub use Rattle.sdd_participants.proofs.Adopting.{keeps-closed}
 pub use Rattle.sdd_participants.specs.EpochState.{CanNest, is_open, phase_at}
 pub use Rattle.sdd_participants.specs.Slab.{IsEmptyAt, IsFull, entry_at}
 pub use Rattle.sdd_participants.specs.declared.standing.CellContents.{CellContents}
 pub use Rattle.sdd_participants.specs.declared.standing.Standing.{Standing}
 pub use Rattle.sdd_participants.specs.declared.standing.Standing.TheVariants.{Raw, Retired}
-pub use Rattle.sdd_participants.specs.declared.tally.Tally.{Tally}
 pub use Rattle.sdd_participants.specs.declared.waiting.LimboEntry.TheVariants.{Item}
 pub use Rattle.sdd_script.specs.ItemLines.{changing, making, popping, pushing}
 pub use Rattle.sdd_script.specs.Leaving.{revived}
 pub use Rattle.sdd_script.specs.ScheduleLine.{HasNumbers, IsStepText, line_of}
-pub use Rattle.sdd_script_model.proofs.Attending.{live-by, opens-one}
 pub use Rattle.sdd_script_model.proofs.BagEnds.{bag_closed-leaves}
 pub use Rattle.sdd_script_model.proofs.CellGoing.{held-named}
-pub use Rattle.sdd_script_model.proofs.Chains.{LeavesSound, are-own, at_home-spent, starts}
+pub use Rattle.sdd_script_model.proofs.Chains.{LeavesSound, at_home-spent, starts}
 pub use Rattle.sdd_script_model.proofs.Counting.{accounts, owned-out}
-pub use Rattle.sdd_script_model.proofs.Deferred.{deferred-opened}
 pub use Rattle.sdd_script_model.proofs.Entry.{IsSpentTo, as-each, at-default, at-other, inside, set-either, spent_twice}
 pub use Rattle.sdd_script_model.proofs.Layers.{layered-less}
-pub use Rattle.sdd_script_model.proofs.Links.{HoldsLess, less-same, less-shed, less-then}
-pub use Rattle.sdd_script_model.proofs.ListChanges.{has-same, has-seconds}
-pub use Rattle.sdd_script_model.proofs.Listed.{AreOwn, has-still, has-stored, same-list}
-pub use Rattle.sdd_script_model.proofs.StackChains.{IsSingle}
+pub use Rattle.sdd_script_model.proofs.Links.{HoldsLess, less-same}
+pub use Rattle.sdd_script_model.proofs.ListChanges.{has-same}
+pub use Rattle.sdd_script_model.proofs.Listed.{has-stored, same-list}
 pub use Rattle.sdd_script_model.proofs.StackGoing.{IsDatedWithin}
-pub use Rattle.sdd_script_model.proofs.Stocked.{KeepsSlots, name-given, slots-given, slots-opened, slots-same, slots-then, stocked-as}
-pub use Rattle.sdd_script_model.proofs.Storing.{spare-as, spare-on, there-apart}
+pub use Rattle.sdd_script_model.proofs.Stocked.{KeepsSlots, name-given, slots-same, stocked-as}
+pub use Rattle.sdd_script_model.proofs.Storing.{spare-as, there-apart}
 pub use Rattle.sdd_script_model.specs.Appending.{IsLooseEntry}
 pub use Rattle.sdd_script_model.specs.BagLines.{holds_nothing}
-pub use Rattle.sdd_script_model.specs.Bags.{AreSpare, IsSpare, IsStored, StandsOn}
+pub use Rattle.sdd_script_model.specs.Bags.{AreSpare, IsStored, StandsOn}
 pub use Rattle.sdd_script_model.specs.Containers.{IsContainer}
 pub use Rattle.sdd_script_model.specs.Copies.{LosesNames, entry_slots}
 pub use Rattle.sdd_script_model.specs.Held.{holding_first, slots_among}
@@ -80,13 +75,12 @@ pub use Rattle.sdd_script_model.specs.Queues.{IsNamedQueue}
 pub use Rattle.sdd_script_model.specs.Script.{Acts, Answers, CanPointTo, HasOpen, IsCellName, IsListName, IsOwnerName, IsParticipant, IsThereToPut, IsUnderGuard, IsValid, Meets, Runs, slot_put}
 pub use Rattle.sdd_script_model.specs.ScriptState.{BeginsLine, IsListCell, IsSecondCell, IsThere, NumberBag, OpenSince, ScriptState, bag_at, bag_length, cell_of, collector_of, holding_at, in_world, opening_at, place_of, shared_cell, shared_slot, slot_at, slot_of, sole_slot, with_owner, without_queue, without_stack}
 pub use Rattle.sdd_script_model.specs.Shown.{IsCell, item_held, item_in, names_in, told_of}
-pub use Rattle.sdd_script_model.specs.Sound.{AreDeferred, IsSound, contained, is_of, named}
+pub use Rattle.sdd_script_model.specs.Sound.{IsSound, contained, is_of, named}
 pub use Rattle.sdd_script_model.specs.Stacks.{IsStack, stack_closed}
 pub use Rattle.sdd_script_model.specs.Val.{Val, body_of, holdings_of, link_of, owner_in, storage_in}
 pub use Rattle.sdd_script_model.specs.declared.owner_kind.OwnerKind.{OwnerKind}
 pub use Rattle.sdd_script_model.specs.declared.val.Body.{Body}
 pub use Rattle.sdd_script_model.specs.declared.val.Body.TheVariants.{Number}
-pub use Rattle.sdd_script_text.proofs.Plays.{reads_all}
 pub use Rattle.sdd_script_text.specs.Script.{lines, most_calls}
 pub use Rattle.sdd_script_text.specs.declared.answer.Reply.{Reply}
 pub use Rattle.sdd_script_text.specs.declared.call.Call.{Call}
@@ -101,17 +95,10 @@ pub use Rattle.sdd_script_text.specs.declared.name.OwnerName.{OwnerName}
 pub use Rattle.sdd_script_text.specs.declared.name.PlaceName.{PlaceName}
 pub use Rattle.sdd_script_text.specs.declared.name.QueueName.{QueueName}
 pub use Rattle.sdd_script_text.specs.declared.name.StackName.{StackName}
-pub use Rattle.sdd_space.proofs.Accounts.{accounted-owner_given, accounted-without_cell}
 pub use Rattle.sdd_space.proofs.Housed.{live-is}
-pub use Rattle.sdd_space.proofs.Ledger.{ledger-laws}
-pub use Rattle.sdd_space.proofs.Nesting.{guards-closed, one-if, still-live}
-pub use Rattle.sdd_space.proofs.Rights.{given-same, held-cell_spent, held-owner_given}
-pub use Rattle.sdd_space.proofs.Sheds.{sheds-opened}
-pub use Rattle.sdd_space.proofs.Whole.{one_where}
 pub use Rattle.sdd_space.specs.CallerId.{reader_at}
 pub use Rattle.sdd_space.specs.Guard.{ReaderId, reader_of}
-pub use Rattle.sdd_space.specs.Ledger.{Claim, IsLedger, Keeps, nothing, one, owner_of, right_to}
-pub use Rattle.sdd_space.specs.Ledger.Moves.{opens}
+pub use Rattle.sdd_space.specs.Ledger.{Claim, IsLedger, owner_of, right_to}
 pub use Rattle.sdd_space.specs.Out.{IsNullCell, is_out}
 pub use Rattle.sdd_space.specs.OwnerOrCell.{OwnerOrCell}
 pub use Rattle.sdd_space.specs.World.{AnyGuardOpen, IsPlaceOf, World, place_at, standing_at, value_at}

@@ -1,32 +1,21 @@
-use Rattle.sdd_script.proofs.Words.{ℕ, List, None, Option, IsSome, slice_index_or, sym, ◌∙◌, ap, subst, IfSome, option_map, item_in, invalid, no-cell}
-use Rattle.sdd_script.proofs.CellActs.{acts-loaded, cell-home, seen-named}
+use Rattle.sdd_script.proofs.Words.{ℕ, List, None, Option, IsSome, slice_index_or, refl, sym, ◌∙◌, ap, is_some, subst, IfSome, option_map, item_in, desk_of, still, under}
+use Rattle.sdd_script.proofs.CellActs.{is-cell}
+use Rattle.sdd_script.proofs.ExchangeActs.{seen-named}
 use Rattle.sdd_script.proofs.commands.cells.load.Goals as goal
 
-pub returns-in_default : goal.returns-in_default
-returns-in_default c = record {
-  acts = rw (← c.stage.view_is) (invalid _ _ _ (λ valid. c.in_default.ensures.valid valid.0));
-}
-
-pub returns-in_default-get : goal.returns-in_default-get
-returns-in_default-get c = record {
-  acts = rw (← c.stage.view_is) (invalid _ _ _ (λ valid. no-cell c.stage.inside.hand c.args.cell.0 c.in_default-get.ensures valid.1));
-}
-
-pub cell_loaded-loaded-requires-clause-home : goal.cell_loaded-loaded-requires-clause-home
-cell_loaded-loaded-requires-clause-home c = cell-home _ c.stage.invariant c.args.cell.0 _ c.in-Some-get.ensures
-
 pub item_seen-item-requires : goal.item_seen-item-requires
-item_seen-item-requires c =
-    let all = seen-named _ c.stage.invariant c.is_whole.ensures c.args.name _ c.in-Some.ensures.found.0 c.args.cell _ c.in-Some-get.ensures
-    c.cell_loaded-loaded.result c.cell_loaded-loaded.ensures.loaded in
-    record {
-      named = subst (λ (names : List (Option ℕ)). IfSome c.cell_loaded-loaded.result.held (λ j. IsSome (slice_index_or names j None)))
-          (sym c.as_slice.ensures.value) all;
-    }
+item_seen-item-requires c = record {
+  named = subst (λ (names : List (Option ℕ)). IfSome c.cell_loaded-loaded.result.held (λ j. IsSome (slice_index_or names j None)))
+      (sym c.as_slice.ensures.value) (seen-named c.args.name (under c.args.name.0 c.stage.invariant c.is_whole.ensures c.in-Some.ensures.found.0) c.args.cell _
+      c.cell_loaded-loaded.result (sym c.in-Some-get.ensures) c.cell_loaded-loaded.ensures.loaded _ refl);
+}
 
 pub returns : goal.returns
-returns c = record {
-  acts = rw (← c.stage.view_is, c.cell_loaded-loaded.ensures.world) (acts-loaded _ c.stage.invariant c.is_whole.ensures c.args.name _
-      c.in-Some.ensures.found.0 c.args.cell _ c.in-Some-get.ensures c.args.guard _ _ c.in-Some.ensures.valid c.cell_loaded-loaded.ensures.loaded
-      (c.item_seen-item.ensures ∙ ap (λ names. option_map (item_in names) c.cell_loaded-loaded.result.held) c.as_slice.ensures.value));
-}
+returns c =
+    let h = c.stage.inside.hand in
+    let own = is-cell h c.args.cell.0 _ (sym c.in-Some-get.ensures) c.cell_loaded-loaded.ensures.loaded in
+    let told = c.item_seen-item.ensures ∙ ap (λ names. option_map (item_in names) c.cell_loaded-loaded.result.held) c.as_slice.ensures.value in
+    record {
+      acts = rw (← c.stage.view_is, c.cell_loaded-loaded.ensures.world)
+          (still (desk_of h) _ _ ((c.in-Some.ensures.valid, ap is_some own.named), ((_, _, own, told, refl), refl)));
+    }

@@ -1,22 +1,13 @@
-use Rattle.sdd_script.proofs.Words.{got, invalid, no-cell, nobody}
-use Rattle.sdd_script.proofs.CellActs.{acts-tag_told, cell-home}
+use Rattle.sdd_script.proofs.Words.{refl, sym, ap, is_some, desk_of, attends, here, still}
+use Rattle.sdd_script.proofs.CellActs.{is-cell}
 use Rattle.sdd_script.proofs.commands.cells.tag.Goals as goal
 
-pub returns-in_default : goal.returns-in_default
-returns-in_default c = record {
-  acts = rw (← c.stage.view_is) (nobody c.stage.inside.hand c.args.name _ c.in_default.ensures (λ v. v.0));
-}
-
-pub returns-in_default-get : goal.returns-in_default-get
-returns-in_default-get c = record {
-  acts = rw (← c.stage.view_is) (invalid _ _ _ (λ valid. no-cell c.stage.inside.hand c.args.cell.0 c.in_default-get.ensures valid.1));
-}
-
-pub tag_of-requires-clause-home : goal.tag_of-requires-clause-home
-tag_of-requires-clause-home c = cell-home _ c.stage.invariant c.args.cell.0 _ c.in-Some-get.ensures
-
 pub returns : goal.returns
-returns c = record {
-  acts = rw (← c.stage.view_is, c.tag_of.ensures.world) (acts-tag_told _ c.stage.invariant c.is_whole.ensures c.args.name _
-      (got c.stage.inside.hand.places c.args.name.0 _ c.in-Some.ensures) c.args.cell _ c.in-Some-get.ensures _ _ c.tag_of.ensures.tag.1 c.tag_of.ensures.tag.2);
-}
+returns c =
+    let h = c.stage.inside.hand in
+    let told = c.tag_of.ensures.tag in
+    let own = is-cell h c.args.cell.0 _ (sym c.in-Some-get.ensures) told.1 in
+    let at = here c.args.name.0 c.stage.invariant c.is_whole.ensures c.in-Some.ensures in
+    record {
+      acts = rw (← c.stage.view_is, c.tag_of.ensures.world) (still (desk_of h) _ _ ((attends at, ap is_some own.named), ((_, told.0, own, told.2), refl)));
+    }

@@ -1,35 +1,20 @@
-use Rattle.sdd_script.proofs.Words.{length, ap, ◌∙◌, got, nobody}
+use Rattle.sdd_script.proofs.Words.{refl, map_push, At, collector_holding, desk_of, Does, attends, here, leaves, next, sits}
 use Rattle.sdd_script_text.specs.declared.call.Action.TheVariants as call
-use Rattle.sdd_script.proofs.CollectorActs.{acts-collecting, acts-no_cell}
+use Rattle.sdd_script_text.specs.declared.answer.Reply.TheVariants as reply
+use Rattle.sdd_script_model.proofs.Collected.{collecting-leaves}
 use Rattle.sdd_script.proofs.commands.collectors.make_collector.Goals as goal
 
-pub returns-in_default : goal.returns-in_default
-returns-in_default c = record { acts = rw (← c.stage.view_is) (nobody c.stage.inside.hand c.args.name call.Collector c.in_default.ensures (λ valid. valid)) }
-
-pub returns-in-Err : goal.returns-in-Err
-returns-in-Err c =
-    let h = c.stage.inside.hand in
-    let refused = c.in-Err.ensures.made in
-    record {
-      acts = rw (refused.1, refused.2, c.make_room.ensures.kept, ← c.stage.view_is)
-          (acts-no_cell h c.stage.invariant c.is_whole.ensures c.args.name _ (got h.places c.args.name.0 _ c.in-Some.ensures) refused.0);
-    }
+made : (c : goal.After-give-name) → Does (desk_of c.stage.inside.hand) (At c.args.name call.Collector)
+    (reply.Collector (record { 0 = c.give-name.result })) (record c.stage.inside.hand { world = c.collector_at.new.world; collectors = c.give-name.new.self })
+made c =
+    let at = here c.args.name.0 c.stage.invariant c.is_whole.ensures c.in-Some.ensures in
+    let out = c.in-Ok.ensures.made in
+    leaves at refl (simp (out.1, c.give-name.ensures.given, c.make_room.ensures.kept, map_push, c.in-Ok.ensures.home))
+    (collecting-leaves (desk_of c.stage.inside.hand) at.tied.sound at.whole _ _ (sits at) out.0)
+    (attends at, (next collector_holding c.give-name.ensures.name c.make_room.ensures.kept, (_, out.0, refl)))
 
 pub invariant_of-stage-in-Ok : goal.invariant_of-stage-in-Ok
-invariant_of-stage-in-Ok c =
-    let h = c.stage.inside.hand in
-    let made = c.in-Ok.ensures.made in
-    (acts-collecting h c.stage.invariant c.is_whole.ensures c.args.name _ (got h.places c.args.name.0 _ c.in-Some.ensures) _
-    c.give-name.new.self.entries _ (record { 0 = c.give-name.result }) made.0 made.1 c.in-Ok.ensures.home
-    (rw c.make_room.ensures.kept at c.give-name.ensures.given) (c.give-name.ensures.name ∙ ap length c.make_room.ensures.kept)).0
+invariant_of-stage-in-Ok c = (made c).0
 
 pub returns-in-Ok : goal.returns-in-Ok
-returns-in-Ok c =
-    let h = c.stage.inside.hand in
-    let made = c.in-Ok.ensures.made in
-    record {
-      acts = rw (← c.stage.view_is) (acts-collecting h c.stage.invariant c.is_whole.ensures c.args.name _
-          (got h.places c.args.name.0 _ c.in-Some.ensures) _ c.give-name.new.self.entries _ (record { 0 = c.give-name.result }) made.0 made.1
-          c.in-Ok.ensures.home (rw c.make_room.ensures.kept at c.give-name.ensures.given)
-          (c.give-name.ensures.name ∙ ap length c.make_room.ensures.kept)).1;
-    }
+returns-in-Ok c = record { acts = rw (← c.stage.view_is) (made c).1 }

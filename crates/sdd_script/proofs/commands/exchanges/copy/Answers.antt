@@ -1,48 +1,52 @@
-use Rattle.sdd_script.proofs.Words.{length, refl, ap, ◌∙◌, At, desk_of, Does, still, still-as}
+use Rattle.sdd_script.proofs.Words.{inl, inr, refl, ap, is_some, map_push, cell_of, shared_cell, IsCell, At, cell_holding, desk_of, Does, invalid, leaves, named-as, next, sits, still, under}
 use Rattle.sdd_script_text.specs.declared.call.Action.TheVariants as call
 use Rattle.sdd_script_text.specs.declared.answer.Reply.TheVariants as reply
-use Rattle.sdd_script.proofs.ExchangeActs.{none-found, cell-home, not-shared, same-cells, acts-copied, copied-may, copy-refused}
+use Rattle.sdd_script_model.proofs.CellGoing.{copied-leaves}
+use Rattle.sdd_script.proofs.ExchangeActs.{copied-may, none-found, not-shared, share-full}
 use Rattle.sdd_script.proofs.commands.exchanges.copy.Goals as goal
-
-pub returns-in_default : goal.returns-in_default
-returns-in_default c = record { acts = rw (← c.stage.view_is) (still _ _ _ ((λ v. c.in_default.ensures.valid v.0), refl)) }
 
 pub returns-then-is_none : goal.returns-then-is_none
 returns-then-is_none c = record {
-  acts = rw (← c.stage.view_is) (still _ _ _ (
-    (λ v. not-shared c.stage.inside.hand c.args.cell.0
-        (none-found _ c.shared_cell_of.result c.if-is_none.ensures c.shared_cell_of.ensures) v.1),
-    refl,
-  ));
+  acts = rw (← c.stage.view_is) (invalid (desk_of c.stage.inside.hand) _ _ (λ valid. not-shared c.stage.inside.hand c.args.cell.0
+      (none-found _ c.shared_cell_of.result c.if-is_none.ensures c.shared_cell_of.ensures) valid.1));
 }
 
-pub copy_held-requires-clause-home : goal.copy_held-requires-clause-home
-copy_held-requires-clause-home c =
-    cell-home c.stage.inside.hand c.stage.invariant c.args.cell.0 _ (rw c.make_room.ensures.kept at c.in-Some-shared_cell_of.ensures)
+pub returns-in-Err : goal.returns-in-Err
+returns-in-Err c =
+    let d = desk_of c.stage.inside.hand in
+    let kept = c.make_room.ensures.kept in
+    let out = c.in-Err.ensures.copied in
+    let mine = named-as cell_holding c.stage.inside.hand.cells.entries.items c.args.cell.0 (rw kept at c.in-Some-shared_cell_of.ensures) in
+    let is : IsCell d c.args.cell.0 _ out.0 = record { named = ap cell_of mine; holds = out.1 } in
+    let named = ap (λ s. is_some (shared_cell s)) mine in
+    record {
+      acts = rw (← c.stage.view_is, kept, out.2.0) (elim out.2.1 [
+        | inl full ↦ rw full.1 (still d _ _ ((c.in-Some.ensures.valid, named), (full.0, refl)))
+        | inr many ↦ rw many.1 (still d _ _ (
+          (c.in-Some.ensures.valid, named),
+          (many.0, (_, out.0, is, share-full c.stage.inside.hand.world out.0.held many.2 many.3), refl),
+        ))
+      ]);
+    }
 
 copied : (c : goal.After-give-name) → Does (desk_of c.stage.inside.hand) (At c.args.name (call.Copy c.args.cell c.args.guard))
     (reply.Cell (record { 0 = c.give-name.result })) (record c.stage.inside.hand { world = c.copy_held.new.world; cells = c.give-name.new.self })
 copied c =
+    let d = desk_of c.stage.inside.hand in
+    let at = under c.args.name.0 c.stage.invariant c.is_whole.ensures c.in-Some.ensures.found.0 in
+    let kept = c.make_room.ensures.kept in
     let out = c.in-Ok.ensures.copied in
     let may = copied-may _ _ _ out.0 out.0.held out.2.1 in
-    acts-copied c.stage.inside.hand c.stage.invariant c.is_whole.ensures c.args.name _ c.in-Some.ensures.found.0 c.args.cell c.args.guard _ out.0
-    c.in-Some.ensures.valid (rw c.make_room.ensures.kept at c.in-Some-shared_cell_of.ensures) out.1 _ c.give-name.new.self.entries _ c.in-Ok.other may.0
-    (rw c.make_room.ensures.kept at c.give-name.ensures.given) c.in-Ok.ensures.home out.2.0 may.1 may.2
-    (c.give-name.ensures.name ∙ ap length c.make_room.ensures.kept)
+    let mine = named-as cell_holding c.stage.inside.hand.cells.entries.items c.args.cell.0 (rw kept at c.in-Some-shared_cell_of.ensures) in
+    let is : IsCell d c.args.cell.0 _ out.0 = record { named = ap cell_of mine; holds = out.1 } in
+    leaves at refl (simp (may.2, c.give-name.ensures.given, kept, map_push, c.in-Ok.ensures.home))
+    (copied-leaves d at.tied.sound at.whole _ c.args.cell.0 _ out.0 (sits at) is _ may.0 out.2.0 may.1) (
+      (c.in-Some.ensures.valid, ap (λ s. is_some (shared_cell s)) mine),
+      (next cell_holding c.give-name.ensures.name kept, (_, out.0, is, (may.0, _, may.1, out.2.0, refl))),
+    )
 
 pub invariant_of-stage-in-Ok : goal.invariant_of-stage-in-Ok
 invariant_of-stage-in-Ok c = (copied c).0
 
 pub returns-in-Ok : goal.returns-in-Ok
 returns-in-Ok c = record { acts = rw (← c.stage.view_is) (copied c).1 }
-
-pub returns-in-Err : goal.returns-in-Err
-returns-in-Err c =
-    let out = c.in-Err.ensures.copied in
-    record {
-      acts = rw (← c.stage.view_is) (still-as c.stage.inside.hand
-          (record c.stage.inside.hand { world = c.copy_held.new.world; cells = c.make_room.new.self }) _ _
-          (same-cells c.stage.inside.hand c.copy_held.new.world c.make_room.new.self.entries out.2.0 c.make_room.ensures.kept)
-          (copy-refused c.stage.inside.hand c.stage.invariant c.is_whole.ensures c.args.name _ c.in-Some.ensures.found.0 c.args.cell c.args.guard _ _
-          c.in-Some.ensures.valid (rw c.make_room.ensures.kept at c.in-Some-shared_cell_of.ensures) out.1 _ out.2.1));
-    }

@@ -1,46 +1,23 @@
-use Rattle.sdd_script.proofs.Words.{◌≡◌, ℕ, List, None, Option, IsSome, slice_index_or, refl, sym, ◌∙◌, subst, IfSome, false≢true, At, cell_kind, desk_of, Does, goes, invalid, still-as}
+use Rattle.sdd_script.proofs.Words.{◌≡◌, ℕ, List, None, Option, IsSome, slice_index_or, refl, sym, ◌∙◌, subst, IfSome, At, cell_kind, desk_of, Does, goes, still-as, under}
 use Rattle.sdd_script_text.specs.declared.call.Action.TheVariants as call
 use Rattle.sdd_script_text.specs.declared.answer.Reply.TheVariants as reply
-use Rattle.sdd_script.proofs.ExchangeActs.{cell-home, no-fit, fits-not, put-home, room-kept, can-put-back, same-back, compares, compares-not, slot-compared, compared-stays, seen-as, seen-named, acts-exchanged, differs}
+use Rattle.sdd_script.proofs.CellActs.{named-home}
+use Rattle.sdd_script.proofs.ExchangeActs.{room-kept, can-put-back, same-back, compares, slot-compared, compared-stays, seen-as, seen-named, acts-exchanged, differs}
 use Rattle.sdd_script.proofs.commands.exchanges.exchange.Goals as goal
-
-pub returns-in_default : goal.returns-in_default
-returns-in_default c = record { acts = rw (← c.stage.view_is) (invalid _ _ _ (λ valid. c.in_default.ensures.valid valid.0)) }
-
-pub returns-in_default-get : goal.returns-in_default-get
-returns-in_default-get c = record {
-  acts = rw (← c.stage.view_is) (invalid _ _ _ (λ valid. no-fit c.stage.inside.hand c.args.cell.0 c.args.owner c.in_default-get.ensures valid.2));
-}
-
-pub returns-then-not-fits : goal.returns-then-not-fits
-returns-then-not-fits c =
-    let never = rw c.ownership.ensures at c.if-not-fits.ensures in
-    record {
-      acts = rw (← c.stage.view_is) (invalid _ _ _ (λ valid. fits-not c.stage.inside.hand c.args.cell.0 _ c.args.owner (sym c.in-Some-get.ensures)
-          (λ fits. false≢true (never.1 fits)) valid.2));
-    }
-
-pub returns-in_default-slot_compared : goal.returns-in_default-slot_compared
-returns-in_default-slot_compared c =
-    let cannot = rw (c.as_slice-slots.ensures.value, c.as_slice-names.ensures.value, c.as_slice-dates.ensures.value) at c.in_default-slot_compared.ensures in
-    let not = compares-not c.stage.inside.hand c.args.name.0 _ c.in-Some.ensures.found.0 c.args.item cannot in
-    record { acts = rw (← c.stage.view_is) (invalid _ _ _ (λ valid. not valid.1)) }
 
 pub exchange_at-requires-clause-stays : goal.exchange_at-requires-clause-stays
 exchange_at-requires-clause-stays c =
     let h = c.stage.inside.hand in
-    let found = c.in-Some.ensures.found in
+    let at = under c.args.name.0 c.stage.invariant c.is_whole.ensures c.in-Some.ensures.found.0 in
     let compared = rw (c.as_slice-slots.ensures.value, c.as_slice-names.ensures.value, c.as_slice-dates.ensures.value) at c.in-Some-slot_compared.ensures in
-    rw (compared.1 ∙ slot-compared h c.args.item) (compared-stays h c.stage.invariant c.is_whole.ensures c.args.name _ found.0 c.args.guard.0 _ found.1 found.2
-    c.args.item (compares h c.args.name.0 _ found.0 c.args.item compared.0))
-
-pub exchange_at-requires-clause-home : goal.exchange_at-requires-clause-home
-exchange_at-requires-clause-home c = cell-home c.stage.inside.hand c.stage.invariant c.args.cell.0 _ (sym c.in-Some-get.ensures)
+    rw (compared.1 ∙ slot-compared h c.args.item) (compared-stays c.args.name at c.args.guard.0 _
+    c.in-Some.ensures.found.1 c.in-Some.ensures.found.2 c.args.item
+    (compares c.args.name at c.args.item compared.0))
 
 pub exchange_at-requires-clause-owner : goal.exchange_at-requires-clause-owner
 exchange_at-requires-clause-owner c =
     let fills = rw c.make_room.ensures.kept at c.take_filling-next.ensures.filled in
-    rw fills.holding (put-home c.stage.inside.hand c.stage.invariant c.args.owner)
+    rw fills.holding (named-home c.stage.inside.hand c.stage.invariant c.args.owner)
 
 pub give_filling-name-requires : goal.give_filling-name-requires
 give_filling-name-requires c =
@@ -57,16 +34,16 @@ exchanged : (c : goal.After-give_filling-name) → Does (desk_of c.stage.inside.
     (record c.stage.inside.hand { world = c.exchange_at.new.world; owners = c.give_filling-name.new.owners })
 exchanged c =
     let h = c.stage.inside.hand in
-    let found = c.in-Some.ensures.found in
+    let at = under c.args.name.0 c.stage.invariant c.is_whole.ensures c.in-Some.ensures.found.0 in
     let compared = rw (c.as_slice-slots.ensures.value, c.as_slice-names.ensures.value, c.as_slice-dates.ensures.value) at c.in-Some-slot_compared.ensures in
     let same = seen-as _ _ _ c.args.was refl (compared.1 ∙ slot-compared h c.args.item) in
     let out = c.in-Ok.ensures.exchanged in
     let fits = rw c.ownership.ensures at c.if-not-fits.ensures in
     let fills = rw (c.make_room.ensures.kept, c.ownership-2.ensures) at c.take_filling-next.ensures.filled in
-    acts-exchanged h c.stage.invariant c.is_whole.ensures c.args.name _ found.0 c.args.cell c.in-Some-get.holder.now
+    acts-exchanged c.args.name at c.args.cell c.in-Some-get.holder.now
     _ (sym c.in-Some-get.ensures) out.0 c.args.owner c.args.tag (fits.0 refl) _
     c.give_filling-name.new.owners.entries _ c.take_filling-next.result _ c.give_filling-name.result fills out.1 c.give_filling-name.ensures out.2
-    c.args.guard c.args.item c.args.was c.in-Some.ensures.valid (compares h c.args.name.0 _ found.0 c.args.item compared.0) same
+    c.args.guard c.args.item c.args.was c.in-Some.ensures.valid (compares c.args.name at c.args.item compared.0) same
 
 pub invariant_of-stage-in-Ok : goal.invariant_of-stage-in-Ok
 invariant_of-stage-in-Ok c = (exchanged c).0
@@ -82,10 +59,11 @@ pub item_seen-requires : goal.item_seen-requires
 item_seen-requires c =
     let h = c.stage.inside.hand in
     let out = c.in-Err.ensures.exchanged in
-    let all = seen-named h c.stage.invariant c.is_whole.ensures c.args.name _ c.in-Some.ensures.found.0 c.args.cell c.in-Some-get.holder.now c.in-Err.seen
-    (sym c.in-Some-get.ensures) out.1 c.in-Err.seen.held refl in
+    let all = seen-named c.args.name (under c.args.name.0 c.stage.invariant c.is_whole.ensures c.in-Some.ensures.found.0) c.args.cell c.in-Some-get.holder.now
+    c.in-Err.seen (sym c.in-Some-get.ensures) out.1 c.in-Err.seen.held refl in
     record {
-      named = subst (λ (names : List (Option ℕ)). IfSome c.in-Err.seen.held (λ s. IsSome (slice_index_or names s None))) (sym c.as_slice-names.ensures.value) all;
+      named = subst (λ (names : List (Option ℕ)). IfSome c.in-Err.seen.held (λ s. IsSome (slice_index_or names s None)))
+          (sym c.as_slice-names.ensures.value) all;
     }
 
 -- where it differs, the desk is as it was
@@ -106,15 +84,15 @@ returns-in-Ok c = record { acts = rw (← c.stage.view_is) (exchanged c).1 }
 pub returns-in-Err : goal.returns-in-Err
 returns-in-Err c =
     let h = c.stage.inside.hand in
-    let found = c.in-Some.ensures.found in
+    let at = under c.args.name.0 c.stage.invariant c.is_whole.ensures c.in-Some.ensures.found.0 in
     let compared = rw (c.as_slice-slots.ensures.value, c.as_slice-names.ensures.value, c.as_slice-dates.ensures.value) at c.in-Some-slot_compared.ensures in
     let same = seen-as _ _ _ c.args.was refl (compared.1 ∙ slot-compared h c.args.item) in
     let out = c.in-Err.ensures.exchanged in
     let fits = rw c.ownership.ensures at c.if-not-fits.ensures in
     record {
       acts = rw (← c.stage.view_is) (still-as h (record h { world = c.exchange_at.new.world; owners = c.put_back.new.owners }) _ _ (back c)
-          (differs h c.stage.invariant c.is_whole.ensures c.args.name _ found.0 c.args.cell c.in-Some-get.holder.now c.in-Err.seen
+          (differs c.args.name at c.args.cell c.in-Some-get.holder.now c.in-Err.seen
           (sym c.in-Some-get.ensures) out.1 c.args.owner c.args.tag (fits.0 refl) c.args.guard c.args.item c.args.was c.item_seen.result
-          c.in-Some.ensures.valid (compares h c.args.name.0 _ found.0 c.args.item compared.0) (λ e. out.2 (e ∙ sym same))
+          c.in-Some.ensures.valid (compares c.args.name at c.args.item compared.0) (λ e. out.2 (e ∙ sym same))
           (rw c.as_slice-names.ensures.value at c.item_seen.ensures)));
     }

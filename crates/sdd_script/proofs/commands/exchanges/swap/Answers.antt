@@ -1,32 +1,14 @@
-use Rattle.sdd_script.proofs.Words.{refl, sym, false≢true, At, desk_of, Does, got, nobody, invalid}
+use Rattle.sdd_script.proofs.Words.{refl, sym, At, desk_of, Does, here}
 use Rattle.sdd_script_text.specs.declared.call.Action.TheVariants as call
 use Rattle.sdd_script_text.specs.declared.answer.Reply.TheVariants as reply
-use Rattle.sdd_script.proofs.ExchangeActs.{cell-home, no-fit, fits-not, put-home, room-kept, acts-swapped}
+use Rattle.sdd_script.proofs.CellActs.{named-home}
+use Rattle.sdd_script.proofs.ExchangeActs.{acts-swapped, room-kept}
 use Rattle.sdd_script.proofs.commands.exchanges.swap.Goals as goal
-
-pub returns-in_default : goal.returns-in_default
-returns-in_default c = record { acts = rw (← c.stage.view_is) (nobody c.stage.inside.hand c.args.name _ c.in_default.ensures (λ valid. valid.0)) }
-
-pub returns-in_default-get : goal.returns-in_default-get
-returns-in_default-get c = record {
-  acts = rw (← c.stage.view_is) (invalid _ _ _ (λ valid. no-fit c.stage.inside.hand c.args.cell.0 c.args.owner c.in_default-get.ensures valid.1));
-}
-
-pub returns-then-not-fits : goal.returns-then-not-fits
-returns-then-not-fits c =
-    let never = rw c.ownership.ensures at c.if-not-fits.ensures in
-    record {
-      acts = rw (← c.stage.view_is) (invalid _ _ _ (λ valid. fits-not c.stage.inside.hand c.args.cell.0 _ c.args.owner (sym c.in-Some-get.ensures)
-          (λ fits. false≢true (never.1 fits)) valid.1));
-    }
-
-pub swap_in-old-requires-clause-home : goal.swap_in-old-requires-clause-home
-swap_in-old-requires-clause-home c = cell-home c.stage.inside.hand c.stage.invariant c.args.cell.0 _ (sym c.in-Some-get.ensures)
 
 pub swap_in-old-requires-clause-owner : goal.swap_in-old-requires-clause-owner
 swap_in-old-requires-clause-owner c =
     let fills = rw c.make_room.ensures.kept at c.take_filling-next.ensures.filled in
-    rw fills.holding (put-home c.stage.inside.hand c.stage.invariant c.args.owner)
+    rw fills.holding (named-home c.stage.inside.hand c.stage.invariant c.args.owner)
 
 pub give_filling-name-requires : goal.give_filling-name-requires
 give_filling-name-requires c =
@@ -42,11 +24,10 @@ swapped : (c : goal.After-give_filling-name) → Does (desk_of c.stage.inside.ha
     (reply.Swapped c.give_filling-name.result c.swap_in-old.result.1)
     (record c.stage.inside.hand { world = c.swap_in-old.new.world; owners = c.give_filling-name.new.owners })
 swapped c =
-    let h = c.stage.inside.hand in
     let out = c.swap_in-old.ensures.swapped in
     let fits = rw c.ownership.ensures at c.if-not-fits.ensures in
     let fills = rw (c.make_room.ensures.kept, c.ownership-2.ensures) at c.take_filling-next.ensures.filled in
-    acts-swapped h c.stage.invariant c.is_whole.ensures c.args.name _ (got h.places c.args.name.0 _ c.in-Some.ensures) c.args.cell c.in-Some-get.holder.now
+    acts-swapped c.args.name (here c.args.name.0 c.stage.invariant c.is_whole.ensures c.in-Some.ensures) c.args.cell c.in-Some-get.holder.now
     out.0 (sym c.in-Some-get.ensures) out.1 c.args.owner c.args.tag (fits.0 refl) _ c.give_filling-name.new.owners.entries _ c.take_filling-next.result _
     c.give_filling-name.result fills out.3 c.give_filling-name.ensures out.4 c.swap_in-old.result.1 out.2
 

@@ -1,19 +1,18 @@
-use Rattle.sdd_script.proofs.GuardActs.{acts-accelerated}
+use Rattle.sdd_script.proofs.Words.{refl, At, desk_of, Does, leaves, place-is, sits, under}
 use Rattle.sdd_script_text.specs.declared.call.Action.TheVariants as call
-use Rattle.sdd_script.proofs.Words.{desk_of, invalid}
+use Rattle.sdd_script_text.specs.declared.answer.Reply.TheVariants as reply
+use Rattle.sdd_script_model.proofs.Going.{accelerated-leaves}
 use Rattle.sdd_script.proofs.commands.guards.accelerate.Goals as goal
 
+accelerated : (c : goal.After-accelerate_at) → Does (desk_of c.stage.inside.hand) (At c.args.name (call.Accelerate c.args.guard)) reply.Done
+    (record c.stage.inside.hand { world = c.accelerate_at.new.world })
+accelerated c =
+    let at = under c.args.name.0 c.stage.invariant c.is_whole.ensures c.in-Some.ensures.found.0 in
+    leaves at refl (simp c.accelerate_at.ensures) (accelerated-leaves (desk_of c.stage.inside.hand) at.tied.sound at.whole _ (sits at))
+    (c.in-Some.ensures.valid, rw (place-is at) refl)
+
 pub invariant_of-stage : goal.invariant_of-stage
-invariant_of-stage c = (acts-accelerated _ c.stage.invariant c.is_whole.ensures c.args.name _ c.in-Some.ensures.found.0 c.args.guard _ c.in-Some.ensures.valid
-    c.accelerate_at.ensures).0
+invariant_of-stage c = (accelerated c).0
 
 pub returns : goal.returns
-returns c = record {
-  acts = rw (← c.stage.view_is) (acts-accelerated _ c.stage.invariant c.is_whole.ensures c.args.name _
-      c.in-Some.ensures.found.0 c.args.guard _ c.in-Some.ensures.valid c.accelerate_at.ensures).1;
-}
-
-pub returns-in_default : goal.returns-in_default
-returns-in_default c = record {
-  acts = rw (← c.stage.view_is) (invalid (desk_of c.stage.inside.hand) c.args.name (call.Accelerate c.args.guard) c.in_default.ensures.valid);
-}
+returns c = record { acts = rw (← c.stage.view_is) (accelerated c).1 }

@@ -1,23 +1,6 @@
-use Rattle.sdd_script.proofs.Words.{◌≡◌, ap, ◌∙◌, slice_index_or, told_of, body_of, stays-here, invalid, points, points-not, value-named, name-given}
+use Rattle.sdd_script.proofs.Words.{◌≡◌, ap, ◌∙◌, slice_index_or, told_of, body_of, stays-here, points, under}
 use Rattle.sdd_script.proofs.ItemActs.{acts-looked}
 use Rattle.sdd_script.proofs.commands.items.look.Goals as goal
-
-pub returns-in_default : goal.returns-in_default
-returns-in_default c = record {
-  acts = rw (← c.stage.view_is) (invalid _ _ _ (λ valid. c.in_default.ensures.valid valid.0));
-}
-
-pub slot_since-requires-clause-inside : goal.slot_since-requires-clause-inside
-slot_since-requires-clause-inside c s some =
-    rw (c.as_slice-slots.ensures.value, c.as_slice-names.ensures.value) (name-given _ c.stage.invariant.sound.stocked s some)
-
-pub returns-in_default-slot_since : goal.returns-in_default-slot_since
-returns-in_default-slot_since c =
-    let cannot = rw (c.as_slice-slots.ensures.value, c.as_slice-names.ensures.value, c.as_slice-dates.ensures.value) at c.in_default-slot_since.ensures in
-    record {
-      acts = rw (← c.stage.view_is)
-          (invalid _ _ _ (λ valid. points-not c.stage.inside.hand c.args.name.0 _ c.in-Some.ensures.found.0 c.args.item.0 cannot valid.1));
-    }
 
 pub value_shown-requires-clause-stays : goal.value_shown-requires-clause-stays
 value_shown-requires-clause-stays c =
@@ -26,9 +9,6 @@ value_shown-requires-clause-stays c =
     let slot = c.in-Some-slot_since.ensures.1 ∙ ap (λ slots. slice_index_or slots c.args.item.0 0) c.as_slice-slots.ensures.value in
     rw slot (stays-here _ c.stage.invariant c.is_whole.ensures c.args.name _ found.0 c.args.guard.0 c.args.item.0 _ found.1 found.2
     (points c.stage.inside.hand c.args.name.0 _ found.0 c.args.item.0 can))
-
-pub told-requires : goal.told-requires
-told-requires c = rw c.as_slice-names.ensures.value (value-named c.stage.inside.hand c.stage.invariant _ _ c.value_shown.ensures.shown)
 
 pub returns : goal.returns
 returns c =
@@ -39,6 +19,7 @@ returns c =
     let told : c.told.result ≡ told_of c.stage.inside.hand.names.items (body_of c.value_shown.result.now) =
     rw c.as_slice-names.ensures.value at c.told.ensures in
     record {
-      acts = rw (← c.stage.view_is, c.value_shown.ensures.world, told) (acts-looked _ c.stage.invariant c.is_whole.ensures c.args.name _ found.0
+      acts = rw (← c.stage.view_is, c.value_shown.ensures.world, told) (acts-looked c.args.name
+          (under c.args.name.0 c.stage.invariant c.is_whole.ensures found.0)
           c.args.item c.args.guard _ c.in-Some.ensures.valid (points c.stage.inside.hand c.args.name.0 _ found.0 c.args.item.0 can) shown);
     }

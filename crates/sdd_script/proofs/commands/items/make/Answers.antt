@@ -1,28 +1,16 @@
-use Rattle.sdd_script.proofs.Words.{◌≡◌, ℕ, Some, refl, length, slice_set, sym, ap, ◌∙◌, rules, with_item, false≢true, slot_of, At, Environment, Acts, IsThereToPut, desk_of, IsTied, making, got, invalid, nobody}
+use Rattle.sdd_script.proofs.Words.{◌≡◌, ℕ, Some, length, slice_set, sym, ap, ◌∙◌, rules, with_item, false≢true, still, slot_of, At, Environment, Acts, desk_of, IsTied, making, here}
 use Rattle.sdd_script_text.specs.declared.answer.Reply.TheVariants as reply
-use Rattle.sdd_script.proofs.ItemActs.{acts-refused, acts-made}
-use Rattle.sdd_script.proofs.Making.{first-slot, becomes-long, none-to-put, valid-making, there-to-put, body-home}
+use Rattle.sdd_script.proofs.ItemActs.{acts-made, refused-meets}
+use Rattle.sdd_script.proofs.Making.{becomes-long, body-home, first-slot, there-to-put}
 use Rattle.sdd_script.proofs.commands.items.make.Goals as goal
-
-pub returns-in_default : goal.returns-in_default
-returns-in_default c = record {
-  acts = rw (← c.stage.view_is) (nobody c.stage.inside.hand c.args.name _ c.in_default.ensures
-      (λ valid. (valid-making (desk_of c.stage.inside.hand) c.args.name.0 c.args.ownership c.args.value valid).0));
-}
-
-pub returns-then-is_missing : goal.returns-then-is_missing
-returns-then-is_missing c = record {
-  acts = rw (← c.stage.view_is) (invalid _ _ _ (λ valid. none-to-put c.stage.inside.hand c.args.value (c.if-is_missing.ensures.0 refl)
-      (valid-making (desk_of c.stage.inside.hand) c.args.name.0 c.args.ownership c.args.value valid).1));
-}
 
 pub returns-in-Some-refuses_item : goal.returns-in-Some-refuses_item
 returns-in-Some-refuses_item c =
-    let put : IsThereToPut (desk_of c.stage.inside.hand) c.args.value =
-    there-to-put c.stage.inside.hand c.args.value (λ missing. false≢true (c.if-is_missing.ensures.1 missing)) in
+    let h = c.stage.inside.hand in
+    let put = there-to-put h c.args.value (λ missing. false≢true (c.if-is_missing.ensures.1 missing)) in
     record {
-      acts = rw (← c.stage.view_is, c.make_room.ensures.kept, c.reserve.ensures.items) (acts-refused _ c.stage.invariant c.is_whole.ensures c.args.name _
-          (got c.stage.inside.hand.places c.args.name.0 _ c.in-Some.ensures) c.args.ownership c.args.value _ put c.in-Some-refuses_item.ensures);
+      acts = rw (← c.stage.view_is, c.make_room.ensures.kept, c.reserve.ensures.items) (still (desk_of h) _ _ (refused-meets c.args.name
+          (here c.args.name.0 c.stage.invariant c.is_whole.ensures c.in-Some.ensures) c.args.ownership c.args.value _ put c.in-Some-refuses_item.ensures));
     }
 
 pub make_item-owner-requires-clause-home : goal.make_item-owner-requires-clause-home
@@ -49,9 +37,9 @@ made c =
     let next : c.len-item.result ≡ length c.stage.inside.hand.slots.items = search rules in
     let slot : c.slot-slot.result ≡ m.0 = sym (first-slot c.args.ownership m.0 _ _ (ap (λ x. slot_of (Some x)) (sym m.3) ∙ c.slot-slot.ensures)) in
     let long = becomes-long _ _ c.args.value _ c.in-Some-body_from.ensures.becomes in
-    acts-made _ c.stage.invariant c.is_whole.ensures c.args.name _ (got c.stage.inside.hand.places c.args.name.0 _ c.in-Some.ensures)
-    c.args.ownership c.args.value
-    m.0 m.1 m.2 _ c.body_from.new.owners.entries _ _ _ _ c.in-Some-body_from.body _ _ (rw c.make_room.ensures.kept at c.in-Some-body_from.ensures.becomes)
+    acts-made c.args.name (here c.args.name.0 c.stage.invariant c.is_whole.ensures c.in-Some.ensures) c.args.value
+    m.0 m.1 m.2 c.args.ownership _ c.body_from.new.owners.entries _ _ _ _ c.in-Some-body_from.body _ _
+    (rw c.make_room.ensures.kept at c.in-Some-body_from.ensures.becomes)
     m.6 m.4 m.5 m.7 m.8 m.9 m.3 c.give-name.ensures.given (rw (c.reserve.ensures.items, slot) at c.push_reserved.ensures.items)
     (ap (λ (n : ℕ). slice_set c.stage.inside.hand.names.items c.slot-slot.result (Some n)) next
     ∙ ap (λ k. slice_set c.stage.inside.hand.names.items k (Some (length c.stage.inside.hand.slots.items))) slot)

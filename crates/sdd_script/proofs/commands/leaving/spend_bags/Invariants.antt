@@ -1,10 +1,9 @@
-use Rattle.sdd_script.proofs.Words.{◌≡◌, length, IsSpentTo}
+use Rattle.sdd_script.proofs.Words.{index_of}
+use Rattle.sdd_script.specs.Leaving.{GoesOn}
+use Rattle.sdd_script.proofs.Ending.{Spends}
 use Rattle.sdd_script.proofs.commands.leaving.spend_bags.Given as goal
 
 abbrev pub invariant-loop-bag : goal.invariant-loop-bag
-invariant-loop-bag l = record {
-  spent : IsSpentTo l.bag (length l.initial.stage.bags) l.stage.bags;
-  guards : l.stage.guards ≡ l.initial.stage.guards;
-  made : l.stage.world.tally.made ≡ l.initial.stage.world.tally.made;
-  in_place : l.stage.world.tally.in_place ≡ l.initial.stage.world.tally.in_place;
-}
+invariant-loop-bag l =
+    Spends (λ old new. GoesOn old new (index_of l.place)) (λ h. h.bags.entries.items)
+    (λ old new. record old { world = new.world; bags = new.bags }) l.initial.hand l.hand l.bag

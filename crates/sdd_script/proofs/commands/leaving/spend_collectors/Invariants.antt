@@ -1,11 +1,9 @@
-use Rattle.sdd_script.proofs.Words.{◌≡◌, length, IsSpentTo}
+use Rattle.sdd_script.proofs.Words.{desk_of, IsSound}
+use Rattle.sdd_script.specs.Leaving.{KeepsTold}
+use Rattle.sdd_script.proofs.Ending.{Spends}
 use Rattle.sdd_script.proofs.commands.leaving.spend_collectors.Given as goal
 
 abbrev pub invariant-loop-collector : goal.invariant-loop-collector
-invariant-loop-collector l = record {
-  spent : IsSpentTo l.collector (length l.initial.stage.collectors) l.stage.collectors;
-  guards : l.stage.guards ≡ l.initial.stage.guards;
-  bags : l.stage.bags ≡ l.initial.stage.bags;
-  owners : l.stage.owners ≡ l.initial.stage.owners;
-  tally : l.stage.world.tally ≡ l.initial.stage.world.tally;
-}
+invariant-loop-collector l =
+    Spends (λ old new. IsSound (desk_of new) × KeepsTold old.world new.world) (λ h. h.collectors.entries.items)
+    (λ old new. record old { world = new.world; collectors = new.collectors }) l.initial.hand l.hand l.collector

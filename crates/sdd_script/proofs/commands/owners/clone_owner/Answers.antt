@@ -1,46 +1,39 @@
-use Rattle.sdd_script.proofs.Words.{length, sym, ap, ◌∙◌, got, owner-home, invalid, no-shared, nobody}
-use Rattle.sdd_script.proofs.OwnerActs.{acts-cloned}
-use Rattle.sdd_script.proofs.Unshared.{full-cloned}
+use Rattle.sdd_script.proofs.Words.{ap, is_some, refl, map_push, shared_slot, slot_of, At, desk_of, owner_holding, Does, attends, here, leaves, named-as, next, sits, starts, still}
+use Rattle.sdd_script_text.specs.declared.call.Action.TheVariants as call
+use Rattle.sdd_script_text.specs.declared.answer.Reply.TheVariants as reply
+use Rattle.sdd_script_model.proofs.Chains.{owned-apart}
+use Rattle.sdd_script_model.proofs.Going.{shared-leaves}
+use Rattle.sdd_script_model.proofs.InPlaceGoing.{owner-outside}
 use Rattle.sdd_script.proofs.commands.owners.clone_owner.Goals as goal
 
-pub returns-in_default : goal.returns-in_default
-returns-in_default c = record { acts = rw (← c.stage.view_is) (nobody c.stage.inside.hand c.args.name _ c.in_default.ensures (λ valid. valid.0)) }
-
-pub returns-in_default-shared_of : goal.returns-in_default-shared_of
-returns-in_default-shared_of c =
-    let none = rw c.make_room.ensures.kept at c.in_default-shared_of.ensures in
-    record {
-      acts = rw (← c.stage.view_is, c.make_room.ensures.kept) (invalid _ _ _ (λ valid. no-shared c.stage.inside.hand c.args.owner.0 none valid.1));
-    }
-
-pub clone_held-requires-clause-home : goal.clone_held-requires-clause-home
-clone_held-requires-clause-home c =
-    owner-home c.stage.inside.hand c.stage.invariant c.is_whole.ensures c.args.owner.0 _ (rw c.make_room.ensures.kept at c.in-Some-shared_of.ensures)
+cloned : (c : goal.After-give-name) → Does (desk_of c.stage.inside.hand) (At c.args.name (call.Clone c.args.owner))
+    (reply.Owner (record { 0 = c.give-name.result })) (record c.stage.inside.hand { world = c.clone_held.new.world; owners = c.give-name.new.self })
+cloned c =
+    let d = desk_of c.stage.inside.hand in
+    let at = here c.args.name.0 c.stage.invariant c.is_whole.ensures c.in-Some.ensures in
+    let kept = c.make_room.ensures.kept in
+    let owner = c.in-Ok.ensures.owner in
+    let out = c.in-Ok.ensures.shared in
+    let mine = named-as owner_holding c.stage.inside.hand.owners.entries.items c.args.owner.0 (rw kept at c.in-Some-shared_of.ensures) in
+    let its = ap shared_slot mine in
+    leaves at refl (simp (out.2.1, c.give-name.ensures.given, kept, map_push, owner.0, owner.1))
+    (shared-leaves d at.tied.sound at.whole _ _ out.0 (sits at) out.1
+    (owned-apart (starts d at.tied.sound at.whole) _ (owner-outside d c.args.owner.0 _ (ap slot_of mine))))
+    ((attends at, ap is_some its), (_, its, (out.0, out.1, out.2.0, (next owner_holding c.give-name.ensures.name kept, refl))))
 
 pub invariant_of-stage-in-Ok : goal.invariant_of-stage-in-Ok
-invariant_of-stage-in-Ok c =
-    let shared = rw (← c.in-Ok.ensures.owner.0) at c.in-Ok.ensures.shared in
-    (acts-cloned c.stage.inside.hand c.stage.invariant c.is_whole.ensures c.args.name _ (got c.stage.inside.hand.places c.args.name.0 _ c.in-Some.ensures) _
-    c.give-name.new.self.entries c.in-Ok.owner shared.0 (rw c.make_room.ensures.kept at c.give-name.ensures.given) c.in-Ok.ensures.owner.1 shared.1 shared.2.1
-    c.args.owner (record { 0 = c.give-name.result }) c.in-Some-shared_of.held.now (rw c.make_room.ensures.kept at c.in-Some-shared_of.ensures)
-    (sym c.in-Ok.ensures.owner.0) shared.2.0 (c.give-name.ensures.name ∙ ap length c.make_room.ensures.kept)).0
+invariant_of-stage-in-Ok c = (cloned c).0
 
 pub returns-in-Ok : goal.returns-in-Ok
-returns-in-Ok c =
-    let shared = rw (← c.in-Ok.ensures.owner.0) at c.in-Ok.ensures.shared in
-    record {
-      acts = rw (← c.stage.view_is) (acts-cloned c.stage.inside.hand c.stage.invariant c.is_whole.ensures c.args.name _
-          (got c.stage.inside.hand.places c.args.name.0 _ c.in-Some.ensures) _ c.give-name.new.self.entries c.in-Ok.owner shared.0
-          (rw c.make_room.ensures.kept at c.give-name.ensures.given) c.in-Ok.ensures.owner.1 shared.1 shared.2.1
-          c.args.owner (record { 0 = c.give-name.result }) c.in-Some-shared_of.held.now (rw c.make_room.ensures.kept at c.in-Some-shared_of.ensures)
-          (sym c.in-Ok.ensures.owner.0) shared.2.0 (c.give-name.ensures.name ∙ ap length c.make_room.ensures.kept)).1;
-    }
+returns-in-Ok c = record { acts = rw (← c.stage.view_is) (cloned c).1 }
 
 pub returns-in-Err : goal.returns-in-Err
 returns-in-Err c =
-    let shared = c.in-Err.ensures.shared in
+    let at = here c.args.name.0 c.stage.invariant c.is_whole.ensures c.in-Some.ensures in
+    let kept = c.make_room.ensures.kept in
+    let full = c.in-Err.ensures.shared in
+    let its = ap shared_slot (named-as owner_holding c.stage.inside.hand.owners.entries.items c.args.owner.0 (rw kept at c.in-Some-shared_of.ensures)) in
     record {
-      acts = rw (← c.stage.view_is, c.make_room.ensures.kept, shared.2.2) (full-cloned c.stage.inside.hand c.stage.invariant c.is_whole.ensures c.args.name _
-          (got c.stage.inside.hand.places c.args.name.0 _ c.in-Some.ensures) c.args.owner c.in-Some-shared_of.held.now c.in-Err.refused
-          (rw c.make_room.ensures.kept at c.in-Some-shared_of.ensures) shared.2.1 (rw shared.2.0 at shared.1));
+      acts = rw (← c.stage.view_is, kept, full.2.2, full.2.1)
+          (still (desk_of c.stage.inside.hand) _ _ ((attends at, ap is_some its), (_, its, (rw full.2.0 at full.1, refl))));
     }

@@ -1,54 +1,49 @@
-use Rattle.sdd_script.proofs.Words.{slice_set, refl, ap, with_item, got, owner-home, invalid, no-shared, nobody}
-use Rattle.sdd_script.proofs.OwnerActs.{acts-released}
+use Rattle.sdd_script.proofs.Words.{◌≡◌, ℕ, Bool, Option, None, Some, IsTrue, ◌↔◌, if◌then◌else◌, ap, is_some, refl, slice_index_or, slice_set, map-set, with_item, Vec, IsSharedBy, owner_given, World, standing_at, shared_slot, index_of, OwnerName, PlaceName, At, Val, AnyOwner, Share, NamedParticipant, Environment, desk_of, owner_holding, Shared, Does, Here, attends, here, leaves, named-as, place-is, sits}
+use Rattle.sdd_participants.specs.declared.standing.Standing.TheVariants as standing
+use Rattle.sdd_space.specs.Shared as shared
+use Rattle.sdd_script_text.specs.declared.call.Action.TheVariants as call
+use Rattle.sdd_script_text.specs.declared.answer.Reply.TheVariants as reply
+use Rattle.sdd_script_model.proofs.Going.{released-leaves}
 use Rattle.sdd_script.proofs.commands.owners.release.Goals.{then-was_last, else-was_last}
 use Rattle.sdd_script.proofs.commands.owners.release.Goals as goal
 
-pub returns-in_default : goal.returns-in_default
-returns-in_default c = record { acts = rw (← c.stage.view_is) (nobody c.stage.inside.hand c.args.name _ c.in_default.ensures (λ valid. valid.0)) }
-
-pub returns-in_default-take_shared : goal.returns-in_default-take_shared
-returns-in_default-take_shared c = record {
-  acts = rw (← c.stage.view_is, c.in_default-take_shared.ensures.1)
-      (invalid _ _ _ (λ valid. no-shared c.stage.inside.hand c.args.owner.0 c.in_default-take_shared.ensures.0 valid.1));
-}
-
-pub release_owner-was_last-requires-clause-home : goal.release_owner-was_last-requires-clause-home
-release_owner-was_last-requires-clause-home c =
-    owner-home c.stage.inside.hand c.stage.invariant c.is_whole.ensures c.args.owner.0 _ c.in-Some-take_shared.ensures.0
+-- whether it was the last or not
+released : {h : Environment} (name : PlaceName) {a : NamedParticipant} (at : Here h name.0 a) (o : OwnerName) (x : Shared Val) (k : ℕ) (b : Bool)
+    (w : World Val) (owners : Vec (Option AnyOwner)) (dates : Vec ℕ) → slice_index_or h.owners.entries.items o.0 None ≡ Some (Share x) →
+    owners.items ≡ slice_set h.owners.entries.items o.0 None → dates.items ≡ (if b then slice_set h.dates.items k h.moment else h.dates.items) →
+    k ≡ shared.slot_of x → (count : ℕ) × IsSharedBy count (standing_at h.world (shared.slot_of x)) × (IsTrue b ↔ (count ≡ 1))
+    × (w ≡ owner_given h.world (index_of a.place) (shared.slot_of x) (Some (standing.Shared count))) →
+    Does (desk_of h) (At name (call.Release o)) (reply.Truth b) (record h { world = w; owners = record { entries = owners }; dates = dates })
+released {h} name at o x k b w owners dates mine taken dated slot (count, stands, last, world) =
+    let its = ap shared_slot (named-as owner_holding h.owners.entries.items o.0 mine) in
+    leaves at refl (simp (world, taken, dated, slot, map-set))
+    (released-leaves (desk_of h) at.tied.sound at.whole _ (shared.slot_of x) o.0 count b (sits at) its stands last)
+    ((attends at, ap is_some its), rw (place-is at) (shared.slot_of x, count, its, stands, last, refl))
 
 pub invariant_of-stage-then-was_last : goal.invariant_of-stage-then-was_last
 invariant_of-stage-then-was_last c =
     let now = c.stage.inside.hand.moment in
-    let released = c.release_owner-was_last.ensures.released in
-    let there = got c.stage.inside.hand.places c.args.name.0 _ c.in-Some.ensures in
-    (acts-released c.stage.inside.hand c.stage.invariant c.is_whole.ensures c.args.name _ there c.args.owner _
-    c.take_shared.new.owners.entries (with_item c.stage.inside.hand.dates c.slot_of_share-slot.result now) _ c.release_owner-was_last.result _
-    c.in-Some-take_shared.ensures.0 c.in-Some-take_shared.ensures.1
-    (rw c.if-was_last.true (ap (λ k. slice_set c.stage.inside.hand.dates.items k now) c.slot_of_share-slot.ensures)) released.1 released.2 released.3).0
+    (released c.args.name (here c.args.name.0 c.stage.invariant c.is_whole.ensures c.in-Some.ensures) c.args.owner _ _ _ _ c.take_shared.new.owners.entries
+    (with_item c.stage.inside.hand.dates c.slot_of_share-slot.result now) c.in-Some-take_shared.ensures.0 c.in-Some-take_shared.ensures.1
+    (rw c.if-was_last.true refl) c.slot_of_share-slot.ensures c.release_owner-was_last.ensures.released).0
 
 pub invariant_of-stage-else-was_last : goal.invariant_of-stage-else-was_last
 invariant_of-stage-else-was_last c =
-    let released = c.release_owner-was_last.ensures.released in
-    let there = got c.stage.inside.hand.places c.args.name.0 _ c.in-Some.ensures in
-    (acts-released c.stage.inside.hand c.stage.invariant c.is_whole.ensures c.args.name _ there c.args.owner _
-    c.take_shared.new.owners.entries c.stage.inside.hand.dates _ c.release_owner-was_last.result _
-    c.in-Some-take_shared.ensures.0 c.in-Some-take_shared.ensures.1 (rw c.if-was_last.false refl) released.1 released.2 released.3).0
+    (released c.args.name (here c.args.name.0 c.stage.invariant c.is_whole.ensures c.in-Some.ensures) c.args.owner _ _ _ _ c.take_shared.new.owners.entries
+    c.stage.inside.hand.dates c.in-Some-take_shared.ensures.0 c.in-Some-take_shared.ensures.1
+    (rw c.if-was_last.false refl) c.slot_of_share-slot.ensures c.release_owner-was_last.ensures.released).0
 
 pub returns : goal.returns
 returns c =
-    let now = c.stage.inside.hand.moment in
-    let released = c.release_owner-was_last.ensures.released in
+    let at = here c.args.name.0 c.stage.invariant c.is_whole.ensures c.in-Some.ensures in
+    let took = c.in-Some-take_shared.ensures in
     record {
       acts = elim c.if-was_last.branch [
-        | then-was_last w ↦ rw (← c.stage.view_is, w.stage-is) (acts-released c.stage.inside.hand c.stage.invariant c.is_whole.ensures c.args.name _
-            (got c.stage.inside.hand.places c.args.name.0 _ c.in-Some.ensures) c.args.owner _ c.take_shared.new.owners.entries
-            (with_item c.stage.inside.hand.dates c.slot_of_share-slot.result now) _ c.release_owner-was_last.result _
-            c.in-Some-take_shared.ensures.0 c.in-Some-take_shared.ensures.1
-            (rw w.if-was_last.true (ap (λ k. slice_set c.stage.inside.hand.dates.items k now) c.slot_of_share-slot.ensures))
-            released.1 released.2 released.3).1
-        | else-was_last w ↦ rw (← c.stage.view_is, w.stage-is) (acts-released c.stage.inside.hand c.stage.invariant c.is_whole.ensures c.args.name _
-            (got c.stage.inside.hand.places c.args.name.0 _ c.in-Some.ensures) c.args.owner _ c.take_shared.new.owners.entries
-            c.stage.inside.hand.dates _ c.release_owner-was_last.result _
-            c.in-Some-take_shared.ensures.0 c.in-Some-take_shared.ensures.1 (rw w.if-was_last.false refl) released.1 released.2 released.3).1
+        | then-was_last w ↦ rw (← c.stage.view_is, w.stage-is) (released c.args.name at c.args.owner _ _ _ _ c.take_shared.new.owners.entries
+            (with_item c.stage.inside.hand.dates c.slot_of_share-slot.result c.stage.inside.hand.moment) took.0 took.1 (rw w.if-was_last.true refl)
+            c.slot_of_share-slot.ensures c.release_owner-was_last.ensures.released).1
+        | else-was_last w ↦ rw (← c.stage.view_is, w.stage-is) (released c.args.name at c.args.owner _ _ _ _ c.take_shared.new.owners.entries
+            c.stage.inside.hand.dates took.0 took.1 (rw w.if-was_last.false refl) c.slot_of_share-slot.ensures
+            c.release_owner-was_last.ensures.released).1
       ];
     }

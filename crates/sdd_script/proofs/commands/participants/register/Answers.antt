@@ -1,25 +1,16 @@
-use Rattle.std.proofs.Common.{length, inl, inr, ap, ◌∙◌}
-use Rattle.sdd_script.proofs.GuardActs.{acts-registered, crowded-refused}
+use Rattle.sdd_script.proofs.Words.{length, ap, ◌∙◌, Register, desk_of, Does}
+use Rattle.sdd_script_text.specs.declared.answer.Reply.TheVariants as reply
+use Rattle.sdd_script.proofs.GuardActs.{acts-registered}
 use Rattle.sdd_script.proofs.commands.participants.register.Goals as goal
 
+registered : (c : goal.After-give-name) → Does (desk_of c.stage.inside.hand) Register (reply.Place (record { 0 = c.give-name.result }))
+    (record c.stage.inside.hand { world = c.register.new.self; places = c.give-name.new.self })
+registered c =
+    acts-registered _ c.stage.invariant c.is_whole.ensures c.give-name.new.self.entries _ _ (rw c.make_room.ensures.kept at c.give-name.ensures.given)
+    c.in-Ok.ensures.registered.0 c.in-Ok.ensures.registered.1 _ (c.give-name.ensures.name ∙ ap length c.make_room.ensures.kept)
+
 pub invariant_of-stage-in-Ok : goal.invariant_of-stage-in-Ok
-invariant_of-stage-in-Ok c = (acts-registered _ c.stage.invariant c.is_whole.ensures _ _ _ (rw c.make_room.ensures.kept at c.give-name.ensures.given)
-    c.in-Ok.ensures.registered.0 c.in-Ok.ensures.registered.1 (record { 0 = c.give-name.result })
-    (c.give-name.ensures.name ∙ ap length c.make_room.ensures.kept)).0
+invariant_of-stage-in-Ok c = (registered c).0
 
 pub returns-in-Ok : goal.returns-in-Ok
-returns-in-Ok c = record {
-  acts = rw (← c.stage.view_is) (acts-registered _ c.stage.invariant c.is_whole.ensures c.give-name.new.self.entries _ _
-      (rw c.make_room.ensures.kept at c.give-name.ensures.given) c.in-Ok.ensures.registered.0 c.in-Ok.ensures.registered.1 _
-      (c.give-name.ensures.name ∙ ap length c.make_room.ensures.kept)).1;
-}
-
-pub returns-in-Err-NoPlace : goal.returns-in-Err-NoPlace
-returns-in-Err-NoPlace c =
-    let refused = c.in-Err-NoPlace.ensures.registered in
-    record {
-      acts = rw (refused.1, c.make_room.ensures.kept, ← c.stage.view_is) (crowded-refused c.stage.inside.hand (elim refused.0 [
-        | inl a ↦ a.1
-        | inr b ↦ absurd (cc)
-      ]));
-    }
+returns-in-Ok c = record { acts = rw (← c.stage.view_is) (registered c).1 }

@@ -1,0 +1,29 @@
+use Rattle.sdd_script.proofs.Words.{refl}
+use Rattle.sdd_script.proofs.ContainerEnding.{ends-stack, stack-home}
+use Rattle.sdd_script.proofs.Ending.{goes-same, goes-start, goes-then, live-in, reader-still, spends-next, spends-none, still-spent}
+use Rattle.sdd_script.proofs.commands.leaving.spend_stacks.Goals as goal
+
+pub loop-stack-init : goal.loop-stack-init
+loop-stack-init c = spends-none (goes-start _ _ c.requires.ending) refl
+
+pub close_at-requires-clause-place : goal.close_at-requires-clause-place
+close_at-requires-clause-place c = live-in c.loop-stack.hand _ c.loop-stack.invariant.goes.ending
+
+pub close_at-requires-clause-stack : goal.close_at-requires-clause-stack
+close_at-requires-clause-stack c = stack-home c.loop-stack.hand _ c.loop-stack.invariant.goes.ending c.loop-stack.stack _ c.in-Some.ensures.taken
+
+pub close_at-requires-clause-reader : goal.close_at-requires-clause-reader
+close_at-requires-clause-reader c = reader-still c.loop-stack.invariant.goes _ c.requires.reader
+
+pub loop-stack-preserved-in_default : goal.loop-stack-preserved-in_default
+loop-stack-preserved-in_default c =
+    let was = c.loop-stack.invariant in
+    let now = c.in_default.ensures in
+    spends-next (λ u v. refl) was (record c.loop-stack.hand { stacks = c.take.new.self })
+    (goes-then was.goes (goes-same c.loop-stack.hand _ was.goes.ending _ (rw (still-spent _ _ _ now.spent now.taken) refl))) now.spent refl
+
+pub loop-stack-preserved : goal.loop-stack-preserved
+loop-stack-preserved c =
+    let now = c.in-Some.ensures in
+    let gone = ends-stack c.loop-stack.hand _ c.loop-stack.invariant.goes.ending c.is_whole.ensures _ _ _ now.taken _ now.spent c.close_at.ensures.closed in
+    spends-next (λ u v. refl) c.loop-stack.invariant _ (goes-then c.loop-stack.invariant.goes gone) now.spent refl
