@@ -6,13 +6,12 @@ ghost use Rattle.sdd_space.specs.Guard.{reader_of};
 ghost use Rattle.sdd_space.specs.CallerId.{reader_at};
 ghost use Rattle.sdd_space.specs.Ptr.{slot_named, shown_by};
 ghost use Rattle.sdd_space.specs.UnderGuards.{CannotGo};
-ghost use Rattle.sdd_space.specs.Owned.{slot_of, slots_home, cell_of, cells_home};
 ghost use Rattle.sdd_space.specs.Shared as shared;
 ghost use Rattle.sdd_rights.specs.SharedRights as shares;
 ghost use Rattle.sdd_standings.specs.Slots.{IsSharedBy};
 ghost use Rattle.sdd_participants.specs.Slab.{IsFull, entry_at};
 ghost use Rattle.sdd_participants.specs.declared.standing.Standing.TheVariants as standing;
-ghost use Rattle.sdd_space.specs.WorldChanges.{reclaims, retired, owner_given, cell_closed, held_in, without_cell, with_standing};
+ghost use Rattle.sdd_space.specs.WorldChanges.{reclaims, held_in, without_cell, with_standing};
 ghost use Rattle.sdd_space.specs.Out.{IsNullCell};
 ghost use Rattle.sdd_space.specs.Collector as collectors;
 ghost use Rattle.sdd_world.specs.Place.{index_of};
@@ -20,12 +19,12 @@ ghost use Rattle.sdd_world.specs.Place.{index_of};
 use crate::world::{Place, World};
 use sdd_core::{Refused, SlotName};
 use sdd_participants::{Job, LimboEntry, Standing};
-use sdd_rights::{SharedRights, StandingKind};
+use sdd_rights::SharedRights;
 use sdd_space::inner::{
     ptr_to, right_in_shared, right_of_cell, right_of_collector, right_of_owner, right_of_shared,
     right_of_shared_cell, shared_of,
 };
-use sdd_space::{AtomicOwned, AtomicShared, Guard, Item, Owned, PrivateCollector, Ptr, Shared};
+use sdd_space::{Guard, Item, PrivateCollector, Ptr, Shared};
 
 /// The items that the next opening of a participant reclaims, and the jobs that it runs.
 pub fn reclaims_next<'w, T: Item<T>, J: Job>(
@@ -98,54 +97,6 @@ pub fn is_in_cell<T: Item<T>, J: Job>(world: &World<T, J>, slot: u32) -> bool
     ensures { IsTrue result ↔ ((c : ℕ) × (held_in (entry_at world.now.cells c) ≡ Some slot)) }
 {
     world.core.is_held(slot)
-}
-
-/// The owner's item waits at some place that isn't free: with a participant, or where one left it that has ended.
-pub fn leave<T: Item<T>, J: Job>(world: &mut World<T, J>, owner: Owned<T>)
-    requires some { (p : ℕ) × IsSome (phase_at world.old.time p) }
-    requires home { slots_home owner ≡ world.old.home.slots }
-    ensures owned { standing_at world.old (slot_of owner) ≡ Some standing.Owned }
-    ensures left { (p : ℕ) × IsSome (phase_at world.old.time p) × (world.new ≡ retired world.old p (slot_of owner)) }
-{
-    world.leave(right_of_owner(owner), StandingKind::Owned);
-}
-
-/// The shared owner goes: if it was the last, its item waits at some place that isn't free.
-pub fn leave_shared<T: Item<T>, J: Job>(world: &mut World<T, J>, owner: Shared<T>)
-    requires some { (p : ℕ) × IsSome (phase_at world.old.time p) }
-    requires home { shared.slots_home owner ≡ world.old.home.slots }
-    ensures shared { (owners : ℕ) × IsSharedBy owners (standing_at world.old (shared.slot_of owner)) }
-    ensures left { (p : ℕ) × IsSome (phase_at world.old.time p)
-        × (world.new ≡ owner_given world.old p (shared.slot_of owner) (standing_at world.old (shared.slot_of owner))) }
-{
-    world.leave(right_of_shared(owner), StandingKind::Shared);
-}
-
-/// The item in a slot that is out as raw waits at some place that isn't free.
-pub fn leave_raw<T: Item<T>, J: Job>(world: &mut World<T, J>, slot: u32)
-    requires some { (p : ℕ) × IsSome (phase_at world.old.time p) }
-    requires raw { standing_at world.old slot ≡ Some standing.Raw }
-    ensures left { (p : ℕ) × IsSome (phase_at world.old.time p) × (world.new ≡ retired world.old p slot) }
-{
-    world.leave_raw(slot);
-}
-
-/// The cell is free, and some place that isn't free is given the item that it held.
-pub fn leave_cell<T: Item<T>, J: Job>(world: &mut World<T, J>, cell: AtomicOwned<T>)
-    requires some { (p : ℕ) × IsSome (phase_at world.old.time p) }
-    requires home { cells_home cell ≡ world.old.home.cells }
-    ensures { (p : ℕ) × IsSome (phase_at world.old.time p) × (world.new ≡ cell_closed world.old p (cell_of cell)) }
-{
-    world.leave_cell(right_of_cell(cell), StandingKind::Owned);
-}
-
-/// The cell is free, and some place that isn't free is given the shared owner that it held.
-pub fn leave_shared_cell<T: Item<T>, J: Job>(world: &mut World<T, J>, cell: AtomicShared<T>)
-    requires some { (p : ℕ) × IsSome (phase_at world.old.time p) }
-    requires home { shared.cells_home cell ≡ world.old.home.cells }
-    ensures { (p : ℕ) × IsSome (phase_at world.old.time p) × (world.new ≡ cell_closed world.old p (shared.cell_of cell)) }
-{
-    world.leave_cell(right_of_shared_cell(cell), StandingKind::Shared);
 }
 
 /// The place of a participant, or of one that has ended: there is one again then, with what waits there.

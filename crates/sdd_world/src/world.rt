@@ -1,6 +1,5 @@
 ghost use Rattle.std.specs.Prelude.{◌≡◌, ◌≢◌, ℕ, ◌+◌, ◌<◌, ◌≤◌, ◌⊎◌, [], false, map, length, Some, None, Option, IfOk, IfSome, MatchOption, MatchResult, IsSome, IsTrue, ◌↔◌};
-ghost use Rattle.sdd_rights.specs.Right.{number_of, home_of, kind_of, raw_number_of, raw_home_of};
-ghost use Rattle.sdd_standings.specs.Slots.{IsOwnedBy};
+ghost use Rattle.sdd_rights.specs.Right.{raw_number_of, raw_home_of};
 ghost use Rattle.sdd_participants.specs.EpochState.{CanNest, phase_at, revived, IsVacant, IsCrowded, is_open, due_next};
 ghost use Rattle.sdd_participants.specs.Slab.{IsEmptyAt, IsFull};
 ghost use Rattle.sdd_space.specs.OwnerOrCell.{AreOf};
@@ -10,14 +9,14 @@ ghost use Rattle.sdd_space.specs.CallerId.{reader_at};
 ghost use Rattle.sdd_space.specs.UnderGuards.{CannotGo};
 ghost use Rattle.sdd_space.specs.Out.{IsNullCell, out};
 ghost use Rattle.sdd_core.specs.Limits.{AreInRange};
-ghost use Rattle.sdd_space.specs.WorldChanges.{made, retired, owner_given, nulled, cell_closed, without_cell, opened, changed, closed, stirred, accelerated, registered, ended, reclaims};
+ghost use Rattle.sdd_space.specs.WorldChanges.{made, nulled, without_cell, opened, changed, closed, stirred, accelerated, registered, ended, reclaims};
 
 mod closing;
 mod laws;
 
 use sdd_core::{Limits, Refused};
 use sdd_participants::{EpochState, Idle, Job, LimboEntry, Standing, Tally};
-use sdd_rights::{RawRight, Right, StandingKind};
+use sdd_rights::RawRight;
 use sdd_space::{Guard, Item, inner};
 use sdd_world_core::WorldCore;
 use std::alloc::Global;
@@ -159,37 +158,6 @@ impl<T: Item<T>, J: Job> World<T, J> {
         ensures { result ≡ self.now.tally }
     {
         self.core.tally()
-    }
-
-    /// The item of an owner of this kind waits at some place that isn't free, if it was the last.
-    pub(crate) fn leave(&mut self, right: Right, kind: StandingKind)
-        requires some { (p : ℕ) × IsSome (phase_at self.old.time p) }
-        requires home { home_of right ≡ self.old.home.slots }
-        requires kind { kind_of right ≡ kind }
-        ensures owned { IsOwnedBy (kind_of right) (standing_at self.old (number_of right)) }
-        ensures left { (p : ℕ) × IsSome (phase_at self.old.time p)
-            × (self.new ≡ owner_given self.old p (number_of right) (standing_at self.old (number_of right))) }
-    {
-        self.core.leave(right, kind);
-    }
-
-    /// The item in a slot that is out as raw waits at some place that isn't free.
-    pub(crate) fn leave_raw(&mut self, slot: u32)
-        requires some { (p : ℕ) × IsSome (phase_at self.old.time p) }
-        requires raw { standing_at self.old slot ≡ Some Standing.Raw }
-        ensures left { (p : ℕ) × IsSome (phase_at self.old.time p) × (self.new ≡ retired self.old p slot) }
-    {
-        self.core.leave_raw(slot);
-    }
-
-    /// A cell for owners of this kind is free, and some place that isn't free is given what it held.
-    pub(crate) fn leave_cell(&mut self, cell: Right, kind: StandingKind)
-        requires some { (p : ℕ) × IsSome (phase_at self.old.time p) }
-        requires home { home_of cell ≡ self.old.home.cells }
-        requires kind { kind_of cell ≡ kind }
-        ensures left { (p : ℕ) × IsSome (phase_at self.old.time p) × (self.new ≡ cell_closed self.old p (number_of cell)) }
-    {
-        self.core.leave_cell(cell, kind);
     }
 
     /// A collector's cell is free. What waits for the collector waits on.

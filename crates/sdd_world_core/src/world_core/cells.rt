@@ -234,21 +234,4 @@ impl<T: Item<T>, J: Job> WorldCore<T, J> {
             let _ = self.release(place, right, kind);
         }
     }
-
-    /// A cell for owners of this kind is free, and some place that isn't free is given what it held.
-    pub fn leave_cell(&mut self, cell: Right, kind: StandingKind)
-        requires some { (p : ℕ) × IsSome (time.phase_at self.old.world.time p) }
-        requires home { home_of cell ≡ self.old.world.home.cells }
-        requires kind { kind_of cell ≡ kind }
-        ensures left { (p : ℕ) × IsSome (time.phase_at self.old.world.time p)
-            × (self.new ≡ record self.old { world = cell_closed self.old.world p (number_of cell) }) }
-        ensures sizes { KeepsSizes self.old.world self.new.world }
-        ensures whole { IsWhole self.old.world → IsWhole self.new.world }
-        ensures lent { IsWhole self.old.world → AreLent self.old → AreLent self.new }
-    {
-        let Some(place) = self.time.some_taken() else {
-            unreachable!()
-        };
-        self.close_cell(place, cell, kind);
-    }
 }

@@ -2,11 +2,11 @@
 ghost use Rattle.std.specs.Prelude.{◌≡◌, ◌≢◌, ℕ, ◌+◌, ◌^◌, ◌<◌, ◌≤◌, if◌then◌else◌, Some, None, IsSome, MatchOption, MatchResult, IfOk, IfSome, IsTrue, ◌↔◌};
 ghost use Rattle.sdd_rights.specs.Right.{number_of, home_of, kind_of};
 ghost use Rattle.sdd_rights.specs.SharedRights as shares;
-ghost use Rattle.sdd_standings.specs.Slots.{IsOwnedBy, IsSharedBy, released_standing, owners_of};
+ghost use Rattle.sdd_standings.specs.Slots.{IsSharedBy, released_standing, owners_of};
 ghost use Rattle.sdd_participants.specs.EpochState as time;
 ghost use Rattle.sdd_space.specs.Releases.{Releases};
 ghost use Rattle.sdd_space.specs.World.{KeepsSizes, standing_at, HasPlace};
-ghost use Rattle.sdd_space.specs.WorldChanges.{with_standing, retired, owner_given};
+ghost use Rattle.sdd_space.specs.WorldChanges.{with_standing, retired};
 ghost use Rattle.sdd_space.specs.WorldInvariant.{IsWhole};
 ghost use Rattle.sdd_world_core.specs.Lending.{AreLent};
 
@@ -130,26 +130,6 @@ impl<T: Item<T>, J: Job> WorldCore<T, J> {
         true
     }
 
-    /// The item of an owner of this kind waits at some place that isn't free, if it was the last.
-    pub fn leave(&mut self, right: Right, kind: StandingKind)
-        requires some { (p : ℕ) × IsSome (time.phase_at self.old.world.time p) }
-        requires home { home_of right ≡ self.old.world.home.slots }
-        requires kind { kind_of right ≡ kind }
-        ensures owned { IsOwnedBy (kind_of right) (standing_at self.old.world (number_of right)) }
-        ensures left { (p : ℕ) × IsSome (time.phase_at self.old.world.time p)
-            × (self.new ≡ record self.old {
-              world = owner_given self.old.world p (number_of right) (standing_at self.old.world (number_of right));
-            }) }
-        ensures sizes { KeepsSizes self.old.world self.new.world }
-        ensures whole { IsWhole self.old.world → IsWhole self.new.world }
-        ensures lent { AreLent self.old → AreLent self.new }
-    {
-        let Some(place) = self.time.some_taken() else {
-            unreachable!()
-        };
-        let _ = self.release(place, right, kind);
-    }
-
     /// The item of the one owner is out as raw.
     pub fn into_raw(&mut self, right: Right) -> u32
         requires home { home_of right ≡ self.old.world.home.slots }
@@ -176,21 +156,5 @@ impl<T: Item<T>, J: Job> WorldCore<T, J> {
         ensures lent { IsWhole self.old.world → AreLent self.old → AreLent self.new }
     {
         self.slots.from_raw(slot)
-    }
-
-    /// The item in a slot that is out as raw waits at some place that isn't free.
-    pub fn leave_raw(&mut self, slot: u32)
-        requires some { (p : ℕ) × IsSome (time.phase_at self.old.world.time p) }
-        requires raw { standing_at self.old.world slot ≡ Some Standing.Raw }
-        ensures left { (p : ℕ) × IsSome (time.phase_at self.old.world.time p)
-            × (self.new ≡ record self.old { world = retired self.old.world p slot }) }
-        ensures sizes { KeepsSizes self.old.world self.new.world }
-        ensures whole { IsWhole self.old.world → IsWhole self.new.world }
-        ensures lent { IsWhole self.old.world → AreLent self.old → AreLent self.new }
-    {
-        let Some(right) = self.from_raw(slot) else {
-            unreachable!()
-        };
-        self.leave(right, StandingKind::Owned);
     }
 }
