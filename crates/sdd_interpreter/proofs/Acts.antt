@@ -1,29 +1,12 @@
 -- What the acts of a script share: what is left in hand is sound, and is what a call means
-use Rattle.sdd_interpreter.proofs.Words.{◌≡◌, ℕ, ◌+◌, [], ◌∷◌, ◌++◌, Option, Some, None, IsSome, map, length, slice_index_or, slice_set, refl, sym, ap, ◌∙◌, subst, arith, IsTrue, option_map, Vec, get_or-map, map-set, map_push, IsSharedBy, Shared, with_standing, World, standing_at, index_of, PlaceName, Val, AnyOwner, Share, NamedParticipant, NamedGuard, Environment, List, length-map, ScriptState, OpenSince, opening_at, holding_at, place_in, since_in, since_of, Acts, IsParticipant, CanPointTo, attending, guarding, owner_holding, cell_holding, collector_holding, newest_holding, oldest_holding, stack_holding, desk_of, IsTied}
-use Rattle.std.proofs.Common.{lt-ltb}
-use Rattle.std.proofs.lemmas.List.{set-get_or, set-set}
-use Rattle.std.specs.Prelude.{replicate}
+use Rattle.sdd_interpreter.proofs.Words.{◌≡◌, ℕ, ◌+◌, [], ◌∷◌, ◌++◌, Option, Some, None, IsSome, map, length, slice_index_or, slice_set, refl, sym, ap, ◌∙◌, subst, arith, IsTrue, option_map, Vec, get_or-map, map-set, map_push, IsSharedBy, with_standing, World, standing_at, index_of, PlaceName, Val, AnyOwner, Share, NamedParticipant, NamedGuard, Environment, List, length-map, ScriptState, OpenSince, opening_at, holding_at, place_in, since_in, since_of, Acts, IsParticipant, CanPointTo, attending, guarding, owner_holding, cell_holding, collector_holding, newest_holding, oldest_holding, stack_holding, desk_of, IsTied, Answers, AreInRange, Call, CannotGo, GuardsIn, HasOpen, IsNew, IsPlaceOf, IsReclaimed, IsRunBy, IsSound, IsStored, IsWhole, Limits, Meets, Reply, deferred, in_world, is_open, lt-ltb, none as no_call, place_of, replicate, set-get_or, set-set, slot_at, with_owner}
+use Rattle.sdd_space.specs.declared.shared.Shared.{Shared}
 use Rattle.sdd_participants.specs.EpochState as time
-use Rattle.sdd_participants.specs.EpochState.{is_open}
 use Rattle.sdd_participants.specs.declared.standing.Standing.TheVariants as standing
 use Rattle.sdd_space.specs.OwnerOrCell as holding
-use Rattle.sdd_space.specs.WorldChanges.{deferred}
-use Rattle.sdd_space.specs.UnderGuards.{CannotGo}
-use Rattle.sdd_space.specs.WorldInvariant.{IsWhole}
-use Rattle.sdd_core.specs.declared.limits.Limits.{Limits}
-use Rattle.sdd_core.specs.Limits.{AreInRange}
-use Rattle.sdd_space.specs.World.{IsNew, IsPlaceOf}
 use Rattle.sdd_space.specs.Shared as shared
-use Rattle.sdd_script_text.specs.declared.call.Call.{Call}
-use Rattle.sdd_script_text.specs.declared.answer.Reply.{Reply}
 use Rattle.sdd_interpreter.specs.declared.name_table.NameTable.{NameTable}
-use Rattle.sdd_script_model.specs.ScriptState.{place_of, slot_at, in_world, with_owner}
-use Rattle.sdd_script_model.specs.Script.{Answers, IsReclaimed, IsRunBy, Meets, HasOpen}
 use Rattle.sdd_script_model.specs.Script as script
-use Rattle.sdd_script_model.specs.Script.AreCalls.{none as no_call}
-use Rattle.sdd_script_model.specs.Bags.{IsStored}
-use Rattle.sdd_script_model.specs.Sound.{IsSound}
-use Rattle.sdd_interpreter.specs.Interpreter.{GuardsIn}
 use Rattle.sdd_script_model.proofs.Dates.{dated-same}
 use Rattle.sdd_script_model.proofs.Chains.{LeavesSound}
 use Rattle.sdd_script_model.proofs.Going.{open-guard, can-point, shared-leaves, sound-start}
@@ -50,15 +33,6 @@ goes {new} same sound guards = record {
   };
   desk = same;
 }
-
--- a call of a participant that leaves this, with the same guards in hand
-pub leads : {new : Environment} {e : ScriptState} (h : Environment) → IsTied h → (call : Call) (given : Reply) →
-    new.guards.entries.items ≡ h.guards.entries.items → desk_of new ≡ e → LeavesSound (desk_of h) e → Meets (desk_of h) call given e →
-    Does (desk_of h) call given new
-leads {new} {e} h t call given same desk left meets =
-    does (desk_of h) call given
-    (goes desk left.sound (λ g. rw (left.home, left.places, same) (t.guards g)))
-    (record { meets = meets; dated = left.dated; line = left.line; calls = left.calls })
 
 -- what a name of a table stands for, as the desk has it
 pub named : {X Y : Type 0} (f : X → Y) (xs : List (Option X)) (n : ℕ) {x : X} → slice_index_or xs n None ≡ Some x →
@@ -89,112 +63,64 @@ still-as h new call given same meets = subst (Acts (desk_of h) call given) (sym 
 abbrev pub place : OpenSince → ℕ
 place x = x.place
 
-module _ (h : Environment) (t : IsTied h) (whole : IsWhole h.world) where
-  abbrev pub d : ScriptState
-  d = desk_of h
-
-  -- what a name of an owner stands for
-  pub named-owner : (o : ℕ) (x : AnyOwner) → slice_index_or h.owners.entries.items o None ≡ Some x → holding_at d.owners o ≡ Some (owner_holding x)
-  named-owner o x e = get_or-map (option_map owner_holding) h.owners.entries.items o None ∙ ap (option_map owner_holding) e
-
-  pub owner-home : (o : ℕ) (x : AnyOwner) → slice_index_or h.owners.entries.items o None ≡ Some x → holding.IsOf h.world.home (owner_holding x)
-  owner-home o x e = t.sound.home.owners o (owner_holding x) (named-owner o x e)
-
-  pub owner-spent : (owners : Vec (Option AnyOwner)) (o : ℕ) → owners.items ≡ slice_set h.owners.entries.items o None →
-      map (option_map owner_holding) owners.items ≡ slice_set d.owners o None
-  owner-spent owners o taken = ap (map (option_map owner_holding)) taken ∙ map-set (option_map owner_holding) h.owners.entries.items o None
-
-  pub owner-more : (owners : Vec (Option AnyOwner)) (x : AnyOwner) → owners.items ≡ h.owners.entries.items ++ Some x ∷ [] →
-      map (option_map owner_holding) owners.items ≡ d.owners ++ Some (owner_holding x) ∷ []
-  owner-more owners x pushed =
-      ap (map (option_map owner_holding)) pushed ∙ map_push (option_map owner_holding) h.owners.entries.items (Some x)
-
-  -- ---- what a participant does
-  module _ (name : PlaceName) (a : NamedParticipant) (there : attending (Some a) ≡ opening_at d.places name.0) where
-    abbrev pub n : ℕ
-    n = name.0
-
-    abbrev pub p : ℕ
-    p = index_of a.place
-
-    pub is : place_of d n ≡ p
-    is = ap place_in (sym there)
-
-    pub is-there : IsParticipant d n
-    is-there = subst (λ x. IsSome x) there refl
-
-    pub in_range : IsPlaceOf h.world p
-    in_range = t.sound.attended.inside n (record { place = p; since = a.since }) (sym there)
-
-    -- the guard of that name is the participant's
-    pub guard-is : (g : ℕ) (held : NamedGuard) → HasOpen d n g → slice_index_or h.guards.entries.items g None ≡ Some held → held.place ≡ p
-    guard-is g held valid here =
-        subst (script.IsOf (place_of d n)) (get_or-map guarding h.guards.entries.items g None ∙ ap guarding here) valid.1 ∙ is
-
-    -- a guard of p is open
-    pub open-here : (g : ℕ) (held : NamedGuard) → slice_index_or h.guards.entries.items g None ≡ Some held → held.place ≡ p →
-        IsTrue (is_open (time.place_at h.world.time p))
-    open-here g held here own =
-        lt-ltb 0 (time.place_at h.world.time p).guards (rw (sym own) (open-guard d t.sound g
-        (record { place = held.place; since = held.since }) (get_or-map guarding h.guards.entries.items g None ∙ ap guarding here)))
-
-    -- one owner more of the item in slot k
-    module _ (w : World Val) (owners : Vec (Option AnyOwner)) (x : Shared Val) (count : ℕ)
-        (pushed : owners.items ≡ h.owners.entries.items ++ Some (Share x) ∷ []) (home : shared.slots_home x ≡ h.world.home.slots)
-        (stands : IsSharedBy count (standing_at h.world (shared.slot_of x)))
-        (world : w ≡ with_standing h.world (shared.slot_of x) (standing.Shared (count + 1))) where
-      abbrev k : ℕ
-      k = shared.slot_of x
-
-      abbrev more : ScriptState
-      more = with_owner (in_world d (with_standing h.world k (standing.Shared (count + 1)))) (holding.shared k h.world.home.slots)
-
-      -- which is no storage of a bag
-      pub adds-owner : (IsStored d.bags h.world k → ⊥) → (call : Call) (given : Reply) → Meets d call given more →
-          Does d call given (record h { world = w; owners = record { entries = owners } })
-      adds-owner off call given meets =
-          let told = owner-more owners (Share x) pushed ∙ ap (λ home. d.owners ++ Some (holding.shared k home) ∷ []) home in
-          leads h t call given refl (cc (world, told)) (shared-leaves d t.sound whole p k count in_range stands off) meets
-
-    -- an item that this participant can point to can't go while its guard is open
-    pub stays-here : (g i : ℕ) (held : NamedGuard) → slice_index_or h.guards.entries.items g None ≡ Some held → held.place ≡ p →
-        CanPointTo d n i → CannotGo h.world p (slot_at d i)
-    stays-here g i held here own can =
-        let since : since_of d n ≡ a.since = ap since_in (sym there) in
-        can-point d t.sound n (slot_at d i) (record { place = p; since = a.since }) (sym there) (open-here g held here own) can.0.taken
-        (λ waits. rw (← since) (can.1 waits))
-
--- what a name stands for, as the desk has it
-pub got : (places : NameTable NamedParticipant) (n : ℕ) (a : NamedParticipant) → Some a ≡ slice_index_or places.entries.items n None →
-    attending (Some a) ≡ slice_index_or (map attending places.entries.items) n None
-got places n a e = ap attending e ∙ sym (get_or-map attending places.entries.items n None)
-
 -- of a hand that is sound, on a whole world, participant n is there
 pub record Here (h : Environment) (n : ℕ) (a : NamedParticipant) : Type 0 where
   pub tied : IsTied h
   pub whole : IsWhole h.world
   pub there : attending (Some a) ≡ opening_at (desk_of h).places n
 
-pub here : {h : Environment} {a : NamedParticipant} (n : ℕ) → IsTied h → IsWhole h.world → Some a ≡ slice_index_or h.places.entries.items n None → Here h n a
-here {h} {a} n t whole e = record { tied = t; whole = whole; there = got h.places n a e }
-
 pub under : {h : Environment} {a : NamedParticipant} (n : ℕ) → IsTied h → IsWhole h.world → attending (Some a) ≡ opening_at (desk_of h).places n → Here h n a
 under n t whole e = record { tied = t; whole = whole; there = e }
 
+-- what a name stands for, as the desk has it
+pub got : (places : NameTable NamedParticipant) (n : ℕ) (a : NamedParticipant) → Some a ≡ slice_index_or places.entries.items n None →
+    attending (Some a) ≡ slice_index_or (map attending places.entries.items) n None
+got places n a e = ap attending e ∙ sym (get_or-map attending places.entries.items n None)
+
+pub here : {h : Environment} {a : NamedParticipant} (n : ℕ) → IsTied h → IsWhole h.world → Some a ≡ slice_index_or h.places.entries.items n None → Here h n a
+here {h} {a} n t whole e = under n t whole (got h.places n a e)
+
 module _ {h : Environment} {n : ℕ} {a : NamedParticipant} (at : Here h n a) where
-  pub place-is : place_of (desk_of h) n ≡ index_of a.place
+  abbrev d : ScriptState
+  d = desk_of h
+
+  abbrev p : ℕ
+  p = index_of a.place
+
+  pub place-is : place_of d n ≡ p
   place-is = ap place_in (sym at.there)
 
-  pub attends : IsParticipant (desk_of h) n
+  pub attends : IsParticipant d n
   attends = subst (λ x. IsSome x) at.there refl
 
-  pub sits : IsPlaceOf h.world (index_of a.place)
-  sits = at.tied.sound.attended.inside n (record { place = index_of a.place; since = a.since }) (sym at.there)
+  pub sits : IsPlaceOf h.world p
+  sits = at.tied.sound.attended.inside n (record { place = p; since = a.since }) (sym at.there)
 
   -- a call of the participant that leaves this, with the same guards in hand
   pub leaves : {new : Environment} {call : Call} {given : Reply} {e : ScriptState} → new.guards.entries.items ≡ h.guards.entries.items →
-      desk_of new ≡ e → LeavesSound (desk_of h) e → Meets (desk_of h) call given e → Does (desk_of h) call given new
-  leaves {call = call} {given = given} same desk left meets = leads h at.tied call given same desk left meets
+      desk_of new ≡ e → LeavesSound d e → Meets d call given e → Does d call given new
+  leaves {call = call} {given = given} same desk left meets =
+      does d call given (goes desk left.sound (λ g. rw (left.home, left.places, same) (at.tied.guards g)))
+      (record { meets = meets; dated = left.dated; line = left.line; calls = left.calls })
+
+  -- a guard of that name that is the participant's, and one of its place, which is open
+  pub guard-is : (g : ℕ) (held : NamedGuard) → HasOpen d n g → slice_index_or h.guards.entries.items g None ≡ Some held → held.place ≡ p
+  guard-is g held valid here =
+      subst (script.IsOf (place_of d n)) (get_or-map guarding h.guards.entries.items g None ∙ ap guarding here) valid.1 ∙ place-is
+
+  pub open-here : (g : ℕ) (held : NamedGuard) → slice_index_or h.guards.entries.items g None ≡ Some held → held.place ≡ p →
+      IsTrue (is_open (time.place_at h.world.time p))
+  open-here g held here own =
+      lt-ltb 0 (time.place_at h.world.time p).guards (rw (sym own) (open-guard d at.tied.sound g
+      (record { place = held.place; since = held.since }) (get_or-map guarding h.guards.entries.items g None ∙ ap guarding here)))
+
+  -- an item that this participant can point to can't go while its guard is open
+  pub stays-here : (g i : ℕ) (held : NamedGuard) → slice_index_or h.guards.entries.items g None ≡ Some held → held.place ≡ p →
+      CanPointTo d n i → CannotGo h.world p (slot_at d i)
+  stays-here g i held mine own can =
+      let since : since_of d n ≡ a.since = ap since_in (sym at.there) in
+      can-point d at.tied.sound n (slot_at d i) (record { place = p; since = a.since }) (sym at.there) (open-here g held mine own) can.0.taken
+      (λ waits. rw (← since) (can.1 waits))
 
 -- nothing is in hand at the start
 pub tied-start : (h : Environment) (l : Limits) → IsNew l 0 h.world → h.moment ≡ 0 → h.places.entries.items ≡ [] → h.guards.entries.items ≡ [] →

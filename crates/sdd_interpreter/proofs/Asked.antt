@@ -1,17 +1,12 @@
 -- What a push and a pop answer that ask whether an entry is a number, as a step says it
-use Rattle.sdd_interpreter.proofs.Words.{◌≡◌, ◌⊎◌, inl, inr, ℕ, List, ◌∷◌, Bool, true, false, Option, Some, None, is_some, refl, sym, subst, false≢true, IsTrue, Result, Ok, Err, Bor, Refused, NoSlot, NoCell, IsOfSlots, World, Shared, Entry, first_value, left, cells_in, Queue, Stack, HasNumber, RefusesEntry, Val, Body, PushesIf, AnyList}
-use Rattle.std.specs.Prelude.{◌↔◌, IfSome, MatchResult}
-use Rattle.sdd_participants.specs.Slab.{IsFull}
+use Rattle.sdd_interpreter.proofs.Words.{◌≡◌, ◌⊎◌, inl, inr, ℕ, List, ◌∷◌, Bool, true, false, Option, Some, None, is_some, refl, sym, subst, false≢true, IsTrue, Result, Ok, Err, Bor, Refused, NoSlot, NoCell, IsOfSlots, World, Entry, first_value, left, cells_in, Queue, Stack, HasNumber, RefusesEntry, Val, Body, PushesIf, AnyList, DequeuesIf, IfSome, IsFull, Kept, MatchResult, PopsIf, last_value, slots_home, ◌↔◌}
+use Rattle.sdd_space.specs.declared.shared.Shared.{Shared}
 use Rattle.sdd_rights.specs.Units as token
-use Rattle.sdd_space.specs.Shared.{slots_home}
 use Rattle.sdd_lists.specs.Asking.{kept_by}
-use Rattle.sdd_lists.specs.Ends.{last_value}
 use Rattle.sdd_lists.specs.Lists.{IsKept}
-use Rattle.sdd_lists.specs.Queue.{DequeuesIf}
 use Rattle.sdd_lists.specs.Stack as stacks
 use Rattle.sdd_lists.specs.declared.unpopped.Unpopped.{Unpopped}
-use Rattle.sdd_lists.specs.declared.unpopped.Unpopped.TheVariants.{Kept, Refused as RefusedBy}
-use Rattle.sdd_interpreter.specs.Containers.{PopsIf}
+use Rattle.sdd_lists.specs.declared.unpopped.Unpopped.TheVariants.{Refused as RefusedBy}
 use Rattle.sdd_interpreter.specs.declared.holding.AnyList.TheVariants as any
 use Rattle.sdd_interpreter.proofs.Popped.{pops-newest, pops-oldest}
 

@@ -1,16 +1,8 @@
 -- What calls of a bag make of it in a turn, as a line says it
-use Rattle.sdd_interpreter.proofs.Words.{◌≡◌, ◌⊎◌, MatchOption, Option, Some, None, inl, inr, ℕ, ◌+◌, ◌<◌, ◌≤◌, List, [], ◌∷◌, ◌++◌, length, vec_capacity, refl, sym, ap, ◌∙◌, subst, arith, Vec, append-nil, length-append, length-map, World, Entry, cell_in, values_of, PutsNumber, TakesAll, TakesNumber, Val, same-list}
-use Rattle.std.proofs.Common.{drop}
-use Rattle.std.proofs.lemmas.List.{append_assoc}
-use Rattle.sdd_bag.specs.Bag.{HasSameCells, IsBag, PopsBehind, PopsInside, PushesBehind, PushesInside, overflow_of, primary_of}
+use Rattle.sdd_interpreter.proofs.Words.{◌≡◌, ◌⊎◌, MatchOption, Option, Some, None, inl, inr, ℕ, ◌+◌, ◌<◌, ◌≤◌, List, [], ◌∷◌, ◌++◌, length, vec_capacity, refl, sym, ap, ◌∙◌, subst, arith, Vec, append-nil, length-append, length-map, World, Entry, cell_in, values_of, PutsNumber, TakesAll, TakesNumber, Val, same-list, AddsStorage, AreEmpty, AreFull, HasSameCells, IsBag, NumberBag, PopsBehind, PopsInside, PushesBehind, PushesInside, RemovesStorage, RemovesStorages, StandsOn, append_assoc, bag_length, drop, names_of, overflow_of, primary_of, storage_in}
 use Rattle.sdd_bag.specs.Folding.{Folds}
-use Rattle.sdd_bag.specs.Overflow.{AddsStorage, RemovesStorage, RemovesStorages}
-use Rattle.sdd_bag.specs.Storage.{AreEmpty, AreFull, names_of}
 use Rattle.sdd_bag.specs.Values.{AreInSomeOrder, HasOneMore}
 use Rattle.sdd_bag.proofs.Values.{all-empty, few-in}
-use Rattle.sdd_script_model.specs.Bags.{StandsOn}
-use Rattle.sdd_script_model.specs.ScriptState.{NumberBag, bag_length}
-use Rattle.sdd_script_model.specs.Val.{storage_in}
 
 -- a list with one more isn't empty
 one-more-some : (v : ℕ) (few many : List ℕ) → HasOneMore v few many → 1 ≤ length many

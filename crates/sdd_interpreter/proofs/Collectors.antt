@@ -1,8 +1,6 @@
 -- What a name of a collector stands for
-use Rattle.sdd_interpreter.proofs.Words.{◌≡◌, ℕ, Option, Some, None, map, slice_index_or, slice_set, sym, ap, ◌∙◌, option_map, Vec, get_or-map, map-set, Val, ScriptState, holding_at, collector_holding, Environment, IsTied, desk_of}
-use Rattle.sdd_space.specs.declared.private_collector.PrivateCollector.{PrivateCollector}
+use Rattle.sdd_interpreter.proofs.Words.{◌≡◌, ℕ, Option, Some, None, map, slice_index_or, slice_set, sym, ap, ◌∙◌, option_map, Vec, get_or-map, map-set, Val, ScriptState, holding_at, collector_holding, Environment, IsTied, desk_of, PrivateCollector, collector_of}
 use Rattle.sdd_space.specs.Collector as collector
-use Rattle.sdd_script_model.specs.ScriptState.{collector_of}
 
 module _ (h : Environment) (t : IsTied h) where
   abbrev d : ScriptState

@@ -1,14 +1,9 @@
 -- A shared owner's item that is dropped in its place, or its owner that goes
-use Rattle.sdd_interpreter.proofs.Words.{◌≡◌, ℕ, ◌<◌, Some, Bool, true, false, ap, ◌∙◌, IsSharedBy, World, standing_at, with_standing, Val, holdings_of}
-use Rattle.std.proofs.Common.{◌-◌}
-use Rattle.std.specs.Prelude.{MatchBool}
+use Rattle.sdd_interpreter.proofs.Words.{◌≡◌, ℕ, ◌<◌, Some, Bool, true, false, ap, ◌∙◌, IsSharedBy, World, standing_at, with_standing, Val, holdings_of, AnyGuardOpen, Drops, MatchBool, dropped, ◌-◌}
 use Rattle.sdd_participants.specs.declared.standing.Standing.TheVariants.{Shared}
 use Rattle.sdd_space.specs.OwnerOrCell as holding
-use Rattle.sdd_space.specs.World.{AnyGuardOpen}
-use Rattle.sdd_space.specs.WorldChanges.{dropped}
 use Rattle.sdd_rights.specs.Units as token
 use Rattle.sdd_script_text.specs.declared.answer.Reply.TheVariants as reply
-use Rattle.sdd_script_model.specs.InPlace.{Drops}
 
 pub drops-shared : (w new : World Val) (p k owners : ℕ) (home : token.GhostName) (last : Bool) → IsSharedBy owners (standing_at w k)
     → MatchBool last ((owners ≡ 1) × ¬ (AnyGuardOpen w) × (new ≡ dropped holdings_of w p k)) ((1 < owners) × (new ≡ with_standing w k (Shared (owners - 1))))

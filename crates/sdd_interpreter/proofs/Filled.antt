@@ -1,14 +1,8 @@
 -- What goes into a cell: what a name stood for
-use Rattle.sdd_interpreter.proofs.Words.{◌≡◌, List, Option, Some, None, IsSome, map, slice_index_or, slice_set, refl, sym, ap, ◌∙◌, subst, option_map, get_or-map, map-set, OwnerOrCell, AnyOwner, Sole, Share, holding_at, owner_holding}
-use Rattle.sdd_script_text.specs.declared.name.OwnerName.{OwnerName}
-use Rattle.sdd_script_model.specs.declared.owner_kind.OwnerKind.{OwnerKind}
+use Rattle.sdd_interpreter.proofs.Words.{◌≡◌, List, Option, Some, None, IsSome, map, slice_index_or, slice_set, refl, sym, ap, ◌∙◌, subst, option_map, get_or-map, map-set, OwnerOrCell, AnyOwner, Sole, Share, holding_at, owner_holding, Fills, FitsIn, OwnerKind, OwnerName, filling_holding, filling_kind, named_owner, owners_put, shared_slot, sole_slot}
 use Rattle.sdd_script_model.specs.declared.owner_kind.OwnerKind.TheVariants as ownership
 use Rattle.sdd_interpreter.specs.declared.holding.CellOwner.{CellOwner}
 use Rattle.sdd_interpreter.specs.declared.holding.CellOwner.TheVariants as filling
-use Rattle.sdd_script_model.specs.ScriptState.{sole_slot, shared_slot}
-use Rattle.sdd_script_model.specs.Script.{owners_put}
-use Rattle.sdd_interpreter.specs.Owners.{filling_kind, filling_holding}
-use Rattle.sdd_interpreter.specs.Environment.{named_owner, FitsIn, Fills}
 
 -- an owner, as what a cell is filled with
 abbrev pub filled_with : AnyOwner → CellOwner

@@ -1,7 +1,6 @@
 -- That no guard of a participant has a name
-use Rattle.sdd_interpreter.proofs.Words.{◌≡◌, ◌≢◌, ℕ, List, Option, Some, None, map, slice_index_or, refl, sym, ap, ◌∙◌, subst, get_or-map, index_of, opening_at, place_in, NamedParticipant, NamedGuard, attending, guarding}
+use Rattle.sdd_interpreter.proofs.Words.{◌≡◌, ◌≢◌, ℕ, List, Option, Some, None, map, slice_index_or, refl, sym, ap, ◌∙◌, subst, get_or-map, index_of, opening_at, place_in, NamedParticipant, NamedGuard, attending, guarding, AreOpen}
 use Rattle.sdd_script_model.specs.Script.{IsOf}
-use Rattle.sdd_interpreter.specs.Environment.{AreOpen}
 
 pub none-open : (places : List (Option NamedParticipant)) (guards : List (Option NamedGuard)) (n : ℕ) (a : NamedParticipant) →
     Some a ≡ slice_index_or places n None →

@@ -1,17 +1,10 @@
 -- What values hold owners of has a name
-use Rattle.sdd_interpreter.proofs.Words.{◌≡◌, ℕ, ◌+◌, ◌≤◌, [], ◌∷◌, None, Some, IsSome, slice_index_or, refl, ap, ◌∙◌, arith, OwnerOrCell, value_at, Body, Val, body_of, holdings_of, owner_in, slot_of, Environment, desk_of, IsTied}
-use Rattle.std.proofs.Common.{count_by, eq-eqb}
-use Rattle.std.specs.Prelude.{◌==◌}
+use Rattle.sdd_interpreter.proofs.Words.{◌≡◌, ℕ, ◌+◌, ◌≤◌, [], ◌∷◌, None, Some, IsSome, slice_index_or, refl, ap, ◌∙◌, arith, OwnerOrCell, value_at, Body, Val, body_of, holdings_of, owner_in, slot_of, Environment, desk_of, IsTied, IsOfNamed, count-cons, count_by, eq-eqb, is_owner_of, name-some, named, one_where, times_held, ◌==◌}
 use Rattle.sdd_space.specs.Owned as owned
 use Rattle.sdd_space.specs.Shared as shared
 use Rattle.sdd_script_model.specs.declared.val.Body.TheVariants as body
-use Rattle.sdd_interpreter.specs.Environment.{IsOfNamed}
-use Rattle.sdd_space.specs.OwnerCounts.{is_owner_of, times_held}
-use Rattle.sdd_space.proofs.Whole.{count-cons, one_where}
-use Rattle.sdd_script_model.specs.Sound.{named}
 use Rattle.sdd_script_model.proofs.Counting.{accounts, owner-where, times-held, times_in, value-owner-out}
 use Rattle.sdd_script_model.proofs.Storing.{off-valued}
-use Rattle.sdd_script_model.proofs.Stocked.{name-some}
 
 module _ (h : Environment) (t : IsTied h) where
   -- what a value holds an owner of has a name

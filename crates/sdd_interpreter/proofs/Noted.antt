@@ -1,7 +1,5 @@
 -- An opening is noted with the participant of a name
-use Rattle.sdd_interpreter.proofs.Words.{◌≡◌, ℕ, ◌<◌, List, Option, Some, None, map, length, slice_index_or, slice_set, sym, ap, ◌∙◌, option_map, get_or-map, map-set, OpenSince, attending, NamedParticipant}
-use Rattle.std.proofs.lemmas.List.{get_or_default}
-use Rattle.sdd_interpreter.specs.Environment.{opened_since}
+use Rattle.sdd_interpreter.proofs.Words.{◌≡◌, ℕ, ◌<◌, List, Option, Some, None, map, length, slice_index_or, slice_set, sym, ap, ◌∙◌, option_map, get_or-map, map-set, OpenSince, attending, NamedParticipant, get_or_default, opened_since}
 
 -- the outermost opening of a participant that is there is noted
 pub renoted : (places : List (Option NamedParticipant)) (n since : ℕ) (a : NamedParticipant) (x : Option NamedParticipant) → n < length places → x ≡ Some a →

@@ -1,11 +1,12 @@
 -- What comes out of a cell, as it is held, and its slot
-use Rattle.sdd_interpreter.proofs.Words.{◌≡◌, Option, Some, None, refl, ap, option_map, Owned, Shared, slot_of, Val}
+use Rattle.sdd_interpreter.proofs.Words.{◌≡◌, Option, Some, None, refl, ap, option_map, slot_of, Val, held_as}
+use Rattle.sdd_space.specs.declared.shared.Shared.{Shared}
+use Rattle.sdd_space.specs.declared.owned.Owned.{Owned}
 use Rattle.sdd_rights.specs.Units as token
 use Rattle.sdd_space.specs.OwnerOrCell as holding
 use Rattle.sdd_space.specs.Owned as owned
 use Rattle.sdd_space.specs.Shared as shared
 use Rattle.sdd_script_model.specs.declared.owner_kind.OwnerKind.TheVariants as ownership
-use Rattle.sdd_interpreter.specs.Owners.{held_as}
 
 pub sole-out : (home : token.GhostName) (o : Option (Owned Val)) → owned.IsOfSlots home o →
     option_map owned.holding_of o ≡ held_as ownership.Sole (option_map owned.slot_of o) home

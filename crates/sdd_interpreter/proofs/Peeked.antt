@@ -1,9 +1,6 @@
 -- What a cell holds is taken out and put back
-use Rattle.sdd_interpreter.proofs.Words.{◌≡◌, ℕ, Some, None, slice_set, ap, ◌∙◌, entry_at, CellContents, nulled, World}
-use Rattle.std.proofs.lemmas.List.{set-set, set-get_or}
+use Rattle.sdd_interpreter.proofs.Words.{◌≡◌, ℕ, Some, None, slice_set, ap, ◌∙◌, entry_at, CellContents, nulled, World, Entries, set-get_or, set-set, with_cell}
 use Rattle.sdd_core.specs.declared.tag.Tag.TheVariants.{None as no_tag}
-use Rattle.sdd_participants.specs.Slab.{Entries}
-use Rattle.sdd_space.specs.WorldChanges.{with_cell}
 
 module _ {T : Type 0} (old mid : World T) (k : ℕ) (was : CellContents) (there : entry_at old.cells k ≡ Some was) (out : mid ≡ nulled old k) where
   -- then all is as before

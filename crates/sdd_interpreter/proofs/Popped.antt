@@ -1,11 +1,8 @@
 -- What a pop of a stack or a queue answers, as a step says it
-use Rattle.sdd_interpreter.proofs.Words.{ℕ, List, Option, Some, None, Bor, Result, Ok, Err, Refused, IsOfSlots, World, Shared, Entry, cells_in, cell_in, Queue, Stack, Val, link_of, Body}
-use Rattle.std.specs.Prelude.{IfOk}
+use Rattle.sdd_interpreter.proofs.Words.{ℕ, List, Option, Some, None, Bor, Result, Ok, Err, Refused, IsOfSlots, World, Entry, cells_in, cell_in, Queue, Stack, Val, link_of, Body, Dequeues, IfOk, Pops, PopsOff}
+use Rattle.sdd_space.specs.declared.shared.Shared.{Shared}
 use Rattle.sdd_core.specs.declared.tag.Tag.TheVariants.{None as no_tag}
 use Rattle.sdd_rights.specs.Units as token
-use Rattle.sdd_lists.specs.Lists.{Pops}
-use Rattle.sdd_lists.specs.Queue.{Dequeues}
-use Rattle.sdd_interpreter.specs.Containers.{PopsOff}
 use Rattle.sdd_interpreter.specs.declared.holding.AnyList.TheVariants as any
 
 pub pops-newest : (home : token.GhostName) (w : World Val) (p : ℕ) (stack : Bor (Stack Body)) (es : List (Entry Val)) (second : Option ℕ)

@@ -1,7 +1,5 @@
 -- What a name of a queue stands for
-use Rattle.sdd_interpreter.proofs.Words.{◌≡◌, ℕ, [], ◌∷◌, ◌++◌, Option, Some, None, map, length, slice_index_or, slice_set, sym, ap, ◌∙◌, option_map, Vec, get_or-map, false≢true, length-map, map-set, map_push, cells_in, Queue, Body, ScriptState, holding_at, shared_cell, newest_holding, oldest_holding, Environment, IsTied, desk_of}
-use Rattle.sdd_lists.specs.Queue.{AreOfCells}
-use Rattle.sdd_script_model.specs.Script.{IsQueueName}
+use Rattle.sdd_interpreter.proofs.Words.{◌≡◌, ℕ, [], ◌∷◌, ◌++◌, Option, Some, None, map, length, slice_index_or, slice_set, sym, ap, ◌∙◌, option_map, Vec, get_or-map, false≢true, length-map, map-set, map_push, cells_in, Queue, Body, ScriptState, holding_at, shared_cell, newest_holding, oldest_holding, Environment, IsTied, desk_of, AreOfCells, IsQueueName}
 
 module _ (h : Environment) where
   abbrev d : ScriptState

@@ -1,10 +1,5 @@
 -- What is shown of a container's entries
-use Rattle.sdd_interpreter.proofs.Words.{◌≡◌, ℕ, List, [], ◌∷◌, ◌++◌, Bool, true, false, Option, Some, None, map, refl, sym, ap, ◌∙◌, subst, drop, append-nil, PtrIsShown, shown_by, slot_named, World, value_at, Ptr, AreLinked, Entry, first_slot, first_value, left, shown_of, AreNumbers, IsNumber, Val, body_of, link_of, Body, Number, HasEntries, AnyList}
-use Rattle.std.specs.Prelude.{if◌then◌else◌, slice_get}
-use Rattle.sdd_lists.specs.Lists.{is_deleted}
-use Rattle.sdd_lists.proofs.Walking.{linked-left}
-use Rattle.sdd_script_model.specs.Listed.{Begins}
-use Rattle.sdd_interpreter.specs.Containers.{list_cell}
+use Rattle.sdd_interpreter.proofs.Words.{◌≡◌, ℕ, List, [], ◌∷◌, ◌++◌, Bool, true, false, Option, Some, None, map, refl, sym, ap, ◌∙◌, subst, drop, append-nil, PtrIsShown, shown_by, slot_named, World, value_at, Ptr, AreLinked, Entry, first_slot, first_value, left, shown_of, AreNumbers, IsNumber, Val, body_of, link_of, Body, Number, HasEntries, AnyList, Begins, if◌then◌else◌, is_deleted, linked-left, list_cell, slice_get}
 use Rattle.sdd_interpreter.specs.declared.holding.AnyList.TheVariants as any
 
 -- the list of a container begins in its first cell

@@ -1,7 +1,6 @@
 -- What a name of a stack stands for
-use Rattle.sdd_interpreter.proofs.Words.{◌≡◌, ℕ, [], ◌∷◌, ◌++◌, Option, Some, None, map, slice_index_or, slice_set, sym, ap, ◌∙◌, option_map, Vec, get_or-map, false≢true, map-set, map_push, Stack, Body, ScriptState, holding_at, shared_cell, stack_holding, Environment, IsTied, desk_of}
+use Rattle.sdd_interpreter.proofs.Words.{◌≡◌, ℕ, [], ◌∷◌, ◌++◌, Option, Some, None, map, slice_index_or, slice_set, sym, ap, ◌∙◌, option_map, Vec, get_or-map, false≢true, map-set, map_push, Stack, Body, ScriptState, holding_at, shared_cell, stack_holding, Environment, IsTied, desk_of, IsStackName}
 use Rattle.sdd_lists.specs.Stack as stack
-use Rattle.sdd_script_model.specs.Script.{IsStackName}
 
 module _ (h : Environment) where
   abbrev d : ScriptState

@@ -1,14 +1,9 @@
 -- What the answers of a stage's functions take from its hand, and from what the hand becomes
-use Rattle.sdd_interpreter.proofs.Words.{◌≡◌, ℕ, ◌<◌, ◌∙◌, ap, false, length, map, refl, sym, List, Option, Some, None, IsSome, slice_index_or, slice_set, IsTrue, option_map, get_or-map, index_of, standing_at, Owned, Shared, Queue, Stack, Body, Val, AnyOwner, Sole, Share, NamedParticipant, Environment, attending, owner_holding, cell_holding, collector_holding, oldest_holding, newest_holding, stack_holding, desk_of, IsTied}
-use Rattle.std.proofs.lemmas.List.{set-get_or}
-use Rattle.sdd_participants.specs.EpochState.{lives}
-use Rattle.sdd_space.specs.OwnerOrCell.{OwnerOrCell, IsOf}
+use Rattle.sdd_interpreter.proofs.Words.{◌≡◌, ℕ, ◌<◌, ◌∙◌, ap, false, length, map, refl, sym, List, Option, Some, None, IsSome, slice_index_or, slice_set, IsTrue, option_map, get_or-map, index_of, standing_at, Queue, Stack, Body, Val, AnyOwner, Sole, Share, NamedParticipant, Environment, attending, owner_holding, cell_holding, collector_holding, oldest_holding, newest_holding, stack_holding, desk_of, IsTied, AtomicShared, IsOf, OwnerOrCell, PrivateCollector, lives, name-given, none as no_call, set-get_or}
+use Rattle.sdd_space.specs.declared.shared.Shared.{Shared}
+use Rattle.sdd_space.specs.declared.owned.Owned.{Owned}
 use Rattle.sdd_space.specs.Owned as owned
 use Rattle.sdd_space.specs.Shared as shared
-use Rattle.sdd_space.specs.declared.atomic_shared.AtomicShared.{AtomicShared}
-use Rattle.sdd_space.specs.declared.private_collector.PrivateCollector.{PrivateCollector}
-use Rattle.sdd_script_model.specs.Script.AreCalls.{none as no_call}
-use Rattle.sdd_script_model.proofs.Stocked.{name-given}
 use Rattle.sdd_interpreter.specs.declared.holding.AnyCell.{AnyCell}
 use Rattle.sdd_interpreter.specs.declared.holding.AnyCell.TheVariants as cell
 use Rattle.sdd_interpreter.proofs.Acts.{got, still}

@@ -1,16 +1,8 @@
 -- What each action on a bag leaves in hand: it is sound, and it is what the call means
-use Rattle.sdd_script.proofs.Words.{◌≡◌, ◌+◌, ℕ, Bool, true, false, List, [], ◌∷◌, ◌++◌, Option, Some, None, is_some, length, slice_index_or, slice_set, refl, sym, ap, ◌∙◌, subst, Vec, IsNonDecreasing, IsPermutation, set-get_or, set-set, Refused, NoCell, World, IsPlaceOf, IsWhole, Entry, HasOneAtMost, HasSameCells, IsBag, IsOfCells, ClosesBag, index_of, GuardName, PlaceName, Reply, Call, At, holds_nothing, StandsOn, LosesNames, BeginsLine, NumberBag, ScriptState, bag_at, bag_length, opening_at, place_of, Acts, HasOpen, IsParticipant, IsUnderGuard, Val, storage_in, bag_closed-leaves, NamedParticipant, attending, Environment, IsTied, desk_of, Does, does, goes, in_range, is-there, leads, still}
-use Rattle.std.proofs.lemmas.List.{length-append}
-use Rattle.sdd_bag.specs.Bag.{PushesInside, overflow_of, primary_of, values_of}
-use Rattle.sdd_bag.specs.Overflow.{RefusesStorage}
-use Rattle.sdd_bag.specs.Storage.{AreFull}
+use Rattle.sdd_script.proofs.Words.{◌≡◌, ◌+◌, ℕ, Bool, true, false, List, [], ◌∷◌, ◌++◌, Option, Some, None, is_some, length, slice_index_or, slice_set, refl, sym, ap, ◌∙◌, subst, Vec, IsNonDecreasing, IsPermutation, set-get_or, set-set, Refused, NoCell, World, IsPlaceOf, IsWhole, Entry, HasOneAtMost, HasSameCells, IsBag, IsOfCells, ClosesBag, index_of, GuardName, PlaceName, Reply, Call, At, holds_nothing, StandsOn, LosesNames, BeginsLine, NumberBag, ScriptState, bag_at, bag_length, opening_at, place_of, Acts, HasOpen, IsParticipant, IsUnderGuard, Val, storage_in, bag_closed-leaves, NamedParticipant, attending, Environment, IsTied, desk_of, Does, does, goes, still, AreFull, BeginsBag, IsBagName, PushesInside, PutsNumber, RefusesStorage, TakesAll, TakesNumber, bag_begun-leaves, length-append, overflow_of, primary_of, values_of, with_bag_at}
 use Rattle.sdd_script_text.specs.declared.name.BagName.{BagName}
 use Rattle.sdd_script_text.specs.declared.call.Action.TheVariants as call
 use Rattle.sdd_script_text.specs.declared.answer.Reply.TheVariants as reply
-use Rattle.sdd_script_model.specs.BagLines.{BeginsBag, PutsNumber, TakesAll, TakesNumber}
-use Rattle.sdd_script_model.specs.ScriptState.{with_bag_at}
-use Rattle.sdd_script_model.specs.Script.{IsBagName}
-use Rattle.sdd_script_model.proofs.BagEnds.{bag_begun-leaves}
 use Rattle.sdd_script_model.proofs.BagLeaving.{drain-leaves, inside-leaves, put-leaves, put-long, take-leaves}
 use Rattle.sdd_interpreter.proofs.Acts as acts
 use Rattle.sdd_script.proofs.CopyActs.{AreForgotten, AreFreeSo, as-dated, as-named, loses}
@@ -43,13 +35,13 @@ module _ (h : Environment) (t : IsTied h) (whole : IsWhole h.world) (name : Plac
   p = index_of a.place
 
   here : IsParticipant (desk_of h) n
-  here = is-there h t whole name a there
+  here = acts.attends (acts.under name.0 t whole there)
 
   live : IsPlaceOf h.world p
-  live = in_range h t whole name a there
+  live = acts.sits (acts.under name.0 t whole there)
 
   place-is : place_of (desk_of h) n ≡ p
-  place-is = acts.is h t whole name a there
+  place-is = acts.place-is (acts.under name.0 t whole there)
 
   -- ---- a bag is made
 
@@ -60,7 +52,7 @@ module _ (h : Environment) (t : IsTied h) (whole : IsWhole h.world) (name : Plac
       bags.items ≡ h.bags.entries.items ++ Some bag ∷ [] → r.0 ≡ length h.bags.entries.items →
       Does (desk_of h) (At name call.Bag) (reply.Bag r) (record h { world = w; bags = record { entries = bags } })
   acts-begun w bags bag r begins pushed named =
-      leads h t (At name call.Bag) (reply.Bag r) refl (cc (pushed)) (bag_begun-leaves (desk_of h) t.sound whole p live bag w begins)
+      acts.leaves (acts.under name.0 t whole there) refl (cc (pushed)) (bag_begun-leaves (desk_of h) t.sound whole p live bag w begins)
       (here, (named, (bag, w, begins, refl)))
 
   -- ---- the bag of this name
@@ -135,7 +127,7 @@ module _ (h : Environment) (t : IsTied h) (whole : IsWhole h.world) (name : Plac
       pub acts-tried : (number : ℕ) → PushesInside bag_length number old bag →
           Does (desk_of h) (At name (call.Try b number)) reply.Done (record h { bags = record { entries = bags } })
       acts-tried number inside =
-          leads h t (At name (call.Try b number)) reply.Done refl (cc (put))
+          acts.leaves (acts.under name.0 t whole there) refl (cc (put))
           (inside-leaves (desk_of h) t.sound whole p b.0 live old bag is cells inside.others)
           ((here, is-bag), (old, bag, is, cells, inside, refl))
 
@@ -153,7 +145,7 @@ module _ (h : Environment) (t : IsTied h) (whole : IsWhole h.world) (name : Plac
             } in
             let lost = loses h t whole name a there line w free told names now long new refl refl in
             let lost_it : LosesNames (with_bag_at (desk_of h) b.0 bag) new = record { names = lost.names; long = lost.long } in
-            leads h t (At name (call.Add b number g)) reply.Done refl (cc (put))
+            acts.leaves (acts.under name.0 t whole there) refl (cc (put))
             (put-leaves (desk_of h) t.sound whole p b.0 live old bag is cells number w puts its line names.items
             (λ same. as-named h t whole name a there line w free told names now same) lost_it) (
               (valid, is-bag),
@@ -165,7 +157,7 @@ module _ (h : Environment) (t : IsTied h) (whole : IsWhole h.world) (name : Plac
               Does (desk_of h) (At name (call.Take b g)) (reply.Value number)
               (record h { world = w; bags = record { entries = bags }; dates = dates })
           acts-took number takes =
-              leads h t (At name (call.Take b g)) (reply.Value number) refl (cc (put))
+              acts.leaves (acts.under name.0 t whole there) refl (cc (put))
               (take-leaves (desk_of h) t.sound whole p b.0 live old bag is cells number w takes its dates.items
               (dated-within h t waited told w dates now)) (
                 (valid, is-bag),
@@ -176,7 +168,7 @@ module _ (h : Environment) (t : IsTied h) (whole : IsWhole h.world) (name : Plac
               Does (desk_of h) (At name (call.Drain b g)) (reply.Numbers numbers)
               (record h { world = w; bags = record { entries = bags }; dates = dates })
           acts-drained taken numbers takes shuffled up =
-              leads h t (At name (call.Drain b g)) (reply.Numbers numbers) refl (cc (put))
+              acts.leaves (acts.under name.0 t whole there) refl (cc (put))
               (drain-leaves (desk_of h) t.sound whole p b.0 live old bag is cells taken w takes its dates.items
               (dated-within h t waited told w dates now)) (
                 (valid, is-bag),
@@ -193,7 +185,7 @@ module _ (h : Environment) (t : IsTied h) (whole : IsWhole h.world) (name : Plac
       acts-closed w bags dates valid did spent now =
           let was = bag-kept h t b.0 old mine in
           let closing = did was.entries was.lies in
-          leads h t (At name (call.CloseBag b)) reply.Done refl (cc (spent))
+          acts.leaves (acts.under name.0 t whole there) refl (cc (spent))
           (bag_closed-leaves (desk_of h) t.sound whole p b.0 live old is was.entries was.lies w closing dates.items
           (dated-within h t waited told w dates now)) (
             (valid, is-bag),

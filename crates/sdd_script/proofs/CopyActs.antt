@@ -1,18 +1,11 @@
 -- What a copy of a queue or a stack leaves in hand, refused or not: it is sound, and it is what the call means
-use Rattle.sdd_script.proofs.Words.{◌≡◌, ◌<◌, ◌≤◌, inl, inr, ℕ, Bool, true, false, List, [], ◌∷◌, ◌++◌, Option, Some, None, is_some, map, length, slice_index, slice_index_or, if◌then◌else◌, refl, sym, ap, ◌∙◌, subst, arith, Err, Ok, option_map, Vec, get_or_past, length-map, Refused, is_waiting, reader_at, ReaderId, OwnerOrCell, World, IsPlaceOf, standing_at, IsWhole, Entry, AreOfCells, IsQueue, cells_in, queue_closed, cell_in, home_in, shown_of, Queue, Stack, index_of, GuardName, PlaceName, QueueName, StackName, At, Body, LosesNames, entry_slots, AreNumbers, Begins, IsNamedQueue, BeginsLine, ScriptState, opening_at, place_of, HasOpen, IsStack, stack_closed, Val, link_of, newest_holding, oldest_holding, stack_holding, NamedParticipant, attending, Environment, IsTied, desk_of, Does, does, goes, in_range, is-there, leads, still, both-long, queues-more, stacks-more}
-use Rattle.std.specs.Prelude.{◌&&◌, not}
-use Rattle.std.proofs.lemmas.Bool.{cases_lt}
-use Rattle.std.proofs.lemmas.List.{ext_get_or}
+use Rattle.sdd_script.proofs.Words.{◌≡◌, ◌<◌, ◌≤◌, inl, inr, ℕ, Bool, true, false, List, [], ◌∷◌, ◌++◌, Option, Some, None, is_some, map, length, slice_index, slice_index_or, if◌then◌else◌, refl, sym, ap, ◌∙◌, subst, arith, Err, Ok, option_map, Vec, get_or_past, length-map, Refused, is_waiting, reader_at, ReaderId, OwnerOrCell, World, IsPlaceOf, standing_at, IsWhole, Entry, AreOfCells, IsQueue, cells_in, queue_closed, cell_in, home_in, shown_of, Queue, Stack, index_of, GuardName, PlaceName, QueueName, StackName, At, Body, LosesNames, entry_slots, AreNumbers, Begins, IsNamedQueue, BeginsLine, ScriptState, opening_at, place_of, HasOpen, IsStack, stack_closed, Val, link_of, newest_holding, oldest_holding, stack_holding, NamedParticipant, attending, Environment, IsTied, desk_of, Does, does, goes, still, both-long, queues-more, stacks-more, ArePlain, MakesQueueOf, MakesStackOf, cases_lt, ext_get_or, its-numbers, names_from, not, numbers as stack_numbers, ◌&&◌}
 use Rattle.sdd_space.specs.OwnerOrCell as holding
 use Rattle.sdd_script_text.specs.declared.name.ListName.TheVariants as list
 use Rattle.sdd_script_text.specs.declared.call.Action.TheVariants as call
 use Rattle.sdd_script_text.specs.declared.answer.Reply.TheVariants as reply
-use Rattle.sdd_script_model.specs.Copies.{ArePlain, MakesQueueOf, MakesStackOf}
-use Rattle.sdd_script_model.specs.ScriptState.{names_from}
 use Rattle.sdd_script_model.proofs.Copying.{first-numbers, queue-copied, queue-few, queue-holds, queue-inside, queue-long, queue-placed, queue-plain, queue-refused, shown-numbers, stack-copied, stack-few, stack-holds, stack-inside, stack-long, stack-placed, stack-plain, stack-refused}
 use Rattle.sdd_script_model.proofs.Filling.{AreAllNumbers}
-use Rattle.sdd_script_model.proofs.QueueGoing.{its-numbers}
-use Rattle.sdd_script_model.proofs.StackGoing.{numbers as stack_numbers}
 use Rattle.sdd_interpreter.specs.Copies.{QueueIsCopied, StackIsCopied}
 use Rattle.sdd_interpreter.proofs.Acts as acts
 use Rattle.sdd_script.proofs.QueueActs.{is-queue, queue-entries}
@@ -58,10 +51,10 @@ module _ (h : Environment) (t : IsTied h) (whole : IsWhole h.world) (name : Plac
   p = index_of a.place
 
   live : IsPlaceOf h.world p
-  live = in_range h t whole name a there
+  live = acts.sits (acts.under name.0 t whole there)
 
   place-is : place_of (desk_of h) n ≡ p
-  place-is = acts.is h t whole name a there
+  place-is = acts.place-is (acts.under name.0 t whole there)
 
   -- what was told of the slots says which items lose their names
   pub loses : (w : World Val) (free : List Bool) → AreFreeSo h free → (names : Vec (Option ℕ)) → AreForgotten h w free names →
@@ -186,7 +179,7 @@ module _ (h : Environment) (t : IsTied h) (whole : IsWhole h.world) (name : Plac
         let newest : map (option_map newest_holding) queues.items ≡ d.newest ++ Some (holding.atomic_shared c.newest h.world.home.cells) ∷ [] =
         more.1 ∙ ap (λ z. d.newest ++ Some (holding.atomic_shared c.newest z) ∷ []) home.newest in
         let makes_so = subst (λ (i : ℕ). MakesQueueOf h.world i (shown_of es) c fs held w) (sym place-is) makes in
-        leads h t (At name (call.CloneList (list.Queue q) g)) (reply.Queue r) refl (cc (oldest, newest, longer, written))
+        acts.leaves (acts.under name.0 t whole there) refl (cc (oldest, newest, longer, written))
         (queue-copied d t.sound whole p live (shown_of es) all-numbers c fs held w makes (both-long h)) (
           (valid, is-queue h q.0 x mine),
           (named ∙ sym (length-map h.queues.entries.items (option_map oldest_holding)), (cells_in x, es, second, c, fs, held, w, is, makes_so, refl)),
@@ -215,7 +208,7 @@ module _ (h : Environment) (t : IsTied h) (whole : IsWhole h.world) (name : Plac
         let lost = loses last free free_so names (subst (λ (u : World Val). AreForgotten h u free names) closed forgotten) long
         (record d { world = last; names = names.items; dates = dates.items }) refl refl in
         let makes_so = subst (λ (i : ℕ). MakesQueueOf h.world i first c fs held v) (sym place-is) makes in
-        leads h t (At name (call.CloneList (list.Queue q) g)) (reply.Refused why) refl
+        acts.leaves (acts.under name.0 t whole there) refl
         (as-refused (map (option_map oldest_holding) queues.items) (map (option_map newest_holding) queues.items) d.stacks w last slots.items names.items
         dates.items
         (ap (map (option_map oldest_holding)) same_queues) (ap (map (option_map newest_holding)) same_queues) refl closed same_slots)
@@ -296,7 +289,7 @@ module _ (h : Environment) (t : IsTied h) (whole : IsWhole h.world) (name : Plac
         let more : map (option_map stack_holding) stacks.items ≡ d.stacks ++ Some (holding.atomic_shared c h.world.home.cells) ∷ [] =
         stacks-more h stacks y pushed ∙ ap (λ z. d.stacks ++ Some (holding.atomic_shared c z) ∷ []) home in
         let makes_so = subst (λ (i : ℕ). MakesStackOf h.world i (shown_of fills) c fs w) (sym place-is) makes in
-        leads h t (At name (call.CloneList (list.Stack s) g)) (reply.Stack r) refl (cc (more, longer, written))
+        acts.leaves (acts.under name.0 t whole there) refl (cc (more, longer, written))
         (stack-copied d t.sound whole p live (shown_of fills) all-values c fs w makes) (
           (valid, is-stack h s.0 x mine),
           (named ∙ sym (length-map h.stacks.entries.items (option_map stack_holding)), (cell_in x, fills, c, fs, w, its, makes_so, refl)),
@@ -324,7 +317,7 @@ module _ (h : Environment) (t : IsTied h) (whole : IsWhole h.world) (name : Plac
         let lost = loses last free free_so names (subst (λ (u : World Val). AreForgotten h u free names) closed forgotten) long
         (record d { world = last; names = names.items; dates = dates.items }) refl refl in
         let makes_so = subst (λ (i : ℕ). MakesStackOf h.world i first c fs v) (sym place-is) makes in
-        leads h t (At name (call.CloneList (list.Stack s) g)) (reply.Refused why) refl
+        acts.leaves (acts.under name.0 t whole there) refl
         (as-refused d.queues d.newest (map (option_map stack_holding) stacks.items) w last slots.items names.items dates.items
         refl refl (ap (map (option_map stack_holding)) same_stacks) closed same_slots)
         (stack-refused d t.sound whole p live first numbers c fs v makes line names.items dates.items lost

@@ -1,29 +1,24 @@
 -- What a push onto a container and a pop off it mean, whether they ask for a number first or not
-use Rattle.sdd_script.proofs.Words.{◌≡◌, ◌+◌, ◌<◌, ℕ, Bool, List, [], ◌∷◌, ◌++◌, Option, Some, None, map, length, slice_set, refl, sym, ap, ◌∙◌, subst, arith, Ok, Err, option_map, Vec, length-map, Refused, TooManyOwners, IsSharedBy, World, IsPlaceOf, standing_at, value_at, with_standing, IsWhole, Shared, AreLinked, Entry, first_value, left, cells_in, cell_in, index_of, GuardName, ItemName, ListName, OwnerName, PlaceName, At, Number, IsContainer, Begins, IsNumber, Acts, HasOpen, IsListName, Meets, ScriptState, in_world, opening_at, place_of, with_owner, Val, body_of, link_of, same-list, LeavesSound, starts, IsDatedWithin, list_cell, attending, IsTied, desk_of, owner_holding, AnyList, AnyOwner, Share, Environment, NamedParticipant, Does, adds-owner, in_range, leads, owner-more, still, invalid, popping, pushing}
+use Rattle.sdd_script.proofs.Words.{◌≡◌, ◌+◌, ◌<◌, ℕ, Bool, List, [], ◌∷◌, ◌++◌, Option, Some, None, map, length, slice_set, refl, sym, ap, ◌∙◌, subst, arith, Ok, Err, option_map, Vec, length-map, Refused, TooManyOwners, IsSharedBy, World, IsPlaceOf, standing_at, value_at, with_standing, IsWhole, AreLinked, Entry, first_value, left, cells_in, cell_in, index_of, GuardName, ItemName, ListName, OwnerName, PlaceName, At, Number, IsContainer, Begins, IsNumber, Acts, HasOpen, IsListName, Meets, ScriptState, in_world, opening_at, place_of, with_owner, Val, body_of, link_of, same-list, LeavesSound, starts, IsDatedWithin, list_cell, attending, IsTied, desk_of, owner_holding, AnyList, AnyOwner, Share, Environment, NamedParticipant, Does, still, invalid, popping, pushing, AddsOwner, DrainsList, HasCrowdedFirst, HasNewest, HasNumber, IsAsked, IsDrainedOf, Kept, PopsIf, PushesIf, PutsIn, PutsOn, RefusesEntry, TakesOff, TakesOut, drained-leaves, last_value, linked-left, newest_value, popped-home, popped-leaves, popped-number, popped-value, queue_drained-leaves, slots_home, taken-home, taken-number, taken-value, shared-leaves}
+use Rattle.sdd_space.specs.declared.shared.Shared.{Shared}
 use Rattle.sdd_participants.specs.declared.standing.Standing.TheVariants as standing
 use Rattle.sdd_space.specs.OwnerOrCell as holding
-use Rattle.sdd_space.specs.Shared.{slot_of, slots_home}
-use Rattle.sdd_lists.specs.Ends.{last_value}
-use Rattle.sdd_lists.specs.declared.unpopped.Unpopped.TheVariants.{Kept, Refused as RefusedBy}
-use Rattle.sdd_lists.proofs.Walking.{linked-left}
+use Rattle.sdd_space.specs.Shared.{slot_of}
+use Rattle.sdd_lists.specs.declared.unpopped.Unpopped.TheVariants.{Refused as RefusedBy}
 use Rattle.sdd_script_text.specs.declared.name.ListName.TheVariants as list
 use Rattle.sdd_script_text.specs.declared.answer.Reply.TheVariants as reply
-use Rattle.sdd_script_model.specs.Containers.{HasNewest, HasNumber}
-use Rattle.sdd_script_model.specs.Script.{AddsOwner, HasCrowdedFirst, IsDrainedOf, PutsIn, TakesOut}
 use Rattle.sdd_script_model.specs.ScriptState.{with_item}
-use Rattle.sdd_script_model.specs.Stacks.{RefusesEntry}
 use Rattle.sdd_script_model.proofs.ListsApart.{left-apart, list-apart-from}
-use Rattle.sdd_script_model.proofs.QueueGoing.{queue_drained-leaves, taken-home, taken-leaves, taken-number, taken-value}
+use Rattle.sdd_script_model.proofs.QueueGoing.{taken-leaves}
 use Rattle.sdd_script_model.proofs.QueuePushing.{enqueued-leaves}
-use Rattle.sdd_script_model.proofs.StackGoing.{drained-leaves, popped-home, popped-leaves, popped-number, popped-value}
 use Rattle.sdd_script_model.proofs.StackPushing.{pushed-leaves}
-use Rattle.sdd_interpreter.specs.Containers.{DrainsList, IsAsked, PopsIf, PushesIf, PutsOn, TakesOff, newest_value}
 use Rattle.sdd_interpreter.specs.declared.holding.AnyList.TheVariants as any
 use Rattle.sdd_interpreter.proofs.Acts as acts
 use Rattle.sdd_interpreter.proofs.Shown.{begun-list, first-number}
 use Rattle.sdd_script.proofs.ContainerActs.{Names, entries-of, is-list, list-begins}
 use Rattle.sdd_script.proofs.QueueActs.{queue-entries}
 use Rattle.sdd_script.proofs.StackActs.{AreDatedNow, AreTold, dated-within, stack-entries}
+use Rattle.sdd_script.proofs.Making.{shared-more}
 use Rattle.sdd_core.specs.declared.tag.Tag.TheVariants.{None as no_tag}
 
 -- ---- the lines, with a number that they ask for or without
@@ -225,10 +220,10 @@ module _ (h : Environment) (t : IsTied h) where
     p = index_of a.place
 
     live : IsPlaceOf h.world p
-    live = in_range h t whole name a there
+    live = acts.sits (acts.under name.0 t whole there)
 
     place-is : place_of (desk_of h) name.0 ≡ p
-    place-is = acts.is h t whole name a there
+    place-is = acts.place-is (acts.under name.0 t whole there)
 
     named-next : (o : OwnerName) → o.0 ≡ length h.owners.entries.items → o.0 ≡ length (desk_of h).owners
     named-next o is = is ∙ sym (length-map h.owners.entries.items (option_map owner_holding))
@@ -246,8 +241,7 @@ module _ (h : Environment) (t : IsTied h) where
     one-named : (owner : Shared Val) (owners : Vec (Option AnyOwner)) → slots_home owner ≡ h.world.home.slots →
         owners.items ≡ h.owners.entries.items ++ Some (Share owner) ∷ [] →
         map (option_map owner_holding) owners.items ≡ (desk_of h).owners ++ Some (holding.shared (slot_of owner) h.world.home.slots) ∷ []
-    one-named owner owners at pushed =
-        owner-more h t whole owners (Share owner) pushed ∙ ap (λ z. (desk_of h).owners ++ Some (holding.shared (slot_of owner) z) ∷ []) at
+    one-named owner owners at pushed = shared-more h.owners.entries.items owners.items owner (slot_of owner) h.world.home.slots pushed refl at
 
     -- ---- a push
     module _ (number : ℕ) (w : World Val) where
@@ -286,7 +280,7 @@ module _ (h : Environment) (t : IsTied h) where
             let k = slot_of owner in
             let its = put whole p live l x mine number k w dates.items did.1.1 in
             let more = one-named owner owners did.1.0 pushed in
-            leads h t (At name (pushing l number m g)) (reply.Item o i) refl (cc (more, longer, written))
+            acts.leaves (acts.under name.0 t whole there) refl (cc (more, longer, written))
             (its.leaves (dated-within h t waited told w dates now))
             (puts-meets (desk_of h) name l g number m o i (after_put k w dates.items) both-valid (newest-is l x mine m did.0)
             (subst (λ (q : ℕ). PutsIn (desk_of h) q l number o i (after_put k w dates.items)) (sym place-is)
@@ -310,7 +304,7 @@ module _ (h : Environment) (t : IsTied h) where
       acts-drained did waited told owners dates kept now =
           let its = drained whole p live l x mine w dates.items did in
           let same : map (option_map owner_holding) owners.items ≡ (desk_of h).owners = ap (map (option_map owner_holding)) kept in
-          leads h t (At name (popping l m g)) reply.Nothing refl (cc (same)) (its.leaves (dated-within h t waited told w dates now))
+          acts.leaves (acts.under name.0 t whole there) refl (cc (same)) (its.leaves (dated-within h t waited told w dates now))
           (drains-meets (desk_of h) name l g m (after_drained w dates.items) both-valid
           (subst (λ (q : ℕ). IsDrainedOf (desk_of h) q l (after_drained w dates.items)) (sym place-is) its.means))
 
@@ -342,7 +336,7 @@ module _ (h : Environment) (t : IsTied h) where
             let is = number-of-some (value_at w (slot_of owner)) e.value number value has in
             let more = one-named owner owners did.1.0 pushed
             ∙ ap (λ (i : ℕ). (desk_of h).owners ++ Some (holding.shared i h.world.home.slots) ∷ []) did.1.1.1 in
-            leads h t (At name (popping l m g)) (reply.Popped o number) refl (cc (more))
+            acts.leaves (acts.under name.0 t whole there) refl (cc (more))
             (its.leaves dates.items (dated-within h t waited told w dates now))
             (takes-meets (desk_of h) name l g number m o (after_taken e w dates.items) both-valid
             (asked-so (first_value (left es)) e.value number m (ap first_value its.first) is did.0)
@@ -397,7 +391,8 @@ module _ (h : Environment) (t : IsTied h) where
             let off = left-apart start (list_cell x) (slot_of owner) no_tag es (list-apart-from start (list_cell x) (list-begins h t l x mine)) list kept rest
             first
             (sym slot) in
-            adds-owner h t whole name a there w owners owner count pushed did.1 stands world off (At name (popping l m g)) (reply.KeptEntry o number)
+            acts.leaves (acts.under name.0 t whole there) refl (cc (world, one-named owner owners did.1 pushed))
+            (shared-leaves (desk_of h) t.sound whole p (slot_of owner) count (acts.sits (acts.under name.0 t whole there)) stands off)
             (stays-meets (desk_of h) name l g number m o now (list_cell x) es kept rest both-valid
             (λ same. did.0 (so-asked (first_value (left es)) kept.value number m (ap first_value first) told same))
             (entries-of h t l x mine).is first told

@@ -1,19 +1,10 @@
 -- What each action that takes an owner out of a cell, or puts one into it, leaves in hand: it is sound, and it is what the call means
-use Rattle.sdd_script.proofs.Words.{false, get_or-map, ◌≡◌, ◌≢◌, ℕ, ◌+◌, ◌^◌, ◌<◌, List, Option, Some, None, IsSome, is_some, map, length, slice_index_or, slice_set, refl, sym, ap, ◌∙◌, subst, IfSome, option_map, Vec, map-set, set-get_or, set-set, Tag, entry_at, CellContents, IsSharedBy, OwnerOrCell, with_cell, with_standing, without_cell, World, standing_at, index_of, PlaceName, GuardName, OwnerName, ItemName, CellName, Call, At, Reply, Val, AnyOwner, OwnerKind, AnyCell, CellOwner, NamedParticipant, NamedGuard, Environment, ScriptState, holding_at, slot_of, Meets, HasOpen, slot_put, IsCell, item_held, named_owner, Fills, FitsIn, given_back, owner_holding, cell_holding, cell_kind, cell_number, filling_holding, desk_of, held-named, Does, Here, attends, leaves, named-as, sits, stays-here}
-use Rattle.std.specs.Prelude.{MatchOption}
+use Rattle.sdd_script.proofs.Words.{false, get_or-map, ◌≡◌, ◌≢◌, ℕ, ◌+◌, ◌^◌, ◌<◌, List, Option, Some, None, IsSome, is_some, map, length, slice_index_or, slice_set, refl, sym, ap, ◌∙◌, subst, IfSome, option_map, Vec, map-set, set-get_or, set-set, Tag, entry_at, CellContents, IsSharedBy, OwnerOrCell, with_cell, with_standing, without_cell, World, standing_at, index_of, PlaceName, GuardName, OwnerName, ItemName, CellName, Call, At, Reply, Val, AnyOwner, OwnerKind, AnyCell, CellOwner, NamedParticipant, NamedGuard, Environment, ScriptState, holding_at, slot_of, Meets, HasOpen, slot_put, IsCell, item_held, named_owner, Fills, FitsIn, given_back, owner_holding, cell_holding, cell_kind, cell_number, filling_holding, desk_of, held-named, Does, Here, attends, leaves, sits, stays-here, AtomicShared, CanCompare, CanCompareAt, CanPutBack, CannotGo, FitsCell, IsGiven, IsGivenBack, IsNameOf, IsShareFull, IsSharedCell, MatchOption, MayShare, arith, common_steps, held_as, named as named-as, owners_back, owners_put, owners_taken, put-fits, shared_once_more, slot_compared, swapped-leaves, taken-leaves}
 use Rattle.sdd_participants.specs.declared.standing.Standing.TheVariants as standing
-use Rattle.sdd_space.specs.declared.atomic_shared.AtomicShared.{AtomicShared}
-use Rattle.sdd_space.specs.UnderGuards.{CannotGo}
 use Rattle.sdd_script_text.specs.declared.call.Action.TheVariants as call
 use Rattle.sdd_script_text.specs.declared.answer.Reply.TheVariants as reply
 use Rattle.sdd_interpreter.specs.declared.holding.AnyCell.TheVariants as cell
-use Rattle.sdd_script_model.specs.Script.{CanCompare, FitsCell, IsShareFull, IsSharedCell, IsNameOf, IsGivenBack, MayShare, shared_once_more, slot_compared, owners_put, owners_taken}
-use Rattle.sdd_interpreter.specs.Environment.{IsGiven, CanPutBack, owners_back, CanCompareAt}
-use Rattle.sdd_interpreter.specs.Owners.{held_as}
-use Rattle.sdd_script_model.proofs.CellGoing.{put-fits, swapped-leaves, taken-leaves}
 use Rattle.sdd_script.proofs.CellActs.{is-cell, slot-of-put}
-use Rattle.std.proofs.lemmas.Grind.{common_steps}
-use Rattle.std.proofs.Common.{arith}
 
 -- it is no shared cell's
 pub not-shared : (h : Environment) (c : ℕ) → ((x : AtomicShared Val) → slice_index_or h.cells.entries.items c None ≢ Some (cell.Share x)) →
@@ -168,7 +159,7 @@ module _ {h : Environment} (name : PlaceName) {a : NamedParticipant} (at : Here 
   pub compared-stays : (g : ℕ) (held : NamedGuard) → slice_index_or h.guards.entries.items g None ≡ Some held → held.place ≡ index_of a.place →
       (i : Option ItemName) → CanCompare d name.0 i → IfSome (slot_compared d i) (CannotGo h.world (index_of a.place))
   compared-stays g held here own None can = tt
-  compared-stays g held here own (Some i) can = stays-here h at.tied at.whole name a at.there g i.0 held here own can
+  compared-stays g held here own (Some i) can = stays-here at g i.0 held here own can
 
 -- ---- what goes into a cell, and comes back
 

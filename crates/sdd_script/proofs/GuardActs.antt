@@ -1,29 +1,14 @@
 -- What coming and going, and each action of a guard leaves in hand: it is sound, and it is what the call means
-use Rattle.sdd_script.proofs.Words.{◌≡◌, ◌≢◌, ℕ, ◌+◌, Bool, if◌then◌else◌, List, [], ◌∷◌, ◌++◌, Option, Some, None, map, length, slice_index_or, slice_set, refl, sym, ap, ◌∙◌, subst, arith, IsTrue, ◌↔◌, IsPermutation, IsNonDecreasingBy, option_map, Vec, get_or-map, get_or_past, length-map, map-set, map_push, CanNest, is_open, Item, reader_of, reader_at, opened, closed, IsWhole, World, index_of, PlaceName, GuardName, ItemName, Register, At, NamedParticipant, NamedGuard, Environment, Val, holdings_of, ScriptState, OpenSince, BeginsLine, IsThere, opening_at, place_of, slot_at, in_world, Answers, HasOpen, names_in, attending, guarding, desk_of, IsTied, GuardsIn, slots_among, at-other, IsDatedWithin, Goes, Does, Here, attends, does, goes, place, place-is, sits}
-use Rattle.std.specs.Prelude.{Contains}
+use Rattle.sdd_script.proofs.Words.{◌≡◌, ◌≢◌, ℕ, ◌+◌, Bool, if◌then◌else◌, List, [], ◌∷◌, ◌++◌, Option, Some, None, map, length, slice_index_or, slice_set, refl, sym, ap, ◌∙◌, subst, arith, IsTrue, ◌↔◌, IsPermutation, IsNonDecreasingBy, option_map, Vec, get_or-map, get_or_past, length-map, map-set, map_push, CanNest, is_open, Item, reader_of, reader_at, opened, closed, IsWhole, World, index_of, PlaceName, GuardName, ItemName, Register, At, NamedParticipant, NamedGuard, Environment, Val, holdings_of, ScriptState, OpenSince, BeginsLine, IsThere, opening_at, place_of, slot_at, in_world, Answers, HasOpen, names_in, attending, guarding, desk_of, IsTied, GuardsIn, slots_among, at-other, IsDatedWithin, Goes, Does, Here, attends, does, goes, place, place-is, sits, Contains, Epoch, IsVacant, Job, JobName, WaitsAt, at-end, at-pushed, closes, common_steps, dated-opened, ended, ends, epoch_of, home-opened, job_in, names-go, names-run, none as no_call, not-run-under, not-under, one_more, opened_since, places_among, reclaims, registered, registers, sound-closed, sound-ended, sound-opened, sound-registered, with_guard, with_newcomer, without_guard, without_participant}
 use Rattle.sdd_rights.specs.Units as token
-use Rattle.sdd_core.specs.Epoch.{epoch_of}
-use Rattle.sdd_core.specs.declared.epoch.Epoch.{Epoch}
 use Rattle.sdd_participants.specs.EpochState as time
-use Rattle.sdd_participants.specs.EpochState.{IsVacant}
-use Rattle.sdd_participants.specs.declared.waiting.LimboEntry.TheVariants.{Job}
-use Rattle.sdd_space.specs.WorldStep.WorldStep.{registers, ends, closes, opens}
-use Rattle.sdd_space.specs.WorldChanges.{registered, ended, reclaims}
+use Rattle.sdd_space.specs.WorldStep.WorldStep.{opens}
 use Rattle.sdd_world.specs.declared.world.Place.{Place}
-use Rattle.sdd_script_text.specs.declared.name.JobName.{JobName}
 use Rattle.sdd_script_text.specs.declared.call.Action.TheVariants as call
 use Rattle.sdd_script_text.specs.declared.answer.Reply.TheVariants as reply
-use Rattle.sdd_script_model.specs.ScriptState.{WaitsAt, with_guard, with_newcomer, without_participant, without_guard}
-use Rattle.sdd_script_model.specs.Script.AreCalls.{none as no_call, one_more}
-use Rattle.sdd_script_model.specs.Shown.{job_in}
-use Rattle.sdd_interpreter.specs.Environment.{opened_since}
-use Rattle.sdd_script_model.specs.Held.{places_among}
-use Rattle.sdd_script_model.proofs.Entry.{at-pushed, at-end}
 use Rattle.sdd_script_model.proofs.Dates.{dated-same}
 use Rattle.sdd_script.proofs.StackActs.{AreDatedNow, AreTold}
-use Rattle.sdd_script_model.proofs.Going.{sound-opened, dated-opened, home-opened, names-go, names-run, not-under, not-run-under, sound-registered, sound-ended, sound-closed}
 use Rattle.sdd_interpreter.proofs.Acts as stage
-use Rattle.std.proofs.lemmas.Grind.{common_steps}
 
 -- of what is spent nothing is in hand
 spent : {X : Type 0} (P : Option X → Type 0) → P None → (xs : List (Option X)) (k : ℕ) → ((j : ℕ) → P (slice_index_or xs j None)) → (j : ℕ) →
@@ -105,7 +90,7 @@ module _ {h : Environment} (name : PlaceName) {a : NamedParticipant} (at : Here 
           apart same =
               let z : Some p ≡ Some (held.place) =
               ap (option_map place) at.there ∙ sym (ap (λ m. option_map place (opening_at d.places m)) same) ∙ own.own in
-              let one : held.place ≡ p = cc in shut (stage.open-here h at.tied at.whole name a at.there g held e one)
+              let one : held.place ≡ p = cc in shut (stage.open-here at g held e one)
 
   pub acts-closed : (g : GuardName) (w : World Val) (guards : Vec (Option NamedGuard)) (held : NamedGuard) → HasOpen d n g.0 →
       slice_index_or h.guards.entries.items g.0 None ≡ Some held → guards.items ≡ slice_set h.guards.entries.items g.0 None → w ≡ closed h.world p →
@@ -117,7 +102,7 @@ module _ {h : Environment} (name : PlaceName) {a : NamedParticipant} (at : Here 
       (goes (cc (world, gone))
       (sound-closed d at.tied.sound at.whole g.0 p (record { place = held.place; since = held.since })
       (get_or-map guarding h.guards.entries.items g.0 None ∙ ap guarding mine)
-      (stage.guard-is h at.tied at.whole name a at.there g.0 held valid mine) (sits at))
+      (stage.guard-is at g.0 held valid mine) (sits at))
       (λ k. rw taken (spent (GuardsIn h.world.home.readers d.places) tt h.guards.entries.items g.0 at.tied.guards k)))
       (record {
         meets = (valid, rw (place-is at) refl);

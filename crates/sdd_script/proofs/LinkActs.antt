@@ -1,26 +1,18 @@
 -- What a change of a link leaves in hand: it is sound, and it is what the call means
-use Rattle.sdd_script.proofs.Words.{restored, ◌≡◌, ◌≢◌, ◌+◌, ℕ, Bool, true, false, List, [], ◌∷◌, Option, None, Some, inl, inr, slice_index_or, slice_set, refl, sym, ap, ◌∙◌, subst, IfSome, IsTrue, option_map, Vec, Tag, Second, entry_at, CellContents, World, standing_at, value_at, IsWhole, Claim, is_out, held_in, Shared, AreLinked, Entry, first_slot, left, index_of, PlaceName, ItemName, GuardName, OwnerName, At, Val, link_of, IsLooseEntry, item_in, ScriptState, holding_at, in_world, opening_at, shared_slot, slot_at, Acts, CanPointTo, HasOpen, IsUnderGuard, IsValid, Meets, contained, named, NamedParticipant, Environment, attending, owner_holding, AnyOwner, Share, desk_of, IsTied, Does, does, goes, in_range, is, leads, named-owner, owner-spent, still, changing, accounts, owned-out, there-apart, starts}
-use Rattle.std.specs.Prelude.{IsSome}
-use Rattle.sdd_core.specs.declared.tag.Tag.TheVariants.{None as no_tag, Both}
-use Rattle.sdd_space.specs.Shared.{holding_of, slot_of}
-use Rattle.sdd_lists.specs.Behind.{IsFresh, mark_tag}
-use Rattle.sdd_lists.specs.Ends.{IsAmong}
-use Rattle.sdd_lists.specs.Marks.{says_deleted}
-use Rattle.sdd_lists.specs.Lists.{IsList, linked_in, trimmed}
+use Rattle.sdd_script.proofs.Words.{restored, ◌≡◌, ◌≢◌, ◌+◌, ℕ, Bool, true, false, List, [], ◌∷◌, Option, None, Some, inl, inr, slice_index_or, slice_set, refl, sym, ap, ◌∙◌, subst, IfSome, IsTrue, option_map, Vec, Tag, Second, entry_at, CellContents, World, standing_at, value_at, IsWhole, Claim, is_out, held_in, AreLinked, Entry, first_slot, left, index_of, PlaceName, ItemName, GuardName, OwnerName, At, Val, link_of, IsLooseEntry, item_in, ScriptState, holding_at, in_world, opening_at, shared_slot, slot_at, Acts, CanPointTo, HasOpen, IsUnderGuard, IsValid, Meets, contained, NamedParticipant, Environment, attending, owner_holding, AnyOwner, Share, desk_of, IsTied, Does, does, goes, still, changing, accounts, owned-out, there-apart, starts, Both, IsAmong, IsBehind, IsFresh, IsLink, IsList, IsReserved, IsSome, LinkChange, MayAppend, apart-item, holding_of, link-apart-from, linked_in, links-apart, mark_tag, may_change, says_deleted, tag_after, trimmed, leaves, sits, under, place-is, named as named-as, map, map-set}
+use Rattle.sdd_script_model.specs.Sound.{named}
+use Rattle.sdd_space.specs.declared.shared.Shared.{Shared}
+use Rattle.sdd_core.specs.declared.tag.Tag.TheVariants.{None as no_tag}
+use Rattle.sdd_space.specs.Shared.{slot_of}
 use Rattle.sdd_script_text.specs.declared.call.Action.TheVariants as call
 use Rattle.sdd_script_text.specs.declared.answer.Reply.TheVariants as reply
-use Rattle.sdd_script_model.specs.declared.link_change.LinkChange.{LinkChange}
 use Rattle.sdd_script_model.specs.declared.link_change.LinkChange.TheVariants.{Mark, Unmark, Delete}
-use Rattle.sdd_script_model.specs.Appending.{MayAppend}
-use Rattle.sdd_script_model.specs.Link.{IsBehind, IsLink, may_change, retagged, tag_after}
+use Rattle.sdd_script_model.specs.Link.{retagged}
 use Rattle.sdd_script_model.proofs.BehindGoing.{behind-named, behind-there, next-leaves}
 use Rattle.sdd_script_model.proofs.StackChains.{link-leaves}
 use Rattle.sdd_script.proofs.RawActs.{same-desk}
 use Rattle.sdd_script.proofs.StackActs.{AreDatedNow, AreTold, dated-within}
 use Rattle.sdd_script_model.proofs.Appending.{appended-leaves}
-use Rattle.sdd_script_model.proofs.Listed.{apart-item, links-apart}
-use Rattle.sdd_script_model.proofs.Storing.{IsReserved}
-use Rattle.sdd_script_model.proofs.Chains.{link-apart-from}
 
 -- no line gives both tags
 no-both : (how : LinkChange) → tag_after how ≢ Both
@@ -62,8 +54,8 @@ module _ (h : Environment) (t : IsTied h) (i : ItemName) (name : PlaceName) (v :
       (how : LinkChange) (b : Bool) (w : World Val) → b ≡ may_change how cell.tag → w ≡ retagged h.world (link_of v) cell how b →
       Does d (At name (changing how i)) (reply.Truth b) (record h { world = w })
   acts-changed whole a there how true w may world =
-      leads h t (At name (changing how i)) (reply.Truth true) refl (ap (in_world d) world)
-      (link-leaves d t.sound whole (index_of a.place) (link_of v) cell (in_range h t whole name a there) holds (tag_after how) (slot_at d i.0) v
+      leaves (under name.0 t whole there) refl (ap (in_world d) world)
+      (link-leaves d t.sound whole (index_of a.place) (link_of v) cell (sits (under name.0 t whole there)) holds (tag_after how) (slot_at d i.0) v
       (there-apart d t.sound.bags i.0 valid.1.0) shown refl
       (no-both how) (λ same. absurd (let never : true ≡ false = may ∙ ap (may_change how) same ∙ no-deleted how in cc))) (meets how true may)
   acts-changed whole a there how false w may world =
@@ -99,16 +91,16 @@ module _ (h : Environment) (t : IsTied h) (whole : IsWhole h.world) (name : Plac
       (next ≡ first_slot (left es)) × (w ≡ trimmed link_of h.world p (link_of v) u es)) →
       item ≡ option_map (item_in h.names.items) next → AreDatedNow h w waited dates →
       Does (desk_of h) (At name (call.Next i g)) (reply.Pointer item no_tag) (record h { world = w; dates = dates })
-  acts-next g waited w dates next item under told did seen now =
+  acts-next g waited w dates next item opened told did seen now =
       let u : Tag = behind.0 in
       let es : List (Entry Val) = behind.1 in
       let done = did u es behind.2.list in
       let after : World Val = trimmed link_of h.world p (link_of v) u es in
-      leads h t (At name (call.Next i g)) (reply.Pointer item no_tag) refl
+      leaves (under name.0 t whole there) refl
       (ap (λ (x : World Val). record (in_world (desk_of h) x) { dates = dates.items }) done.1)
-      (next-leaves (desk_of h) t.sound whole p (in_range h t whole name a there) i.0 (link_of v) u es behind.2 can.0 dates.items
+      (next-leaves (desk_of h) t.sound whole p (sits (under name.0 t whole there)) i.0 (link_of v) u es behind.2 can.0 dates.items
       (dated-within h t waited told after dates (subst (λ (x : World Val). AreDatedNow h x waited dates) done.1 now))) (
-        (under, can),
+        (opened, can),
         (
           link_of v,
           u,
@@ -117,7 +109,7 @@ module _ (h : Environment) (t : IsTied h) (whole : IsWhole h.world) (name : Plac
           seen ∙ ap (λ (x : Option ℕ). option_map (item_in h.names.items) x) done.0,
           refl,
           ap (λ (q : ℕ). record (in_world (desk_of h) (trimmed link_of h.world q (link_of v) u es)) { dates = dates.items })
-              (sym (is h t whole name a there)),
+              (sym (place-is (under name.0 t whole there))),
         ),
       )
 
@@ -135,7 +127,7 @@ module _ (h : Environment) (t : IsTied h) (whole : IsWhole h.world) (o : ℕ) (x
   -- its item has an owner outside, so it can't go
   pub its-out : IsTrue (is_out (standing_at h.world (slot_of x)))
   its-out =
-      owned-out (desk_of h) (accounts (desk_of h) t.sound) o (owner_holding (Share x)) (slot_of x) (named-owner h t whole o (Share x) mine) refl
+      owned-out (desk_of h) (accounts (desk_of h) t.sound) o (owner_holding (Share x)) (slot_of x) (named-as owner_holding h.owners.entries.items o mine) refl
 
   -- what is told of it is told of the one that is taken by that name
   pub loose-taken : (y : Shared Val) (k : ℕ) → slice_index_or h.owners.entries.items o None ≡ Some (Share y) →
@@ -147,7 +139,7 @@ module _ (h : Environment) (t : IsTied h) (whole : IsWhole h.world) (o : ℕ) (x
   -- where its item isn't loose, or is the one that it would come behind, it may not be put there
   pub may-not : (i : ℕ) → (IsLooseEntry h.world (slot_of x) × (slot_of x ≢ slot_at (desk_of h) i) → ⊥) → MayAppend (desk_of h) i o → ⊥
   may-not i cannot may =
-      let both : Some may.slot ≡ Some (slot_of x) = sym may.owner ∙ ap shared_slot (named-owner h t whole o (Share x) mine) in
+      let both : Some may.slot ≡ Some (slot_of x) = sym may.owner ∙ ap shared_slot (named-as owner_holding h.owners.entries.items o mine) in
       let same : may.slot ≡ slot_of x = cc in
       cannot (subst (λ (k : ℕ). IsLooseEntry h.world k × (k ≢ slot_at (desk_of h) i)) same (may.loose, may.other))
 
@@ -187,14 +179,14 @@ module _ (h : Environment) (t : IsTied h) (whole : IsWhole h.world) (name : Plac
   its-link = record { entry = v; there = shown; link = refl; holds = its-list.2.list.begins }
 
   entry : holding_at (desk_of h).owners o.0 ≡ Some (owner_holding (Share x))
-  entry = named-owner h t whole o.0 (Share x) mine
+  entry = named-as owner_holding h.owners.entries.items o.0 mine
 
   owner : shared_slot (holding_at (desk_of h).owners o.0) ≡ Some k
   owner = ap shared_slot entry
 
-  module _ (mark : Bool) (g : GuardName) (under : HasOpen (desk_of h) name.0 g.0) where
+  module _ (mark : Bool) (g : GuardName) (opened : HasOpen (desk_of h) name.0 g.0) where
     valid : IsValid (desk_of h) name.0 (call.Append i o mark g)
-    valid = (under, can, record { slot = k; owner = owner; loose = loose; other = other })
+    valid = (opened, can, record { slot = k; owner = owner; loose = loose; other = other })
 
     pub acts-appended : (w : World Val) (owners : Vec (Option AnyOwner)) →
         ((c : CellContents) (z : Val) → entry_at h.world.cells (link_of v) ≡ Some c → value_at h.world k ≡ Some z →
@@ -203,9 +195,9 @@ module _ (h : Environment) (t : IsTied h) (whole : IsWhole h.world) (name : Plac
         Does (desk_of h) (At name (call.Append i o mark g)) reply.Done (record h { world = w; owners = record { entries = owners } })
     acts-appended w owners did taken =
         let (undeleted, world) = did cell loose.entry its-list.2.list.begins loose.there in
-        let gone = owner-spent h t whole owners o.0 taken in
-        leads h t (At name (call.Append i o mark g)) reply.Done refl (cc (world, gone))
-        (appended-leaves (desk_of h) t.sound whole (index_of a.place) (in_range h t whole name a there) i.0 o.0 mark k (link_of v) cell its-link undeleted
+        let gone = ap (map (option_map owner_holding)) taken ∙ map-set (option_map owner_holding) h.owners.entries.items o.0 None in
+        leaves (under name.0 t whole there) refl (cc (world, gone))
+        (appended-leaves (desk_of h) t.sound whole (index_of a.place) (sits (under name.0 t whole there)) i.0 o.0 mark k (link_of v) cell its-link undeleted
         can.0 owner loose other)
         (valid, (link_of v, cell, k, loose.entry, its-link, undeleted, owner, loose.there, refl))
 

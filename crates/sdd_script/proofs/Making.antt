@@ -1,13 +1,11 @@
 -- How an item of a script is made: what goes into it, and its owner
-use Rattle.sdd_script.proofs.Words.{get_or-map, IsThereToPut, desk_of, ◌≡◌, ℕ, List, [], ◌∷◌, ◌++◌, Option, None, Some, length, map, option_map, Shared, Share, Val, owner_holding, IsWhole, Value, Of, Body, owner_in, OwnerKind, AnyOwner, Environment, slot_of, IsTied, BecomesBody, holding_first, owner-home}
+use Rattle.sdd_script.proofs.Words.{get_or-map, IsThereToPut, desk_of, ◌≡◌, ℕ, List, [], ◌∷◌, ◌++◌, Option, None, Some, length, map, option_map, Share, Val, owner_holding, IsWhole, Value, Of, Body, owner_in, OwnerKind, AnyOwner, Environment, slot_of, IsTied, BecomesBody, holding_first, AreOf, IsMissing, arith, common_steps}
+use Rattle.sdd_space.specs.declared.shared.Shared.{Shared}
 use Rattle.sdd_rights.specs.Units.{GhostName}
-use Rattle.sdd_space.specs.OwnerOrCell.{AreOf}
 use Rattle.sdd_space.specs.OwnerOrCell as holding
 use Rattle.sdd_space.specs.Shared as shared
+use Rattle.sdd_interpreter.proofs.Taken.{owner-home}
 use Rattle.sdd_script_text.specs.declared.call.Value.TheVariants.{Number}
-use Rattle.sdd_interpreter.specs.Environment.{IsMissing}
-use Rattle.std.proofs.Common.{arith}
-use Rattle.std.proofs.lemmas.Grind.{common_steps}
 
 -- the slot of the first owner of an item
 pub first-slot : (own : OwnerKind) (k : ℕ) (home : GhostName) (s : ℕ) → slot_of (Some (holding_first own k home)) ≡ Some s → k ≡ s
@@ -21,7 +19,7 @@ becomes-long owners new value b h = grind (arith, common_steps)
 pub body-home : (h : Environment) → IsTied h → IsWhole h.world → (value : Value) (new : List (Option AnyOwner)) (b : Body) →
     BecomesBody h.owners.entries.items value new b → AreOf h.world.home (owner_in b)
 body-home h t whole (Number n) new b becomes = rw becomes.0 tt
-body-home h t whole (Of o) new b becomes = rw becomes.2 (owner-home h t whole o.0 becomes.0 becomes.1, tt)
+body-home h t whole (Of o) new b becomes = rw becomes.2 (owner-home h t o.0 becomes.0 becomes.1, tt)
 
 -- what a value takes is there, where it is not missing
 pub there-to-put : (h : Environment) (value : Value) → ¬ (IsMissing h.owners.entries.items value) → IsThereToPut (desk_of h) value

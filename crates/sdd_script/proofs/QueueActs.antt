@@ -1,10 +1,8 @@
 -- What each action on a queue leaves in hand: it is sound, and it is what the call means
-use Rattle.sdd_script.proofs.Words.{◌≡◌, ◌≢◌, ℕ, Bool, List, [], ◌∷◌, ◌++◌, Option, Some, None, is_some, map, length, slice_index_or, slice_set, refl, sym, ap, ◌∙◌, subst, option_map, Vec, length-map, NoCell, IsEmptyAt, World, IsPlaceOf, nulled, IsWhole, Entry, AreOfCells, HasOneAtMost, IsQueue, QueueCells, cells_in, queue_closed, Queue, index_of, PlaceName, QueueName, At, Body, in_world, opening_at, place_of, without_queue, Acts, IsParticipant, IsUnderGuard, IsNamedQueue, Val, link_of, newest_holding, oldest_holding, NamedParticipant, attending, Environment, IsTied, desk_of, Does, in_range, is-there, leads, owner-more, still, both-long, newest-cell, oldest-cell, queues-more, queues-spent}
+use Rattle.sdd_script.proofs.Words.{◌≡◌, ◌≢◌, ℕ, Bool, List, [], ◌∷◌, ◌++◌, Option, Some, None, is_some, map, length, slice_index_or, slice_set, refl, sym, ap, ◌∙◌, subst, option_map, Vec, length-map, NoCell, IsEmptyAt, World, IsPlaceOf, nulled, IsWhole, Entry, AreOfCells, HasOneAtMost, IsQueue, QueueCells, cells_in, queue_closed, Queue, index_of, PlaceName, QueueName, At, Body, in_world, opening_at, place_of, without_queue, Acts, IsParticipant, IsUnderGuard, IsNamedQueue, Val, link_of, newest_holding, oldest_holding, NamedParticipant, attending, Environment, IsTied, desk_of, Does, still, both-long, newest-cell, oldest-cell, queues-more, queues-spent, IsQueueName, queue-there, queue_begun-leaves, queue_closed-leaves}
 use Rattle.sdd_space.specs.OwnerOrCell as holding
 use Rattle.sdd_script_text.specs.declared.call.Action.TheVariants as call
 use Rattle.sdd_script_text.specs.declared.answer.Reply.TheVariants as reply
-use Rattle.sdd_script_model.specs.Script.{IsQueueName}
-use Rattle.sdd_script_model.proofs.QueueGoing.{queue-there, queue_begun-leaves, queue_closed-leaves}
 use Rattle.sdd_interpreter.proofs.Acts as acts
 use Rattle.sdd_script.proofs.StackActs.{AreDatedNow, AreTold, dated-within}
 
@@ -29,13 +27,13 @@ module _ (h : Environment) (t : IsTied h) (whole : IsWhole h.world) (name : Plac
   p = index_of a.place
 
   here : IsParticipant (desk_of h) n
-  here = is-there h t whole name a there
+  here = acts.attends (acts.under name.0 t whole there)
 
   live : IsPlaceOf h.world p
-  live = in_range h t whole name a there
+  live = acts.sits (acts.under name.0 t whole there)
 
   place-is : place_of (desk_of h) n ≡ p
-  place-is = acts.is h t whole name a there
+  place-is = acts.place-is (acts.under name.0 t whole there)
 
   -- ---- a queue is made
 
@@ -54,7 +52,7 @@ module _ (h : Environment) (t : IsTied h) (whole : IsWhole h.world) (name : Plac
       more.0 ∙ ap (λ z. (desk_of h).queues ++ Some (holding.atomic_shared q.oldest z) ∷ []) home.oldest in
       let newest : map (option_map newest_holding) queues.items ≡ (desk_of h).newest ++ Some (holding.atomic_shared q.newest h.world.home.cells) ∷ [] =
       more.1 ∙ ap (λ z. (desk_of h).newest ++ Some (holding.atomic_shared q.newest z) ∷ []) home.newest in
-      leads h t (At name call.Queue) (reply.Queue r) refl (cc (world, oldest, newest))
+      acts.leaves (acts.under name.0 t whole there) refl (cc (world, oldest, newest))
       (queue_begun-leaves (desk_of h) t.sound whole p live q free other apart (both-long h))
       (here, (named ∙ sym (length-map h.queues.entries.items (option_map oldest_holding)), (q, free, other, apart, refl)))
 
@@ -87,7 +85,7 @@ module _ (h : Environment) (t : IsTied h) (whole : IsWhole h.world) (name : Plac
         let left = queues-spent h queues q.0 spent in
         let oldest = left.0 in
         let newest = left.1 in
-        leads h t (At name (call.CloseQueue q)) reply.Done refl (cc (world, oldest, newest))
+        acts.leaves (acts.under name.0 t whole there) refl (cc (world, oldest, newest))
         (queue_closed-leaves (desk_of h) t.sound whole p live q.0 cells es second is dates.items
         (dated-within h t waited told (queue_closed link_of h.world p (cells_in x) es second) dates
         (subst (λ (u : World Val). AreDatedNow h u waited dates) world now))) (

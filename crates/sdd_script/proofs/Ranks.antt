@@ -1,13 +1,6 @@
 -- Where there is no list any more, each item has a higher rank than those whose owners its value and its link hold
-use Rattle.sdd_script.proofs.Words.{◌≡◌, ◌⊎◌, ◌+◌, ◌<◌, ◌≤◌, inl, inr, ℕ, List, [], ◌∷◌, length, Option, Some, None, is_some, refl, sym, ap, ◌∙◌, arith, entry_at, owner_of, value_at, held_in, AreLinked, Entry, first_slot, IsStored, AreNumbers, IsNumber, ScriptState, IsListCell, IsSound, Val, body_of, holdings_of, link_of, owner_in, Body, Number, inside}
-use Rattle.sdd_space.specs.Ledger.{claims}
-use Rattle.sdd_space.specs.OwnerCounts.{times_held}
-use Rattle.sdd_world.proofs.AllGo.{bounded}
-use Rattle.sdd_script_model.specs.ScriptState.{name_at}
-use Rattle.sdd_script_model.specs.Shown.{number_in}
-use Rattle.sdd_script_model.specs.declared.val.Body.TheVariants.{Owned, Shared, Storage}
-use Rattle.sdd_script_model.proofs.Links.{holds-so}
-use Rattle.sdd_script_model.proofs.Listed.{unique}
+use Rattle.sdd_script.proofs.Words.{◌≡◌, ◌⊎◌, ◌+◌, ◌<◌, ◌≤◌, inl, inr, ℕ, List, [], ◌∷◌, length, Option, Some, None, is_some, refl, sym, ap, ◌∙◌, arith, entry_at, owner_of, value_at, held_in, AreLinked, Entry, first_slot, IsStored, AreNumbers, IsNumber, ScriptState, IsListCell, IsSound, Val, body_of, holdings_of, link_of, owner_in, Body, Number, inside, Storage, bounded, claims, holds-so, name_at, number_in, times_held, unique}
+use Rattle.sdd_script_model.specs.declared.val.Body.TheVariants.{Owned, Shared}
 
 -- that of a number is how many come behind it, and each other is above those
 abbrev weight : Body → (long above : ℕ) → ℕ

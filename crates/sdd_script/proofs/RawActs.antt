@@ -1,17 +1,12 @@
 -- What each action on an item in its place, or on a raw one, leaves in hand: it is sound, and it is what the call means
-use Rattle.sdd_script.proofs.Words.{◌≡◌, ◌≢◌, ℕ, Bool, true, false, List, Option, Some, None, is_some, map, slice_index_or, slice_set, refl, sym, ap, ◌∙◌, arith, option_map, Vec, map-set, Refused, GuardOpen, OwnerOrCell, World, value_at, index_of, PlaceName, GuardName, OwnerName, ItemName, At, Reply, Body, Val, body_of, ScriptState, IsThere, holding_at, slot_at, slot_of, Acts, Meets, HasOpen, IsOwnerName, told_of, AnyOwner, Sole, Share, NamedParticipant, Environment, owner_holding, desk_of, Does, Here, attends, leaves, named-as, place-is, sits, still}
+use Rattle.sdd_script.proofs.Words.{◌≡◌, ◌≢◌, ℕ, Bool, true, false, List, Option, Some, None, is_some, map, slice_index_or, slice_set, refl, sym, ap, ◌∙◌, arith, option_map, Vec, map-set, Refused, GuardOpen, OwnerOrCell, World, value_at, index_of, PlaceName, GuardName, OwnerName, ItemName, At, Reply, Body, Val, body_of, ScriptState, IsThere, holding_at, slot_at, slot_of, Acts, Meets, HasOpen, IsOwnerName, told_of, AnyOwner, Sole, Share, NamedParticipant, Environment, owner_holding, desk_of, Does, Here, attends, leaves, place-is, sits, still, CanPointAt, Drops, IsRaw, MayInPlace, OwnsNumber, Puts, RefusedInPlace, RefusesDrop, after_drop, common_steps, drop-leaves, named as named-as, put-leaves}
 use Rattle.sdd_space.specs.OwnerOrCell as holding
-use Rattle.sdd_space.specs.InPlace.{MayInPlace, RefusedInPlace}
 use Rattle.sdd_space.specs.Owned as owned
 use Rattle.sdd_space.specs.Shared as shared
 use Rattle.sdd_script_text.specs.declared.call.Action.TheVariants as call
 use Rattle.sdd_script_text.specs.declared.answer.Reply.TheVariants as reply
 use Rattle.sdd_script_model.specs.declared.val.Body.TheVariants as body
-use Rattle.sdd_script_model.specs.InPlace.{OwnsNumber, Puts, Drops, RefusesDrop, IsRaw}
-use Rattle.sdd_interpreter.specs.Environment.{CanPointAt}
-use Rattle.sdd_script_model.proofs.InPlaceGoing.{put-leaves, after_drop, drop-leaves}
 use Rattle.sdd_script.proofs.StackActs.{AreDatedNow, AreTold, dated-within}
-use Rattle.std.proofs.lemmas.Grind.{common_steps}
 
 -- an item that is there whenever it began to wait
 pub there-from : (h : Environment) (i : ℕ) → CanPointAt h.world h.slots.items h.names.items h.dates.items i 0 → IsThere (desk_of h) i

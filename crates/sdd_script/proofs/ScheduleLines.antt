@@ -1,7 +1,5 @@
 -- The words of a line, and the step that they are
-use Rattle.sdd_script.proofs.Words.{◌≡◌, ℕ, ◌+◌, ◌^◌, ◌<◌, ◌≤◌, Bool, true, false, List, [], ◌∷◌, length, get_or, map, Option, Some, None, refl, sym, ap, subst, ◌∙◌, arith, rules, ◌==◌, AllByRecursion, Step, line_of, HasNumbers, IsStepText}
-use Rattle.std.proofs.Common.{drop, OnSome, MatchOption}
-use Rattle.std.specs.Prelude.{codes, if◌then◌else◌}
+use Rattle.sdd_script.proofs.Words.{◌≡◌, ℕ, ◌+◌, ◌^◌, ◌<◌, ◌≤◌, Bool, true, false, List, [], ◌∷◌, length, get_or, map, Option, Some, None, refl, sym, ap, subst, ◌∙◌, arith, rules, ◌==◌, AllByRecursion, Step, line_of, HasNumbers, IsStepText, IsBelow, IsTextOf, MatchOption, OnSome, Retire, codes, drop, if◌then◌else◌, item_named, numbers_of, place_named, verb_of, words_of}
 use Rattle.std.specs.Fmt.{decimal}
 use Rattle.std.specs.Str.{IsAscii, IsUtf8, bytes_eq}
 use Rattle.std.specs.Str.Parse.{AllDigits, digits_value}
@@ -12,9 +10,6 @@ use Rattle.std.proofs.lemmas.Fmt.{digits_value-decimal}
 use Rattle.std.proofs.lemmas.Str.{IsUtf8-from_ascii}
 use Rattle.sdd_script_text.specs.Call.{IsWordOf, joined, words}
 use Rattle.sdd_script_text.proofs.Lines.{IsWord, AreJoined, number_word, written_word, one_joined, more_joined, unspaced}
-use Rattle.sdd_machine.specs.declared.machine.steps.Step.TheVariants.{Retire}
-use Rattle.sdd_machine.specs.Sizes.{place_named, item_named}
-use Rattle.sdd_script.specs.ScheduleLine.{verb_of, numbers_of, words_of, IsBelow, IsTextOf}
 use Rattle.sdd_script.specs.ScheduleReading.{steps_at, called}
 
 -- ---- numbers

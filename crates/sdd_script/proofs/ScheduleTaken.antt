@@ -1,16 +1,9 @@
 -- What the steps of a list are answered, one by one
-use Rattle.sdd_script.proofs.Words.{◌≡◌, ◌≢◌, ℕ, ◌+◌, ◌<◌, Bool, true, false, List, [], ◌∷◌, ◌++◌, length, Some, refl, sym, ap, subst, suc, ◌∙◌, Step, did, size_for, state, history}
-use Rattle.std.proofs.Common.{cond}
-use Rattle.std.specs.Prelude.{if◌then◌else◌, IsSomeAnd}
-use Rattle.std.specs.List.{slice_get}
-use Rattle.sdd_machine.specs.declared.machine.steps.Step.TheVariants.{Publish}
+use Rattle.sdd_script.proofs.Words.{◌≡◌, ◌≢◌, ℕ, ◌+◌, ◌<◌, Bool, true, false, List, [], ◌∷◌, ◌++◌, length, Some, refl, sym, ap, subst, suc, ◌∙◌, Step, did, size_for, state, history, AreAnswers, Exact, IsSomeAnd, Publish, Safe, Size, Tells, at_each, cond, did_possible, exact, goes_on, goes_on-append, goes_on_is, if◌then◌else◌, possible, safe, slice_get}
 use Rattle.sdd_machine.specs.declared.machine.steps.Did.{Did}
 use Rattle.sdd_machine.specs.declared.machine.steps.Did.TheVariants.{NotPossible}
-use Rattle.sdd_machine.specs.Table.{Size, possible, did_possible}
-use Rattle.sdd_machine.specs.History.{goes_on, Tells, Safe, Exact}
 use Rattle.sdd_machine.specs.Laws.{AtEachMoment}
-use Rattle.sdd_machine.proofs.Theorem.{safe, exact, at_each, goes_on_is, goes_on-append}
-use Rattle.sdd_script.specs.Schedule.{Answers, AreAnswers}
+use Rattle.sdd_script.specs.Schedule.{Answers}
 
 -- the answers to steps behind others
 abbrev pub answers_behind : Size → List Step → List Step → List Did

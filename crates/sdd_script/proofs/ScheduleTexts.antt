@@ -1,7 +1,6 @@
 -- The lines of a text, and the steps that they are
-use Rattle.sdd_script.proofs.Words.{◌≡◌, ℕ, ◌+◌, ◌<◌, ◌≤◌, List, ◌∷◌, ◌++◌, length, map, AllByRecursion, lines, most_calls, Step, line_of, HasNumbers, IsStepText}
+use Rattle.sdd_script.proofs.Words.{◌≡◌, ℕ, ◌+◌, ◌<◌, ◌≤◌, List, ◌∷◌, ◌++◌, length, map, AllByRecursion, lines, most_calls, Step, line_of, HasNumbers, IsStepText, AreSteps, IsFirstFault}
 use Rattle.sdd_script_text.proofs.Scripts.{first_other, no_other, only_lines}
-use Rattle.sdd_script.specs.Schedule.{AreSteps, IsFirstFault}
 use Rattle.sdd_script.proofs.ScheduleLines.{own_texts}
 
 pub first_fault : (text line : List ℕ) (before : List Step) (after : List (List ℕ)) (n : ℕ) → map line_of before ++ line ∷ after ≡ lines text →

@@ -1,13 +1,9 @@
 -- What each action on a stack leaves in hand: it is sound, and it is what the call means
-use Rattle.sdd_script.proofs.Words.{◌≡◌, ◌<◌, inr, ℕ, Bool, false, List, [], ◌∷◌, ◌++◌, Option, Some, None, is_some, map, length, slice_index, slice_index_or, slice_set, if◌then◌else◌, refl, sym, ap, ◌∙◌, subst, arith, option_map, Vec, length-map, NoCell, IsEmptyAt, IsFull, is_waiting, World, IsPlaceOf, standing_at, nulled, IsWhole, Entry, cell_in, home_in, Stack, index_of, PlaceName, GuardName, StackName, At, Body, Begins, ScriptState, in_world, opening_at, place_of, without_stack, Acts, HasOpen, IsParticipant, IsUnderGuard, IsStack, stack_closed, Val, stack_holding, NamedParticipant, attending, Environment, IsTied, desk_of, Does, in_range, is-there, leads, still, stack-cell, stacks-more, stacks-spent}
+use Rattle.sdd_script.proofs.Words.{◌≡◌, ◌<◌, inr, ℕ, Bool, false, List, [], ◌∷◌, ◌++◌, Option, Some, None, is_some, map, length, slice_index, slice_index_or, slice_set, if◌then◌else◌, refl, sym, ap, ◌∙◌, subst, arith, option_map, Vec, length-map, NoCell, IsEmptyAt, IsFull, is_waiting, World, IsPlaceOf, standing_at, nulled, IsWhole, Entry, cell_in, home_in, Stack, index_of, PlaceName, GuardName, StackName, At, Body, Begins, ScriptState, in_world, opening_at, place_of, without_stack, Acts, HasOpen, IsParticipant, IsUnderGuard, IsStack, stack_closed, Val, stack_holding, NamedParticipant, attending, Environment, IsTied, desk_of, Does, still, stack-cell, stacks-more, stacks-spent, IsStackName, begun-leaves, date_now, poured, stack_closed-leaves}
 use Rattle.sdd_space.specs.OwnerOrCell as holding
-use Rattle.sdd_lists.specs.Stack.{poured}
 use Rattle.sdd_script_text.specs.declared.call.Action.TheVariants as call
 use Rattle.sdd_script_text.specs.declared.answer.Reply.TheVariants as reply
-use Rattle.sdd_script_model.specs.Script.{IsStackName}
-use Rattle.sdd_script_model.proofs.StackGoing.{begun-leaves, stack_closed-leaves}
 use Rattle.sdd_script_model.proofs.StackPouring.{poured-leaves}
-use Rattle.sdd_interpreter.specs.Environment.{date_now}
 use Rattle.sdd_interpreter.proofs.Acts as acts
 
 -- the entries of the stack of this name
@@ -60,13 +56,13 @@ module _ (h : Environment) (t : IsTied h) (whole : IsWhole h.world) (name : Plac
   p = index_of a.place
 
   here : IsParticipant (desk_of h) n
-  here = is-there h t whole name a there
+  here = acts.attends (acts.under name.0 t whole there)
 
   live : IsPlaceOf h.world p
-  live = in_range h t whole name a there
+  live = acts.sits (acts.under name.0 t whole there)
 
   place-is : place_of (desk_of h) n ≡ p
-  place-is = acts.is h t whole name a there
+  place-is = acts.place-is (acts.under name.0 t whole there)
 
   -- one more stack has a name
   one-stack_more : (stacks : Vec (Option (Stack Body))) (x : Stack Body) → home_in x ≡ h.world.home.cells →
@@ -87,7 +83,7 @@ module _ (h : Environment) (t : IsTied h) (whole : IsWhole h.world) (name : Plac
   acts-begun w stacks x r free world home pushed named =
       let c = cell_in x in
       let more = one-stack_more stacks x home pushed in
-      leads h t (At name call.Stack) (reply.Stack r) refl (cc (world, more)) (begun-leaves (desk_of h) t.sound whole p c live free)
+      acts.leaves (acts.under name.0 t whole there) refl (cc (world, more)) (begun-leaves (desk_of h) t.sound whole p c live free)
       (here, (named ∙ sym (length-map h.stacks.entries.items (option_map stack_holding)), (c, free, refl)))
 
   -- ---- a stack with entries
@@ -110,7 +106,7 @@ module _ (h : Environment) (t : IsTied h) (whole : IsWhole h.world) (name : Plac
           Does (desk_of h) (At name (call.All s g)) (reply.Stack r) (record h { world = w; stacks = record { entries = stacks } })
       acts-poured w stacks y r free world home pushed named =
           let more = one-stack_more stacks y home pushed in
-          leads h t (At name (call.All s g)) (reply.Stack r) refl (cc (world, more))
+          acts.leaves (acts.under name.0 t whole there) refl (cc (world, more))
           (poured-leaves (desk_of h) t.sound whole p (cell_in x) (cell_in y) live s.0 es is free) (
             (valid, is-stack h s.0 x mine),
             (named ∙ sym (length-map h.stacks.entries.items (option_map stack_holding)), (cell_in x, es, cell_in y, is, free, refl)),
@@ -125,7 +121,7 @@ module _ (h : Environment) (t : IsTied h) (whole : IsWhole h.world) (name : Plac
       acts-closed w stacks dates valid did spent now =
           let world = did es is.list in
           let left = stacks-spent h stacks s.0 spent in
-          leads h t (At name (call.CloseStack s)) reply.Done refl (cc (world, left))
+          acts.leaves (acts.under name.0 t whole there) refl (cc (world, left))
           (stack_closed-leaves (desk_of h) t.sound whole p (cell_in x) live s.0 es is dates.items
           (dated-within h t waited told (stack_closed h.world p (cell_in x) es) dates
           (subst (λ (u : World Val). AreDatedNow h u waited dates) world now))) (

@@ -1,6 +1,5 @@
 -- Who is there, and which guards are open, after each step of a desk
-use Rattle.sdd_script_model.proofs.Words.{sum_by-set, sum_by_push, Job, Ended, keeps-closed, Limits, all_awaiting, one_where, count-cons, all_awaiting-guards, Gives, how, before, live-is, ended-lives, registered-live, registered-lives, registered-apart, guards-closed, still-live, IsStart, in_world, Gives-all_reclaimed, in_before, guards-registered, ◌≡◌, ◌≢◌, ◌⊎◌, ℕ, suc, ◌+◌, ◌<◌, ◌≤◌, ◌==◌, Bool, true, false, if◌then◌else◌, List, [], ◌∷◌, ◌++◌, Option, Some, None, IsSome, is_some, length, count_by, slice_index_or, slice_set, inl, inr, refl, sym, ap, ◌∙◌, subst, lt-ltb, arith, IsTrue, false≢true, EpochState, IsLive, IsVacant, is_open, nobody, phase_at, due_next, Participant, World, IsPlaceOf, place_at, opened, Val, holdings_of, ScriptState, OpenSince, opening_at, later, ParticipantsMatch, set_past, nat_tests, common_steps}
-use Rattle.sdd_script_model.specs.Sound.{is_of}
+use Rattle.sdd_script_model.proofs.Words.{sum_by-set, sum_by_push, Job, Ended, keeps-closed, Limits, all_awaiting, one_where, count-cons, all_awaiting-guards, Gives, how, before, live-is, ended-lives, registered-live, registered-lives, registered-apart, guards-closed, still-live, IsStart, in_world, Gives-all_reclaimed, in_before, guards-registered, ◌≡◌, ◌≢◌, ◌⊎◌, ℕ, suc, ◌+◌, ◌<◌, ◌≤◌, ◌==◌, Bool, true, false, if◌then◌else◌, List, [], ◌∷◌, ◌++◌, Option, Some, None, IsSome, is_some, length, count_by, slice_index_or, slice_set, inl, inr, refl, sym, ap, ◌∙◌, subst, lt-ltb, arith, IsTrue, false≢true, EpochState, IsLive, IsVacant, is_open, nobody, phase_at, due_next, Participant, World, IsPlaceOf, place_at, opened, Val, holdings_of, ScriptState, OpenSince, opening_at, later, ParticipantsMatch, set_past, nat_tests, common_steps, is_of}
 use Rattle.sdd_script_model.proofs.Entry.{at-same, at-other, at-pushed, as-each, inside}
 use Rattle.sdd_participants.specs.EpochState as time
 use Rattle.sdd_space.specs.WorldChanges as steps

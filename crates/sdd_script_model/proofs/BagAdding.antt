@@ -1,8 +1,8 @@
 -- What is always true of a desk is true after a storage more is put behind a bag
-use Rattle.sdd_script_model.proofs.Words.{◌≡◌, ◌≢◌, ◌+◌, ◌≤◌, inl, inr, ℕ, List, Bool, true, false, Option, Some, None, IsSome, is_some, length, slice_index_or, refl, sym, ap, ◌∙◌, subst, arith, ◌==◌, ◌&&◌, not, if◌then◌else◌, cases_eq, false≢true, length-set, set-set, set_comm, Entries, IsEmptyAt, entry_at, CellContents, Standing, Shared, is_waiting, Claim, owner_of, right_to, claims, one, owner_held, IsLedger, Keeps, Moves, changes_cell, makes, makes_cell, times_held, World, IsPlaceOf, standing_at, value_at, held_in, made_as, nulled, owner_given, with_cell, IsWhole, once_if, in_value-out, ledger-laws, once-where, out-some, filled-there, IsAmong, Entry, first_slot, left, linked_in, HasSameCells, IsBag, AddsStorage, StorageName, AreSpare, IsStored, StandsOn, LosesNames, HasLists, BeginsLine, NumberBag, ScriptState, IsListCell, IsSecondCell, bag_at, bag_length, in_world, name_at, with_bag_at, number_in, HoldsOnlyOlder, IsCalled, IsSound, contained, named, named_owners, Val, body_of, holdings_of, link_of, owner_in, storage_in, no_tag, common_steps}
+use Rattle.sdd_script_model.proofs.Words.{◌≡◌, ◌≢◌, ◌+◌, ◌≤◌, inl, inr, ℕ, List, Bool, true, false, Option, Some, None, IsSome, is_some, length, slice_index_or, refl, sym, ap, ◌∙◌, subst, arith, ◌==◌, ◌&&◌, not, if◌then◌else◌, cases_eq, false≢true, length-set, set-set, set_comm, Entries, IsEmptyAt, entry_at, CellContents, Standing, Shared, is_waiting, Claim, owner_of, right_to, claims, one, owner_held, IsLedger, Keeps, Moves, changes_cell, makes, makes_cell, times_held, World, IsPlaceOf, standing_at, value_at, held_in, made_as, nulled, owner_given, with_cell, IsWhole, once_if, in_value-out, ledger-laws, once-where, out-some, filled-there, IsAmong, Entry, first_slot, left, linked_in, HasSameCells, IsBag, AddsStorage, StorageName, AreSpare, IsStored, StandsOn, LosesNames, HasLists, BeginsLine, NumberBag, ScriptState, IsListCell, IsSecondCell, bag_at, bag_length, in_world, name_at, with_bag_at, number_in, HoldsOnlyOlder, IsCalled, IsSound, contained, named, named_owners, Val, body_of, holdings_of, link_of, owner_in, storage_in, common_steps, trimmed-plain}
+use Rattle.sdd_core.specs.declared.tag.Tag.TheVariants.{None as no_tag}
 use Rattle.sdd_space.specs.Shared.{slot_of}
 use Rattle.sdd_bag.proofs.Lying.{plain-left}
-use Rattle.sdd_bag.proofs.Standing.{trimmed-plain}
 use Rattle.sdd_script_model.proofs.Lemmas.{IsMidway, LeavesSound, among-apart, link-apart-from, list-apart-from, list-right, second-apart-from, second-right, accounts, at-other, at-same, Passes, frames-start, passes-making, passes-then, filled-long, holds-so, null, same-once, link-inside, dated-stands, BagsStay, IsReserved, held-once, off-held, off-link, off-other, off-owned, owned-cell, stays-on, stays-then, starts}
 use Rattle.sdd_script_model.proofs.BagChains.{IsInHand, begins-in_hand, has-apart, own_of, stack_of, with_bag_cells}
 use Rattle.sdd_script_model.proofs.BagGoing.{after, as-many, join, others, shows-sound, split}

@@ -1,6 +1,6 @@
 -- A bag in the middle of a line: its cells are in hand, and its other storages come and go
-use Rattle.sdd_script_model.proofs.Words.{◌≡◌, ◌≢◌, ◌⊎◌, ◌+◌, inl, inr, ℕ, List, [], ◌∷◌, ◌++◌, false, Option, Some, None, is_some, slice_index_or, slice_set, refl, sym, ap, ◌∙◌, subst, arith, append-nil, set-set, Second, Entries, entry_at, CellContents, Standing, Retired, Shared, Claim, right_to, one, World, IsPlaceOf, standing_at, value_at, held_in, owner_given, retired, with_cell, with_standing, IsAmong, Apart, AreLinked, Entry, IsList, first_slot, is_deleted, is_deleting, let_go_first, cell_in, bare, behind, apart-first, AreShelves, RemovesStorage, RemovesStorages, StandsOn, bagged, HasLists, IsListed, IsLoose, NumberBag, ScriptState, bag_at, bag_length, without_bag, IsSound, contained, named, Val, link_of, storage_in, IsWhole, go-other, AreElsewhere, no_tag, common_steps}
-use Rattle.sdd_bag.proofs.Standing.{keeps-shelves}
+use Rattle.sdd_script_model.proofs.Words.{◌≡◌, ◌≢◌, ◌⊎◌, ◌+◌, inl, inr, ℕ, List, [], ◌∷◌, ◌++◌, false, Option, Some, None, is_some, slice_index_or, slice_set, refl, sym, ap, ◌∙◌, subst, arith, append-nil, set-set, Second, Entries, entry_at, CellContents, Standing, Retired, Shared, Claim, right_to, one, World, IsPlaceOf, standing_at, value_at, held_in, owner_given, retired, with_cell, with_standing, IsAmong, Apart, AreLinked, Entry, IsList, first_slot, is_deleted, is_deleting, let_go_first, cell_in, bare, behind, apart-first, AreShelves, RemovesStorage, RemovesStorages, StandsOn, bagged, HasLists, IsListed, IsLoose, NumberBag, ScriptState, bag_at, bag_length, without_bag, IsSound, contained, named, Val, link_of, storage_in, IsWhole, go-other, AreElsewhere, common_steps, keeps-shelves}
+use Rattle.sdd_core.specs.declared.tag.Tag.TheVariants.{None as no_tag}
 use Rattle.sdd_script_model.proofs.Lemmas.{at-other, at-same, frames-start, given-other, same-once, StaysGone, as-before, has-kept_so, loose-as, BagsStay, IsReserved, off-other, inside as inside-list}
 use Rattle.sdd_script_model.proofs.StackChains.{IsBetween, first-goes}
 

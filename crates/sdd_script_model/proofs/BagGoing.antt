@@ -1,5 +1,6 @@
 -- What is always true of a desk is true after a bag begins or ends, and after numbers come into it and go
-use Rattle.sdd_script_model.proofs.Words.{◌≡◌, ◌≢◌, ◌⊎◌, ◌+◌, ◌≤◌, inl, inr, ℕ, List, [], ◌∷◌, ◌++◌, Option, Some, None, IsSome, is_some, length, slice_index_or, slice_set, refl, sym, ap, ◌∙◌, subst, arith, ◌*◌, ◌^◌, not, cases_eq, entry_at, is_waiting, Claim, right_to, one, IsLedger, World, IsPlaceOf, standing_at, value_at, held_in, IsWhole, IsAmong, Apart, Entry, HasSameCells, IsBag, AreBags, AreSpare, HasStorages, IsStored, StandsOn, HasLists, NumberBag, ScriptState, IsDated, IsListCell, IsSecondCell, bag_at, bag_length, name_at, with_bag_at, without_bag, number_in, HoldsOnlyOlder, IsCalled, IsSound, SlotsHaveNames, contained, named, Val, holdings_of, link_of, storage_in, home_in, IsOfCells, no_tag, common_steps}
+use Rattle.sdd_script_model.proofs.Words.{◌≡◌, ◌≢◌, ◌⊎◌, ◌+◌, ◌≤◌, inl, inr, ℕ, List, [], ◌∷◌, ◌++◌, Option, Some, None, IsSome, is_some, length, slice_index_or, slice_set, refl, sym, ap, ◌∙◌, subst, arith, ◌*◌, ◌^◌, not, cases_eq, entry_at, is_waiting, Claim, right_to, one, IsLedger, World, IsPlaceOf, standing_at, value_at, held_in, IsWhole, IsAmong, Apart, Entry, HasSameCells, IsBag, AreBags, AreSpare, HasStorages, IsStored, StandsOn, HasLists, NumberBag, ScriptState, IsDated, IsListCell, IsSecondCell, bag_at, bag_length, name_at, with_bag_at, without_bag, number_in, HoldsOnlyOlder, IsCalled, IsSound, SlotsHaveNames, contained, named, Val, holdings_of, link_of, storage_in, home_in, IsOfCells, common_steps}
+use Rattle.sdd_core.specs.declared.tag.Tag.TheVariants.{None as no_tag}
 use Rattle.sdd_script_model.proofs.Lemmas.{Passes, IsMidway, LeavesSound, among-apart, link-apart-from, list-apart-from, list-right, second-apart-from, second-right, leaves-so, same-line, at-other, at-same, layered-less, apart-item, apart-own, has-stored, links-apart, same-list, among-or, BagsStay, IsReserved, bags-still, off-held, stored-on, starts, inside as inside-list}
 use Rattle.sdd_script_model.proofs.BagChains.{IsInHand, bag-less, begins-in_hand, goes-many, has-apart, let_go_many, many-bare, many-other, many-values, many-waits, own_of, stack_of}
 use Rattle.sdd_script_model.proofs.StackGoing.{IsDatedWithin, dated-all}

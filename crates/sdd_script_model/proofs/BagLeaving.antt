@@ -1,7 +1,5 @@
 -- What is always true of a desk is true after each line on a bag
-use Rattle.sdd_script_model.proofs.Words.{◌≡◌, inl, inr, ℕ, List, [], ◌∷◌, ◌++◌, Option, Some, None, length, slice_index_or, slice_set, refl, sym, ap, subst, append-nil, World, IsPlaceOf, IsWhole, Entry, HasSameCells, IsBag, Body, PutsNumber, TakesNumber, StandsOn, LosesNames, BeginsLine, NumberBag, ScriptState, IsDated, bag_at, bag_length, with_bag_at, cell_in, Begins, IsSound, Val, storage_in, LiesOn, OverflowParts, PutsBehind, TakesAll}
-use Rattle.sdd_bag.specs.Storage.{AreEmpty}
-use Rattle.sdd_lists.specs.declared.stack.Stack.{Stack}
+use Rattle.sdd_script_model.proofs.Words.{◌≡◌, inl, inr, ℕ, List, [], ◌∷◌, ◌++◌, Option, Some, None, length, slice_index_or, slice_set, refl, sym, ap, subst, append-nil, World, IsPlaceOf, IsWhole, Entry, HasSameCells, IsBag, Body, PutsNumber, TakesNumber, StandsOn, LosesNames, BeginsLine, NumberBag, ScriptState, IsDated, bag_at, bag_length, with_bag_at, cell_in, Begins, IsSound, Val, storage_in, LiesOn, OverflowParts, PutsBehind, TakesAll, AreEmpty, Stack}
 use Rattle.sdd_script_model.proofs.Lemmas.{LeavesSound, dated-same, same-list}
 use Rattle.sdd_script_model.proofs.BagAdding.{added-dated, added-leaves, added-long}
 use Rattle.sdd_script_model.proofs.BagChains.{let_go_many, removes-all, removes-one, stack_of}

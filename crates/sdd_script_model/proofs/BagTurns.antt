@@ -1,5 +1,6 @@
 -- What a line on a bag gives a participant: what it lets go of waits there, and nothing else of the time changes
-use Rattle.sdd_script_model.proofs.Words.{◌≡◌, ◌+◌, inl, inr, ◌<◌, ℕ, List, [], ◌∷◌, length, refl, sym, ap, ◌∙◌, subst, ◌%◌, cases_eq, Shared, World, standing_at, made_as, nulled, owner_given, with_standing, without_cell, Gives, Gives-cell_closed, Gives-owner_given, Gives-range, Gives-retired, Entry, first_slot, left, linked_in, trimmed, cell_in, ClosesBag, EmptiesStorages, AddsStorage, RemovesStorage, RemovesStorages, PutsNumber, TakesNumber, holds_nothing, NumberBag, bag_length, Val, link_of, storage_in, no_tag}
+use Rattle.sdd_script_model.proofs.Words.{◌≡◌, ◌+◌, inl, inr, ◌<◌, ℕ, List, [], ◌∷◌, length, refl, sym, ap, ◌∙◌, subst, ◌%◌, cases_eq, Shared, World, standing_at, made_as, nulled, owner_given, with_standing, without_cell, Gives, Gives-cell_closed, Gives-owner_given, Gives-range, Gives-retired, Entry, first_slot, left, linked_in, trimmed, cell_in, ClosesBag, EmptiesStorages, AddsStorage, RemovesStorage, RemovesStorages, PutsNumber, TakesNumber, holds_nothing, NumberBag, bag_length, Val, link_of, storage_in}
+use Rattle.sdd_core.specs.declared.tag.Tag.TheVariants.{None as no_tag}
 use Rattle.sdd_space.specs.Shared.{slot_of}
 use Rattle.sdd_script_model.proofs.BagEnds.{values-none}
 use Rattle.sdd_script_model.proofs.StackTurns.{gives-nothing, gives-removed, gives-then, gives-trimmed}

@@ -1,7 +1,6 @@
 -- The deleted entries behind an item are let go of, and what the script's desk is then
-use Rattle.sdd_script_model.proofs.Words.{◌≡◌, ◌≢◌, ◌⊎◌, ◌+◌, ◌≤◌, inl, inr, ℕ, Bool, true, false, List, [], ◌∷◌, Option, Some, None, is_some, slice_index_or, refl, sym, ap, ◌∙◌, subst, arith, ◌==◌, if◌then◌else◌, cases_eq, Tag, Both, Second, entry_at, CellContents, is_waiting, Claim, IsLedger, right_to, World, IsPlaceOf, value_at, held_in, IsWhole, once-waits, ledger-laws, spliced, EndsWith, IsAmong, AreLinked, Entry, IsList, first_slot, is_deleted, left, trimmed, IsLetGo, QueueCells, linked-ends, list-ends, trimmed-list, tag_in, let-go-kept, trim-other, trim-values, among-spliced, IsStored, AreNumbers, Begins, HasLists, HoldsEntry, IsListed, IsLoose, ScriptState, IsListCell, IsSecondCell, in_world, name_at, slot_at, IsThere, IsSound, contained, named, Val, holdings_of, link_of, gone-trimmed, trimmed-or, no_tag}
-use Rattle.sdd_lists.proofs.Linking.{tail-cut, trimmed-around, trimmed-queue}
-use Rattle.sdd_script_model.specs.Link.{IsBehind}
+use Rattle.sdd_script_model.proofs.Words.{◌≡◌, ◌≢◌, ◌⊎◌, ◌+◌, ◌≤◌, inl, inr, ℕ, Bool, true, false, List, [], ◌∷◌, Option, Some, None, is_some, slice_index_or, refl, sym, ap, ◌∙◌, subst, arith, ◌==◌, if◌then◌else◌, cases_eq, Tag, Both, Second, entry_at, CellContents, is_waiting, Claim, IsLedger, right_to, World, IsPlaceOf, value_at, held_in, IsWhole, once-waits, ledger-laws, spliced, EndsWith, IsAmong, AreLinked, Entry, IsList, first_slot, is_deleted, left, trimmed, IsLetGo, QueueCells, linked-ends, list-ends, trimmed-list, tag_in, let-go-kept, trim-other, trim-values, among-spliced, IsStored, AreNumbers, Begins, HasLists, HoldsEntry, IsListed, IsLoose, ScriptState, IsListCell, IsSecondCell, in_world, name_at, slot_at, IsThere, IsSound, contained, named, Val, holdings_of, link_of, gone-trimmed, trimmed-or, IsBehind, tail-cut, trimmed-around, trimmed-queue}
+use Rattle.sdd_core.specs.declared.tag.Tag.TheVariants.{None as no_tag}
 use Rattle.sdd_script_model.proofs.Lemmas.{IsMidway, LeavesSound, finishes, link-apart-from, own-midway, AreOwn, StaysGone, StaysLoose, among-inside, among-link, apart-item, apart-own, as-before, has-changed, has-kept, link-apart, link-inside, links-apart, loose-as, loose-on, same-list, unique, among-or, idle-named, IsReserved, off-among, there-apart, starts}
 use Rattle.sdd_script_model.proofs.QueuePushing.{linked-where}
 use Rattle.sdd_script_model.proofs.StackChains.{between, front-goes, midway}

@@ -1,5 +1,6 @@
 -- What is always true of a desk is true after each call of a cell
-use Rattle.sdd_script_model.proofs.Words.{◌≡◌, ℕ, ◌+◌, ◌<◌, ◌≤◌, true, List, [], ◌∷◌, ◌++◌, Option, Some, None, IsSome, length, slice_set, refl, sym, ap, ◌∙◌, arith, inl, Tag, IsEmptyAt, entry_at, CellContents, Shared, is_waiting, Claim, right_to, one, owner_held, makes_cell, changes_cell, spends_cell, closes_cell, OwnerOrCell, IsOf, is_out, held_in, with_cell, without_cell, cell_closed, IsWhole, World, IsPlaceOf, standing_at, out-some, out-waits-not, OwnerName, Val, ScriptState, IsDated, holding_at, name_at, cell_of, in_world, shared_once_more, slot_put, owners_put, owners_taken, cell_as, owner_as, IsSound, named, named_among, IsStored, if◌then◌else◌, FitsSole, FitsShared, FitsCell, MayShare, IsCell, no_tag, common_steps}
+use Rattle.sdd_script_model.proofs.Words.{◌≡◌, ℕ, ◌+◌, ◌<◌, ◌≤◌, true, List, [], ◌∷◌, ◌++◌, Option, Some, None, IsSome, length, slice_set, refl, sym, ap, ◌∙◌, arith, inl, Tag, IsEmptyAt, entry_at, CellContents, Shared, is_waiting, Claim, right_to, one, owner_held, makes_cell, changes_cell, spends_cell, closes_cell, OwnerOrCell, IsOf, is_out, held_in, with_cell, without_cell, cell_closed, IsWhole, World, IsPlaceOf, standing_at, out-some, out-waits-not, OwnerName, Val, ScriptState, IsDated, holding_at, name_at, cell_of, in_world, shared_once_more, slot_put, owners_put, owners_taken, cell_as, owner_as, IsSound, named, named_among, IsStored, if◌then◌else◌, FitsSole, FitsShared, FitsCell, MayShare, IsCell, common_steps}
+use Rattle.sdd_core.specs.declared.tag.Tag.TheVariants.{None as no_tag}
 use Rattle.sdd_script_model.proofs.Lemmas.{name-some, slot-inside, closed-other, dated-same, dated-stands, dated-either, IsPut, accounts, cell-given, cell-out, cell-spent, put-spent, some-holding, taken-given, tells, some-entry, closed-bare, AtHome, IsMidway, LeavesSound, at_home-given, at_home-spent, finishes, midway-as, moves, retags, shares-one, BagsStay, off-held, off-other, starts}
 use Rattle.sdd_space.specs.OwnerOrCell as holding
 

@@ -1,5 +1,6 @@
 -- A line as a chain of calls of its world, each with what it takes from outside and what it gives
-use Rattle.sdd_script_model.proofs.Words.{◌*◌, ◌^◌, ◌≡◌, ◌≢◌, ℕ, ◌+◌, ◌≤◌, List, [], ◌∷◌, ◌++◌, Option, Some, None, is_some, length, slice_set, inl, inr, refl, ap, subst, arith, entry_at, Shared, CellContents, Claim, owner_of, right_to, claims, one, times_kept, IsLedger, Keeps, Moves, Sets, changes_cell, edits, shares, holds_slot, is_of, times_held, OwnerOrCell, SpaceId, IsOf, IsAlone, MayInPlace, World, IsPlaceOf, standing_at, value_at, held_in, with_cell, with_standing, with_value, IsWhole, ledger-laws, one_where, Val, body_of, holdings_of, link_of, owner_in, IsSharedBy, AreBags, AreSpare, IsStored, HasLists, ScriptState, IsDated, IsListCell, IsSecondCell, holding_at, AreCalls, IsSound, HoldsOnlyOlder, SlotsHaveNames, named, named_among, contained, slice_index_or, accounted-with_cell, accounted-with_value, held-cell_changed, held-with_value, NamesAreAtHome, AreDeferred, common_steps}
+use Rattle.sdd_script_model.proofs.Words.{◌*◌, ◌^◌, ◌≡◌, ◌≢◌, ℕ, ◌+◌, ◌≤◌, List, [], ◌∷◌, ◌++◌, Option, Some, None, is_some, length, slice_set, inl, inr, refl, ap, subst, arith, entry_at, Shared, CellContents, Claim, owner_of, right_to, claims, one, times_kept, IsLedger, Keeps, Moves, Sets, changes_cell, edits, shares, holds_slot, times_held, OwnerOrCell, SpaceId, IsOf, IsAlone, MayInPlace, World, IsPlaceOf, standing_at, value_at, held_in, with_cell, with_standing, with_value, IsWhole, ledger-laws, one_where, Val, body_of, holdings_of, link_of, owner_in, IsSharedBy, AreBags, AreSpare, IsStored, HasLists, ScriptState, IsDated, IsListCell, IsSecondCell, holding_at, AreCalls, IsSound, HoldsOnlyOlder, SlotsHaveNames, named, named_among, contained, slice_index_or, accounted-with_cell, accounted-with_value, held-cell_changed, held-with_value, NamesAreAtHome, AreDeferred, common_steps}
+use Rattle.sdd_space.specs.OwnerCounts.{is_of}
 use Rattle.sdd_script_model.proofs.Attending.{attended-acts, left-entry}
 use Rattle.sdd_script_model.proofs.Dates.{early-dated}
 use Rattle.sdd_script_model.proofs.Entry.{at-other, inside as inside-list}

@@ -1,7 +1,6 @@
 -- What is always true of a desk is true after a collector is closed, where no guard is open
-use Rattle.sdd_script_model.proofs.Words.{◌≡◌, ℕ, List, [], Some, None, slice_set, refl, sym, ap, ◌∙◌, subst, lt-ltb, arith, Contains, IsPermutation, IsNonDecreasingBy, entry_at, Item, collector_closed, waiting_for, right_to, closes_collector, held_in, IsWhole, AnyGuardOpen, IsPlaceOf, place_at, ItemName, PlaceName, At, holdings_of, ScriptState, OpenSince, holding_at, collector_of, in_world, opening_at, slot_at, NamesWhatGoes, NamesWhatRuns, names_in, IsSound, named_among, IsNullCell, common_steps}
+use Rattle.sdd_script_model.proofs.Words.{◌≡◌, ℕ, List, [], Some, None, slice_set, refl, sym, ap, ◌∙◌, subst, lt-ltb, arith, Contains, IsPermutation, IsNonDecreasingBy, entry_at, Item, collector_closed, waiting_for, right_to, closes_collector, held_in, IsWhole, AnyGuardOpen, IsPlaceOf, place_at, ItemName, PlaceName, At, holdings_of, ScriptState, OpenSince, holding_at, collector_of, in_world, opening_at, slot_at, NamesWhatGoes, NamesWhatRuns, names_in, IsSound, named_among, IsNullCell, common_steps, CollectorName}
 use Rattle.sdd_space.proofs.Guarded.{guarded}
-use Rattle.sdd_script_text.specs.declared.name.CollectorName.{CollectorName}
 use Rattle.sdd_script_model.specs.ScriptState.{without_collector}
 use Rattle.sdd_script_model.proofs.Lemmas.{LeavesSound, at_home-spent, finishes, moves, collector-spent, some-holding, tells, same-once, some-entry, starts}
 use Rattle.sdd_script_model.proofs.Going.{open-guard}

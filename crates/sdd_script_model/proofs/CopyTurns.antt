@@ -1,5 +1,6 @@
 -- What a line that copies a queue or a stack gives a participant: what it lets go of waits there, and nothing else of the time changes
-use Rattle.sdd_script_model.proofs.Words.{◌<◌, ℕ, List, Option, length, refl, sym, subst, Shared as shared_by, World, standing_at, made_as, nulled, owner_given, Gives, Gives-owner_given, Gives-range, End, appended, end_of, Entry, QueueCells, queue_closed, AddsAllBehind, AddsBehind, adds_behind, begins_behind, AppendsAll, AppendsTo, appends, starts, Body, MakesQueueOf, MakesStackOf, stack_closed, Val, link_of, no_tag}
+use Rattle.sdd_script_model.proofs.Words.{◌<◌, ℕ, List, Option, length, refl, sym, subst, Shared as shared_by, World, standing_at, made_as, nulled, owner_given, Gives, Gives-owner_given, Gives-range, End, appended, end_of, Entry, QueueCells, queue_closed, AddsAllBehind, AddsBehind, adds_behind, begins_behind, AppendsAll, AppendsTo, appends, starts, Body, MakesQueueOf, MakesStackOf, stack_closed, Val, link_of}
+use Rattle.sdd_core.specs.declared.tag.Tag.TheVariants.{None as no_tag}
 use Rattle.sdd_space.specs.Shared.{slot_of}
 use Rattle.sdd_script_model.proofs.QueueTurns.{gives-behind, gives-queue_closed}
 use Rattle.sdd_script_model.proofs.StackTurns.{gives-closed, gives-nothing, gives-then, gives-trimmed}

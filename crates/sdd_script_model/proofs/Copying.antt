@@ -1,6 +1,6 @@
 -- What is always true of a desk is true after a line that copies a queue or a stack, whether it is refused or not
-use Rattle.sdd_script_model.proofs.Words.{◌≡◌, ◌≢◌, ◌+◌, ◌<◌, ◌≤◌, inl, inr, ℕ, List, [], ◌∷◌, ◌++◌, Bool, true, false, Option, Some, None, length, map, count_by, slice_index_or, slice_set, refl, sym, zero, suc, ap, ◌∙◌, subst, arith, ◌*◌, ◌^◌, not, cases_eq, length_push, length-set, OwnerOrCell, is_owner_of, times_held, World, IsPlaceOf, standing_at, value_at, nulled, spilled, without_cell, IsWhole, IsAmong, AreLinked, Entry, is_deleted, shown_of, IsQueue, QueueCells, queue_closed, Body, ArePlain, LosesNames, MakesQueueOf, MakesStackOf, AreNumbers, Begins, IsNumber, IsNamedQueue, BeginsLine, ScriptState, holding_at, in_world, shared_cell, with_items, with_queue, with_stack, IsSound, stacked, IsStack, stack_closed, Val, body_of, holdings_of, link_of, owner_in, if◌then◌else◌, content, entry_slots, no_tag, common_steps}
-use Rattle.sdd_lists.specs.Entries.{value_of}
+use Rattle.sdd_script_model.proofs.Words.{◌≡◌, ◌≢◌, ◌+◌, ◌<◌, ◌≤◌, inl, inr, ℕ, List, [], ◌∷◌, ◌++◌, Bool, true, false, Option, Some, None, length, map, count_by, slice_index_or, slice_set, refl, sym, zero, suc, ap, ◌∙◌, subst, arith, ◌*◌, ◌^◌, not, cases_eq, length_push, length-set, OwnerOrCell, is_owner_of, times_held, World, IsPlaceOf, standing_at, value_at, nulled, spilled, without_cell, IsWhole, IsAmong, AreLinked, Entry, is_deleted, shown_of, IsQueue, QueueCells, queue_closed, Body, ArePlain, LosesNames, MakesQueueOf, MakesStackOf, AreNumbers, Begins, IsNumber, IsNamedQueue, BeginsLine, ScriptState, holding_at, in_world, shared_cell, with_items, with_queue, with_stack, IsSound, stacked, IsStack, stack_closed, Val, body_of, holdings_of, link_of, owner_in, if◌then◌else◌, content, entry_slots, common_steps, value_of}
+use Rattle.sdd_core.specs.declared.tag.Tag.TheVariants.{None as no_tag}
 use Rattle.sdd_lists.proofs.Few.{no-longer}
 use Rattle.sdd_lists.proofs.Lists.{inside}
 use Rattle.sdd_script_model.proofs.Lemmas.{LeavesSound, times-held, dated-kept, at-end, at-same, Frames, calls-then, filled-long, HoldsLess, null}

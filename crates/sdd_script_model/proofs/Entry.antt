@@ -1,5 +1,5 @@
 -- What a list has at each number, after one entry of it is replaced or pushed
-use Rattle.sdd_script_model.proofs.Words.{set_past, set-get_or, get_or_push, ◌≡◌, ◌≢◌, ◌⊎◌, ℕ, zero, suc, ◌<◌, List, [], ◌∷◌, ◌++◌, Option, Some, None, IsSome, is_some, length, slice_index_or, slice_set, refl, sym, ap, ◌∙◌, arith, false≢true, replicate, false, common_steps}
+use Rattle.sdd_script_model.proofs.Words.{set_past, set-get_or, get_or_push, ◌≡◌, ◌≢◌, ◌⊎◌, ℕ, zero, suc, ◌<◌, List, [], ◌∷◌, ◌++◌, Option, Some, None, IsSome, is_some, length, slice_index_or, slice_set, refl, sym, ap, ◌∙◌, arith, false≢true, replicate, false, common_steps, get_or-set_other as at-other, get_or-set_same as at-same}
 pub use Rattle.std.proofs.lemmas.List.{get_or-set_same as at-same, get_or-set_other as at-other}
 
 module _ {X : Type 0} where

@@ -1,6 +1,6 @@
 -- What is always true of a desk is true after a new queue or stack is filled with numbers, each of which it owns alone
-use Rattle.sdd_script_model.proofs.Words.{◌≡◌, ◌≢◌, ◌⊎◌, ◌+◌, inl, inr, ℕ, List, [], ◌∷◌, ◌++◌, Option, Some, None, length, map, slice_index_or, slice_set, refl, sym, ap, ◌∙◌, subst, ◌-◌, ◌<◌, ◌≤◌, nat_lt, true, false, is_some, IsSome, arith, cases_eq, length-append, length-set, length_push, Standing, Shared as shared_by, is_waiting, Claim, World, IsPlaceOf, standing_at, made_as, nulled, owner_given, spilled, with_cell, IsWhole, ledger-laws, IsAmong, appended, through_last, Entry, IsQueue, QueueCells, AddsAllBehind, AddsBehind, adds_behind, begins_behind, AppendsAll, AppendsTo, appends, starts as starts_stack, among-last, bare, list-same, Body, Number, Storage, ArePlain, Begins, IsListed, IsNumber, Enqueues, IsNamedQueue, ScriptState, IsListCell, holding_at, in_world, names_from, shared_cell, with_item, with_items, none as no_call, IsSound, contained, named, Appends, IsStack, Val, holdings_of, link_of, append_assoc, map-append, made_newest, no_tag, common_steps}
-use Rattle.std.proofs.Common.{append-nil}
+use Rattle.sdd_script_model.proofs.Words.{◌≡◌, ◌≢◌, ◌⊎◌, ◌+◌, inl, inr, ℕ, List, [], ◌∷◌, ◌++◌, Option, Some, None, length, map, slice_index_or, slice_set, refl, sym, ap, ◌∙◌, subst, ◌-◌, ◌<◌, ◌≤◌, nat_lt, true, false, is_some, IsSome, arith, cases_eq, length-append, length-set, length_push, Standing, Shared as shared_by, is_waiting, Claim, World, IsPlaceOf, standing_at, made_as, nulled, owner_given, spilled, with_cell, IsWhole, ledger-laws, IsAmong, appended, through_last, Entry, IsQueue, QueueCells, AddsAllBehind, AddsBehind, adds_behind, begins_behind, AppendsAll, AppendsTo, appends, starts as starts_stack, among-last, bare, list-same, Body, Number, Storage, ArePlain, Begins, IsListed, IsNumber, Enqueues, IsNamedQueue, ScriptState, IsListCell, holding_at, in_world, names_from, shared_cell, with_item, with_items, none as no_call, IsSound, contained, named, Appends, IsStack, Val, holdings_of, link_of, append_assoc, map-append, made_newest, common_steps, append-nil}
+use Rattle.sdd_core.specs.declared.tag.Tag.TheVariants.{None as no_tag}
 use Rattle.sdd_space.specs.Shared.{slot_of}
 use Rattle.sdd_script_model.specs.declared.val.Body.TheVariants.{Owned, Shared}
 use Rattle.sdd_script_model.proofs.Lemmas.{KeepsGuards, keeps-live, IsMidway, LeavesSound, dated-kept, at-other, at-same, not-free, given-other, listed-inside, starts}

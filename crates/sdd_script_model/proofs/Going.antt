@@ -1,9 +1,7 @@
 -- What is always true of a desk is true after each call
-use Rattle.sdd_script_model.proofs.Words.{◌≡◌, ◌≢◌, ◌⊎◌, ℕ, ◌+◌, ◌<◌, ◌≤◌, Bool, false, List, Option, Some, None, is_some, length, count_by, slice_index_or, slice_set, inl, inr, refl, sym, ap, ◌∙◌, subst, arith, IsTrue, ◌↔◌, length_push, length-replicate, EpochState, IsEmptyAt, entry_at, is_open, IsSharedBy, is_waiting, Claim, owner_of, right_to, IsLedger, Keeps, claims, one, stirs, accelerates, makes, retires, releases, makes_cell, IsFirst, WorldStep, registers, ends, closes, defers, OwnerOrCell, IsOf, is_out, registered, ended, opened, made_as, nulled, retired, closed, stirred, accelerated, deferred, held_in, owner_given, with_standing, IsWhole, Limits, IsPlaceOf, place_at, standing_at, value_at, times_held, Tally, ledger-laws, Value, Of, Val, holdings_of, body_of, link_of, storage_in, ScriptState, OpenSince, BeginsLine, bag_at, IsDated, IsListCell, IsSecondCell, IsStart, shared_cell, opening_at, holding_at, slot_of, sole_slot, shared_slot, in_world, with_owner, without_owner, with_item, later, none as no_call, one_more, HasLists, IsPutIn, owners_left, IsSound, ParticipantsMatch, contained, has_right, named, named_among, named_owners, owns, AreSpare, IsStored, filled-there, Moves, Sets, World, ◌∷◌, ◌++◌, [], if◌then◌else◌, IsVacant, nothing, with_guard, with_newcomer, without_participant, without_guard, with_job, put_in, AreDeferred, JobsHaveDates, Entries, with_entry, Standing, standing_first, holding_first, AreBags, ◌*◌, ◌^◌, date_at, job_date_at, sheds-opened, replicate}
+use Rattle.sdd_script_model.proofs.Words.{◌≡◌, ◌≢◌, ◌⊎◌, ℕ, ◌+◌, ◌<◌, ◌≤◌, Bool, false, List, Option, Some, None, is_some, length, count_by, slice_index_or, slice_set, inl, inr, refl, sym, ap, ◌∙◌, subst, arith, IsTrue, ◌↔◌, length_push, length-replicate, EpochState, IsEmptyAt, entry_at, is_open, IsSharedBy, is_waiting, Claim, owner_of, right_to, IsLedger, Keeps, claims, one, stirs, accelerates, makes, retires, releases, makes_cell, IsFirst, WorldStep, registers, ends, closes, defers, OwnerOrCell, IsOf, is_out, registered, ended, opened, made_as, nulled, retired, closed, stirred, accelerated, deferred, held_in, owner_given, with_standing, IsWhole, Limits, IsPlaceOf, place_at, standing_at, value_at, times_held, Tally, ledger-laws, Value, Of, Val, holdings_of, body_of, link_of, storage_in, ScriptState, OpenSince, BeginsLine, bag_at, IsDated, IsListCell, IsSecondCell, IsStart, shared_cell, opening_at, holding_at, slot_of, sole_slot, shared_slot, in_world, with_owner, without_owner, with_item, later, none as no_call, one_more, HasLists, IsPutIn, owners_left, IsSound, ParticipantsMatch, contained, has_right, named, named_among, named_owners, owns, AreSpare, IsStored, filled-there, Moves, Sets, World, ◌∷◌, ◌++◌, [], if◌then◌else◌, IsVacant, nothing, with_guard, with_newcomer, without_participant, without_guard, with_job, put_in, AreDeferred, JobsHaveDates, Entries, with_entry, Standing, standing_first, holding_first, AreBags, ◌*◌, ◌^◌, date_at, job_date_at, sheds-opened, replicate, AreInRange, OwnerKind}
 use Rattle.sdd_space.specs.Ledger.Moves.{opens}
-use Rattle.sdd_core.specs.Limits.{AreInRange}
 use Rattle.sdd_script_text.specs.declared.call.Value.TheVariants.{Number}
-use Rattle.sdd_script_model.specs.declared.owner_kind.OwnerKind.{OwnerKind}
 use Rattle.sdd_script_model.proofs.Lemmas.{at-other, at-same, not-free, at-blank, set-where, KeepsSlots, stocked-as, stocked-made, slots-same, slots-opened, holds-so, less-shed, null, less-same, has-made, has-same, has-still, has-stored, passes-making, AtHome, IsMidway, IsPlain, LeavesSound, at-home, at_home-given, at_home-spent, finishes, leaves-so, moves, own-midway, same-line, shares-one, BagsStay, bags-still, off-owned, off-standing, off-valued, put-plain, spare-on, stays-as, stays-on, stored-still, spare-as, keeps-deferred, attended-acts, attended-later, attended-start, attended-registered, attended-ended, attended-closed, attended-opened, WereOpen, kept-call, kept-start, kept-opened, were-same, were-registered, were-ended, were-closed, first-waits-not, dated-one, dated-released, dated-same, dated-stands, early-dated, early-start, accounts, owner-spent, some-holding, value-spent, filled-long, layered-less, layered-made, deferred-more, deferred-opened, job_dates-call, job_dates-deferred, job_dates-opened, job_dates-start, no-entry, starts, owner-given}
 use Rattle.sdd_script_model.proofs.StackGoing.{IsDatedWithin, dated-all}
 use Rattle.sdd_participants.specs.declared.standing.Standing.TheVariants as standing

@@ -1,9 +1,6 @@
 -- What an opening does to a script's slots: which are freed, and which names it answers
-use Rattle.sdd_script_model.proofs.Words.{option_map, IsPermutation, IsNonDecreasingBy, IsStrictlyIncreasing, Contains-get_or, sum_by-IsPermutation, IsPermutation-sym, Contains-permutation, get_or-le-sum_by, owner_given, one-place, some-waits, times-aged, ItemName, ScriptState, IsThere, slot_at, name_at, names_in, SlotsHaveNames, slots_among, cases_lt, cons_option, filter_map, sum_by_more, sum_by_more_le, ◌≡◌, ◌≢◌, ℕ, suc, ◌+◌, ◌<◌, ◌≤◌, ◌==◌, ◌↔◌, Bool, true, false, List, [], ◌∷◌, Option, Some, None, IsSome, map, length, count_by, slice_index_or, inl, inr, refl, sym, ap, ◌∙◌, eq-eqb, arith, nat_tests, All, Contains, length-map, LimboEntry, Item, Standing, is_waiting, reclaims, IsWhole, is_of_slot, once_if, World, place_at, standing_at, value_at, one_where, times_among, count-cons, filled-there, Val, zero, subst, named_in, IsSound, common_steps}
+use Rattle.sdd_script_model.proofs.Words.{option_map, IsPermutation, IsNonDecreasingBy, IsStrictlyIncreasing, Contains-get_or, sum_by-IsPermutation, IsPermutation-sym, Contains-permutation, get_or-le-sum_by, owner_given, one-place, some-waits, times-aged, ItemName, ScriptState, IsThere, slot_at, name_at, names_in, SlotsHaveNames, slots_among, cases_lt, cons_option, filter_map, sum_by_more, sum_by_more_le, ◌≡◌, ◌≢◌, ℕ, suc, ◌+◌, ◌<◌, ◌≤◌, ◌==◌, ◌↔◌, Bool, true, false, List, [], ◌∷◌, Option, Some, None, IsSome, map, length, count_by, slice_index_or, inl, inr, refl, sym, ap, ◌∙◌, eq-eqb, arith, nat_tests, All, Contains, length-map, LimboEntry, Item, Standing, is_waiting, reclaims, IsWhole, is_of_slot, once_if, World, place_at, standing_at, value_at, one_where, times_among, count-cons, filled-there, Val, zero, subst, named_in, IsSound, common_steps, Contains-append_cases, Contains-append_left, Contains-append_right, flat_map, slot_waiting}
 use Rattle.std.proofs.lemmas.List.{get_or-map as get_or-map_in}
-use Rattle.sdd_script_model.specs.Held.{slot_waiting}
-use Rattle.std.specs.List.{flat_map}
-use Rattle.std.proofs.lemmas.List.Elements.{Contains-append_cases, Contains-append_left, Contains-append_right}
 use Rattle.sdd_script_model.proofs.Stocked.{item-there, slot-inside}
 
 -- ---- how often a list names something

@@ -1,5 +1,6 @@
 -- What lets go of a list's first entry, puts one in front, changes a tag, and begins and ends a list, leaves all lists there
-use Rattle.sdd_script_model.proofs.Words.{◌≡◌, ◌≢◌, ◌⊎◌, ◌+◌, ◌≤◌, ◌<◌, inl, inr, length, ℕ, List, [], ◌∷◌, Bool, true, false, Option, Some, None, is_some, slice_index_or, slice_set, refl, sym, ap, ◌∙◌, subst, arith, ◌==◌, if◌then◌else◌, cases_eq, Tag, Second, Both, Entries, IsEmptyAt, entry_at, CellContents, Claim, right_to, IsLedger, inside as inner, World, standing_at, value_at, held_in, nulled, with_cell, with_value, without_cell, IsAmong, Apart, AreLinked, Entry, IsList, first_slot, let_go_first, linked_in, retagged, linked-ends, list-apart, list-without, bare, behind, list-same, retagged-list, KeepsGone, gone-same, gone-then, gone-written, let-go-kept, other-free, other-tag, second-kept, IsSecond, AreNumbers, Begins, HasLists, HoldsEntry, IsListed, IsLoose, IsNumber, Val, body_of, holdings_of, link_of, pushed, gone-first, no_tag, common_steps}
+use Rattle.sdd_script_model.proofs.Words.{◌≡◌, ◌≢◌, ◌⊎◌, ◌+◌, ◌≤◌, ◌<◌, inl, inr, length, ℕ, List, [], ◌∷◌, Bool, true, false, Option, Some, None, is_some, slice_index_or, slice_set, refl, sym, ap, ◌∙◌, subst, arith, ◌==◌, if◌then◌else◌, cases_eq, Tag, Second, Both, Entries, IsEmptyAt, entry_at, CellContents, Claim, right_to, IsLedger, inside as inner, World, standing_at, value_at, held_in, nulled, with_cell, with_value, without_cell, IsAmong, Apart, AreLinked, Entry, IsList, first_slot, let_go_first, linked_in, retagged, linked-ends, list-apart, list-without, bare, behind, list-same, retagged-list, KeepsGone, gone-same, gone-then, gone-written, let-go-kept, other-free, other-tag, second-kept, IsSecond, AreNumbers, Begins, HasLists, HoldsEntry, IsListed, IsLoose, IsNumber, Val, body_of, holdings_of, link_of, pushed, gone-first, common_steps}
+use Rattle.sdd_core.specs.declared.tag.Tag.TheVariants.{None as no_tag}
 use Rattle.sdd_script_model.proofs.Entry.{at-other, at-same, inside, set-either}
 use Rattle.sdd_script_model.proofs.Links.{null}
 use Rattle.sdd_script_model.proofs.Listed.{AreOwn, StaysGone, StaysLoose, still-among, link-inside, IsAsBefore, among-link, apart-item, apart-own, as-before, has-changed, has-kept, held-by, link-apart, links-apart, loose-as, loose-on, same-list}

@@ -1,5 +1,6 @@
 -- What is always true of a desk is true after each line on a queue, but for a push
-use Rattle.sdd_script_model.proofs.Words.{◌≡◌, ◌≢◌, ◌⊎◌, ◌+◌, ◌<◌, ◌≤◌, inl, inr, ℕ, List, [], ◌∷◌, ◌++◌, Bool, true, false, Option, Some, None, is_some, length, slice_set, refl, sym, ap, ◌∙◌, subst, arith, if◌then◌else◌, cases_eq, IsEmptyAt, entry_at, OwnerOrCell, Claim, owner_of, right_to, one, owner_held, IsLedger, changes_cell, makes_cell, spends_cell, World, IsPlaceOf, value_at, nulled, spilled, with_cell, with_standing, without_cell, IsWhole, ledger-laws, Entry, emptied, IsQueue, IsSecond, QueueCells, cell_emptied, cell_left, lets_go_of, queue_closed, list-apart, list-without, spilled-cells, spilled-values, list-same, IsStored, AreNumbers, Begins, HasLists, HoldsEntry, IsNumber, DrainsQueue, IsNamedQueue, TakesOldest, ScriptState, IsListCell, IsSecondCell, holding_at, in_world, shared_cell, with_owner, with_queue, IsSound, contained, named, stacked, Val, body_of, holdings_of, link_of, without_queue, no_tag, common_steps}
+use Rattle.sdd_script_model.proofs.Words.{◌≡◌, ◌≢◌, ◌⊎◌, ◌+◌, ◌<◌, ◌≤◌, inl, inr, ℕ, List, [], ◌∷◌, ◌++◌, Bool, true, false, Option, Some, None, is_some, length, slice_set, refl, sym, ap, ◌∙◌, subst, arith, if◌then◌else◌, cases_eq, IsEmptyAt, entry_at, OwnerOrCell, Claim, owner_of, right_to, one, owner_held, IsLedger, changes_cell, makes_cell, spends_cell, World, IsPlaceOf, value_at, nulled, spilled, with_cell, with_standing, without_cell, IsWhole, ledger-laws, Entry, emptied, IsQueue, IsSecond, QueueCells, cell_emptied, cell_left, lets_go_of, queue_closed, list-apart, list-without, spilled-cells, spilled-values, list-same, IsStored, AreNumbers, Begins, HasLists, HoldsEntry, IsNumber, DrainsQueue, IsNamedQueue, TakesOldest, ScriptState, IsListCell, IsSecondCell, holding_at, in_world, shared_cell, with_owner, with_queue, IsSound, contained, named, stacked, Val, body_of, holdings_of, link_of, without_queue, common_steps}
+use Rattle.sdd_core.specs.declared.tag.Tag.TheVariants.{None as no_tag}
 use Rattle.sdd_script_model.proofs.Lemmas.{left-entry, pushed-entry, AtHome, IsMidway, LeavesSound, are-own, at_home-given, at_home-spent, finishes, left-apart, list-apart-from, midway-as, moves, own-midway, shares-one, leaves-with, same-line, stacked-right, stacked-twice, tells, some-holding, stack-given, stack-spent, dated-same, at-other, at-pushed, Frames, frames-on, frames-start, quiet-less, null, same-once, AreOwn, apart-own, same-list, has-begun, has-ended, has-same, has-seconds, spare-on, stays-on, starts, owner-given, inside as inside-list}
 use Rattle.sdd_script_model.proofs.StackChains.{IsSingle, IsWith, between, empties, goes-on, in-front, midway, removed-value, removes, spills-between, trims}
 use Rattle.sdd_script_model.proofs.StackGoing.{IsDatedWithin, dated-all}

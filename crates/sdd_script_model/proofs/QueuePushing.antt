@@ -1,5 +1,6 @@
 -- What is always true of a desk is true after a push onto a queue: an item is made, and then put behind the last entry
-use Rattle.sdd_script_model.proofs.Words.{◌≡◌, ◌≢◌, ◌⊎◌, ◌+◌, ◌<◌, inl, inr, ℕ, List, [], ◌∷◌, ◌++◌, Option, Some, None, is_some, length, slice_index_or, slice_set, refl, sym, ap, ◌∙◌, subst, arith, max, cases_eq, set-set, Tag, Entries, entry_at, CellContents, Standing, Owned, Shared, Claim, owner_of, right_to, one, changes_cell, shares, World, IsPlaceOf, standing_at, value_at, held_in, made_as, nulled, spilled, with_cell, with_standing, IsWhole, ledger-laws, IsAmong, appended, end_of, through_last, Apart, AreLinked, Entry, IsList, IsSecond, QueueCells, among-last, appended-other, put-values, list-apart, spilled-cells, spilled-values, KeepsGone, gone-appended, gone-same, gone-then, gone-written, let-go-kept, other-tag, list-same, IsStored, AreNumbers, Begins, HasLists, IsListed, IsLoose, Enqueues, IsNamedQueue, ScriptState, IsListCell, IsSecondCell, IsSound, contained, named, Val, holdings_of, link_of, no_tag}
+use Rattle.sdd_script_model.proofs.Words.{◌≡◌, ◌≢◌, ◌⊎◌, ◌+◌, ◌<◌, inl, inr, ℕ, List, [], ◌∷◌, ◌++◌, Option, Some, None, is_some, length, slice_index_or, slice_set, refl, sym, ap, ◌∙◌, subst, arith, max, cases_eq, set-set, Tag, Entries, entry_at, CellContents, Standing, Owned, Shared, Claim, owner_of, right_to, one, changes_cell, shares, World, IsPlaceOf, standing_at, value_at, held_in, made_as, nulled, spilled, with_cell, with_standing, IsWhole, ledger-laws, IsAmong, appended, end_of, through_last, Apart, AreLinked, Entry, IsList, IsSecond, QueueCells, among-last, appended-other, put-values, list-apart, spilled-cells, spilled-values, KeepsGone, gone-appended, gone-same, gone-then, gone-written, let-go-kept, other-tag, list-same, IsStored, AreNumbers, Begins, HasLists, IsListed, IsLoose, Enqueues, IsNamedQueue, ScriptState, IsListCell, IsSecondCell, IsSound, contained, named, Val, holdings_of, link_of}
+use Rattle.sdd_core.specs.declared.tag.Tag.TheVariants.{None as no_tag}
 use Rattle.sdd_script_model.proofs.Lemmas.{IsMidway, LeavesSound, are-own, stacked-right, stacked-twice, at-other, at-same, null, same-once, StaysGone, AreOwn, apart-item, apart-own, has-changed, held-by, link-apart, links-apart, loose-as, same-list, among-or, off-link, off-other, owner-given, inside as inside-list}
 use Rattle.sdd_script_model.proofs.QueueEnds.{among-before, among-either, among-through, dropped, numbers-last, numbers-through, put-last}
 use Rattle.sdd_script_model.proofs.QueueGoing.{bare, bare-lists, bare-was, first-single, in-hand, its-numbers, second-back}

@@ -1,5 +1,6 @@
 -- What a line on a queue gives a participant: what it lets go of waits there, and nothing else of the time changes
-use Rattle.sdd_script_model.proofs.Words.{◌+◌, ◌<◌, ℕ, List, Bool, true, false, Option, Some, None, length, refl, sym, subst, if◌then◌else◌, Shared, World, standing_at, made_as, nulled, spilled, with_cell, with_standing, without_cell, Gives, Gives-owner_given, Gives-range, End, end_of, Entry, QueueCells, cell_emptied, cell_left, lets_go_of, queue_closed, DrainsQueue, Enqueues, TakesOldest, Val, link_of, IsEnqueued, no_tag}
+use Rattle.sdd_script_model.proofs.Words.{◌+◌, ◌<◌, ℕ, List, Bool, true, false, Option, Some, None, length, refl, sym, subst, if◌then◌else◌, Shared, World, standing_at, made_as, nulled, spilled, with_cell, with_standing, without_cell, Gives, Gives-owner_given, Gives-range, End, end_of, Entry, QueueCells, cell_emptied, cell_left, lets_go_of, queue_closed, DrainsQueue, Enqueues, TakesOldest, Val, link_of, IsEnqueued}
+use Rattle.sdd_core.specs.declared.tag.Tag.TheVariants.{None as no_tag}
 use Rattle.sdd_script_model.proofs.StackTurns.{gives-emptied, gives-nothing, gives-removed, gives-then, gives-trimmed}
 
 module _ (p : ℕ) where

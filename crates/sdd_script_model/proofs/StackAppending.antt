@@ -1,5 +1,6 @@
 -- What is always true of a desk is true after a number is put behind a stack's entries, which the stack alone owns
-use Rattle.sdd_script_model.proofs.Words.{◌≡◌, ◌≢◌, ◌⊎◌, ◌+◌, inl, inr, ℕ, List, [], ◌∷◌, ◌++◌, Option, Some, None, slice_index_or, refl, sym, ap, ◌∙◌, subst, arith, max, cases_eq, set-set, Tag, Entries, entry_at, Standing, Owned, Shared, Claim, owner_of, one, shares, World, IsPlaceOf, standing_at, value_at, held_in, owner_given, with_standing, IsWhole, ledger-laws, IsAmong, appended, end_of, through_last, Apart, Entry, IsList, among-last, appended-other, put-values, KeepsGone, gone-appended, gone-same, gone-then, let-go-kept, bare, list-same, IsStored, AreNumbers, Begins, HasLists, IsListed, IsLoose, Appends, IsStack, ScriptState, IsListCell, IsSecondCell, IsSound, contained, named, Val, holdings_of, link_of, no_tag}
+use Rattle.sdd_script_model.proofs.Words.{◌≡◌, ◌≢◌, ◌⊎◌, ◌+◌, inl, inr, ℕ, List, [], ◌∷◌, ◌++◌, Option, Some, None, slice_index_or, refl, sym, ap, ◌∙◌, subst, arith, max, cases_eq, set-set, Tag, Entries, entry_at, Standing, Owned, Shared, Claim, owner_of, one, shares, World, IsPlaceOf, standing_at, value_at, held_in, owner_given, with_standing, IsWhole, ledger-laws, IsAmong, appended, end_of, through_last, Apart, Entry, IsList, among-last, appended-other, put-values, KeepsGone, gone-appended, gone-same, gone-then, let-go-kept, bare, list-same, IsStored, AreNumbers, Begins, HasLists, IsListed, IsLoose, Appends, IsStack, ScriptState, IsListCell, IsSecondCell, IsSound, contained, named, Val, holdings_of, link_of}
+use Rattle.sdd_core.specs.declared.tag.Tag.TheVariants.{None as no_tag}
 use Rattle.sdd_script_model.proofs.Lemmas.{IsMidway, are-own, stacked-right, same-once, AreOwn, StaysGone, apart-item, apart-own, has-changed, held-by, link-apart, links-apart, loose-as, same-list, among-or, off-link, off-other, starts, owner-given}
 use Rattle.sdd_script_model.proofs.QueueEnds.{among-before, among-either, among-through, dropped, numbers-last, numbers-through, put-last}
 use Rattle.sdd_script_model.proofs.QueuePushing.{linked-where}

@@ -1,5 +1,6 @@
 -- What is always true of a desk is true after each line on a stack
-use Rattle.sdd_script_model.proofs.Words.{◌≡◌, ◌≢◌, ◌⊎◌, ◌+◌, ◌<◌, ◌≤◌, inl, inr, ℕ, List, [], ◌∷◌, ◌++◌, Option, Some, None, is_some, length, slice_index_or, slice_set, refl, sym, ap, ◌∙◌, subst, arith, if◌then◌else◌, zero, suc, cases_lt, IsEmptyAt, Standing, is_waiting, OwnerOrCell, Claim, owner_of, right_to, one, IsLedger, makes_cell, spends_cell, World, IsPlaceOf, standing_at, value_at, nulled, with_standing, IsWhole, Entry, emptied, IsStored, AreNumbers, IsNumber, ScriptState, IsDated, IsListCell, IsSecondCell, date_at, holding_at, in_world, shared_cell, with_owner, with_stack, IsSound, SlotsHaveNames, contained, named, IsStack, Takes, stack_closed, Val, body_of, holdings_of, link_of, ledger-laws, list-same, without_stack, Drains, no_tag, common_steps}
+use Rattle.sdd_script_model.proofs.Words.{◌≡◌, ◌≢◌, ◌⊎◌, ◌+◌, ◌<◌, ◌≤◌, inl, inr, ℕ, List, [], ◌∷◌, ◌++◌, Option, Some, None, is_some, length, slice_index_or, slice_set, refl, sym, ap, ◌∙◌, subst, arith, if◌then◌else◌, zero, suc, cases_lt, IsEmptyAt, Standing, is_waiting, OwnerOrCell, Claim, owner_of, right_to, one, IsLedger, makes_cell, spends_cell, World, IsPlaceOf, standing_at, value_at, nulled, with_standing, IsWhole, Entry, emptied, IsStored, AreNumbers, IsNumber, ScriptState, IsDated, IsListCell, IsSecondCell, date_at, holding_at, in_world, shared_cell, with_owner, with_stack, IsSound, SlotsHaveNames, contained, named, IsStack, Takes, stack_closed, Val, body_of, holdings_of, link_of, ledger-laws, list-same, without_stack, Drains, common_steps}
+use Rattle.sdd_core.specs.declared.tag.Tag.TheVariants.{None as no_tag}
 use Rattle.sdd_script_model.proofs.Lemmas.{left-entry, AtHome, IsMidway, LeavesSound, at_home-given, at_home-spent, finishes, left-apart, list-apart-from, list-right, own-midway, leaves-with, same-line, shares-one, stacked-right, Frames, frames-on, quiet-less, tells, some-holding, stack-given, stack-spent, dated-same, at-other, at-pushed, null, same-once, same-list, has-begun, has-ended, spare-on, stays-on, starts, owner-given, inside as inside-list}
 use Rattle.sdd_script_model.proofs.StackChains.{IsSingle, IsWith, between, empties, goes-on, in-front, removed-value, removes, trims}
 use Rattle.sdd_participants.specs.declared.standing.Standing.TheVariants as standing

@@ -1,5 +1,6 @@
 -- All entries of a stack go to a new one, and what the script's desk is then
-use Rattle.sdd_script_model.proofs.Words.{◌≡◌, ◌≢◌, ◌⊎◌, ◌+◌, inl, inr, ℕ, List, [], Option, Some, None, is_some, length, slice_set, refl, sym, ap, ◌∙◌, subst, arith, cases_eq, get_or_push, length-set, Tag, IsEmptyAt, entry_at, CellContents, OwnerOrCell, Claim, IsLedger, one, right_to, changes_cell, makes_cell, World, IsPlaceOf, value_at, held_in, nulled, IsWhole, once_if, IsAmong, Entry, IsList, first_slot, IsSecond, KeepsGone, gone-then, gone-written, other-free, other-tag, second-kept, IsStored, AreNumbers, Begins, HasLists, ScriptState, IsListCell, IsSecondCell, in_world, shared_cell, with_stack, IsSound, contained, named, IsStack, Val, holdings_of, link_of, poured, linked-set, no_tag, common_steps}
+use Rattle.sdd_script_model.proofs.Words.{◌≡◌, ◌≢◌, ◌⊎◌, ◌+◌, inl, inr, ℕ, List, [], Option, Some, None, is_some, length, slice_set, refl, sym, ap, ◌∙◌, subst, arith, cases_eq, get_or_push, length-set, Tag, IsEmptyAt, entry_at, CellContents, OwnerOrCell, Claim, IsLedger, one, right_to, changes_cell, makes_cell, World, IsPlaceOf, value_at, held_in, nulled, IsWhole, once_if, IsAmong, Entry, IsList, first_slot, IsSecond, KeepsGone, gone-then, gone-written, other-free, other-tag, second-kept, IsStored, AreNumbers, Begins, HasLists, ScriptState, IsListCell, IsSecondCell, in_world, shared_cell, with_stack, IsSound, contained, named, IsStack, Val, holdings_of, link_of, poured, linked-set, common_steps}
+use Rattle.sdd_core.specs.declared.tag.Tag.TheVariants.{None as no_tag}
 use Rattle.sdd_script_model.proofs.Lemmas.{LeavesSound, at_home-given, list-apart-from, own-midway, leaves-with, same-line, stack-given, dated-same, at-other, at-same, null, AreOwn, apart-own, link-apart, link-inside, loose-as, same-list, apart-free, list-beside, off, third, starts}
 use Rattle.sdd_script_model.proofs.StackChains.{IsBetween, between, goes-on}
 use Rattle.sdd_script_model.proofs.StackGoing.{begun-old, begun-or, is-single}

@@ -1,5 +1,6 @@
 -- What is always true of a desk is true after a push: an item is made, and then put into a list; here into a stack
-use Rattle.sdd_script_model.proofs.Words.{◌≡◌, ◌≢◌, ◌+◌, inl, inr, ℕ, List, [], ◌∷◌, Bool, true, false, Option, Some, None, is_some, slice_index_or, refl, sym, ap, ◌∙◌, subst, arith, max, if◌then◌else◌, cases_eq, length-set, set-set, Second, Entries, IsEmptyAt, entry_at, Standing, Owned, Shared, IsSharedBy, is_waiting, OwnerOrCell, Claim, owner_of, one, releases, retires, World, IsPlaceOf, standing_at, value_at, held_in, made_as, nulled, owner_given, with_cell, with_standing, IsWhole, ledger-laws, filled-there, IsAmong, CellContents, Apart, AreLinked, Entry, first_slot, is_deleted, left, let_go_first, linked_in, trimmed, list-same, trim-other, trim-values, Number, IsStored, Begins, IsNumber, ScriptState, IsDated, IsListCell, IsSecondCell, in_world, with_item, with_owner, IsSound, named, named_among, IsStack, Pushes, Val, body_of, holdings_of, link_of, list-made, no_tag, common_steps}
+use Rattle.sdd_script_model.proofs.Words.{◌≡◌, ◌≢◌, ◌+◌, inl, inr, ℕ, List, [], ◌∷◌, Bool, true, false, Option, Some, None, is_some, slice_index_or, refl, sym, ap, ◌∙◌, subst, arith, max, if◌then◌else◌, cases_eq, length-set, set-set, Second, Entries, IsEmptyAt, entry_at, Standing, Owned, Shared, IsSharedBy, is_waiting, OwnerOrCell, Claim, owner_of, one, releases, retires, World, IsPlaceOf, standing_at, value_at, held_in, made_as, nulled, owner_given, with_cell, with_standing, IsWhole, ledger-laws, filled-there, IsAmong, CellContents, Apart, AreLinked, Entry, first_slot, is_deleted, left, let_go_first, linked_in, trimmed, list-same, trim-other, trim-values, Number, IsStored, Begins, IsNumber, ScriptState, IsDated, IsListCell, IsSecondCell, in_world, with_item, with_owner, IsSound, named, named_among, IsStack, Pushes, Val, body_of, holdings_of, link_of, list-made, common_steps}
+use Rattle.sdd_core.specs.declared.tag.Tag.TheVariants.{None as no_tag}
 use Rattle.sdd_script_model.proofs.Lemmas.{keeps-live, AtHome, IsMidway, LeavesSound, finishes, midway-as, moves, owned-apart, shares-one, at-other, at-same, calls-then, given-other, filled-long, null, same-once, apart-free, off, stays-begun, starts, owner-given, inside as inside-list}
 use Rattle.sdd_script_model.proofs.Going.{made-leaves, made-whole}
 use Rattle.sdd_script_model.proofs.StackChains.{IsSingle, IsWith, puts-in, trims}

@@ -1,5 +1,6 @@
 -- What a line on a stack gives a participant: what it lets go of waits there, and nothing else of the time changes
-use Rattle.sdd_script_model.proofs.Words.{◌≡◌, ◌+◌, ◌<◌, ◌++◌, ℕ, List, [], ◌∷◌, Bool, true, false, Option, length, refl, sym, ap, ◌∙◌, subst, if◌then◌else◌, get_or-set_same, set-set, Tag, Second, EpochState, nobody, with_place, Participant, Shared, Item, all_awaiting, World, place_at, standing_at, made_as, nulled, with_cell, with_standing, Gives, Gives-owner_given, Gives-range, Entry, emptied, first_slot, is_deleted, let_go_first, removed, trimmed, Pushes, Takes, stack_closed, Val, link_of, no_tag, common_steps, arith}
+use Rattle.sdd_script_model.proofs.Words.{◌≡◌, ◌+◌, ◌<◌, ◌++◌, ℕ, List, [], ◌∷◌, Bool, true, false, Option, length, refl, sym, ap, ◌∙◌, subst, if◌then◌else◌, get_or-set_same, set-set, Tag, Second, EpochState, nobody, with_place, Participant, Shared, Item, all_awaiting, World, place_at, standing_at, made_as, nulled, with_cell, with_standing, Gives, Gives-owner_given, Gives-range, Entry, emptied, first_slot, is_deleted, let_go_first, removed, trimmed, Pushes, Takes, stack_closed, Val, link_of, common_steps, arith}
+use Rattle.sdd_core.specs.declared.tag.Tag.TheVariants.{None as no_tag}
 use Rattle.sdd_participants.specs.EpochState as time
 
 awaiting-append : (ks js : List ℕ) (x : Participant) → all_awaiting (ks ++ js) x ≡ all_awaiting js (all_awaiting ks x)

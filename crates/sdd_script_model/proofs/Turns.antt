@@ -1,11 +1,7 @@
 -- What a line is: calm, or somebody comes or goes, or a guard is opened or closed
-use Rattle.sdd_script_model.proofs.Words.{set-get_or, PlaceName, GuardName, ItemName, OwnerName, epoch_of, Epoch, CellContents, collected, collector_closed, owner_collected, OwnerOrCell, registered, ended, closed, Gives, Gives-retired, Gives-owner_given, Gives-cell_closed, Gives-dropped, Call, Register, At, Reply, trimmed, queue_closed, shown_of, stack_closed, link_of, cell_in, Collects, caller, is_waiting_in, Drops, IsParticipant, cell_as, shared_once_more, place_of, place_in, is_opening, is_close, is_end, AddsOwner, Does, GivesOwner, IsDrainedOf, IsValid, MakesCell, Meets, PutsIn, TakesOut, inl, inr, LimboEntry, ◌≡◌, ℕ, ◌+◌, ◌-◌, ◌<◌, Bool, true, false, nat_lt, if◌then◌else◌, List, [], ◌∷◌, Option, Some, None, IsSome, length, refl, sym, ap, ◌∙◌, subst, false≢true, Participant, nobody, IsVacant, Shared, World, IsPlaceOf, retired, owner_given, cell_closed, opened, IsWhole, Val, holdings_of, ScriptState, OpenSince, opening_at, no_tag}
-use Rattle.sdd_core.specs.declared.refused.Refused.TheVariants.{NoPlace, NoCell, NoJob, TooManyGuards, GuardOpen, TooManyOwners}
+use Rattle.sdd_script_model.proofs.Words.{set-get_or, PlaceName, GuardName, ItemName, OwnerName, epoch_of, Epoch, CellContents, collected, collector_closed, owner_collected, OwnerOrCell, registered, ended, closed, Gives, Gives-retired, Gives-owner_given, Gives-cell_closed, Gives-dropped, Call, Register, At, Reply, trimmed, queue_closed, shown_of, stack_closed, link_of, cell_in, Collects, caller, is_waiting_in, Drops, IsParticipant, cell_as, shared_once_more, place_of, place_in, is_opening, is_close, is_end, AddsOwner, Does, GivesOwner, IsDrainedOf, IsValid, MakesCell, Meets, PutsIn, TakesOut, inl, inr, LimboEntry, ◌≡◌, ℕ, ◌+◌, ◌-◌, ◌<◌, Bool, true, false, nat_lt, if◌then◌else◌, List, [], ◌∷◌, Option, Some, None, IsSome, length, refl, sym, ap, ◌∙◌, subst, false≢true, Participant, nobody, IsVacant, Shared, World, IsPlaceOf, retired, owner_given, cell_closed, opened, IsWhole, Val, holdings_of, ScriptState, OpenSince, opening_at, Action, GuardOpen, LinkChange, ListName, NoCell, NoJob, NoPlace, Retags, TooManyGuards, TooManyOwners, tag_after}
+use Rattle.sdd_core.specs.declared.tag.Tag.TheVariants.{None as no_tag}
 use Rattle.sdd_script_text.specs.declared.call.Call.TheVariants.{Tally}
-use Rattle.sdd_script_text.specs.declared.call.Action.{Action}
-use Rattle.sdd_script_text.specs.declared.name.ListName.{ListName}
-use Rattle.sdd_script_model.specs.declared.link_change.LinkChange.{LinkChange}
-use Rattle.sdd_script_model.specs.Link.{Retags, tag_after}
 use Rattle.sdd_script_model.proofs.BagTurns.{gives-bag_closed, gives-put, gives-took, gives-without_all}
 use Rattle.sdd_script_model.proofs.CopyTurns.{gives-queue_made, gives-queue_refused, gives-stack_made, gives-stack_refused}
 use Rattle.sdd_script_model.proofs.QueueTurns.{gives-dequeued, gives-enqueued, gives-queue_closed, gives-queue_drained}

@@ -1,7 +1,5 @@
 -- What waits for a collector: in which slots it is, and what it is called
-use Rattle.sdd_script_model.proofs.Words.{IsPermutation, IsNonDecreasingBy, IsStrictlyIncreasing, Contains-get_or, is_for, waiting_for, listed-without, ItemName, ScriptState, IsThere, slot_at, names_in, SlotsHaveNames, not, [], subst, filter, range_with_len, filter_passes, is_private_to, none-taken, slots_waiting_for, ◌≡◌, ℕ, zero, suc, ◌+◌, ◌<◌, ◌≤◌, ◌==◌, Bool, true, false, if◌then◌else◌, List, ◌∷◌, Option, IsSome, map, length, slice_index_or, refl, sym, ap, ◌∙◌, eq-eqb, arith, nat_tests, All, Contains, ◌↔◌, LimboEntry, Item, Standing, is_waiting, IsWhole, is_of_slot, World, standing_at, one_where, times_among, count-cons, some-waits, Val}
-use Rattle.sdd_space.proofs.Listed.{none-left}
-use Rattle.std.proofs.lemmas.List.FromFn.{get_or-range_with_len, length-range_with_len}
+use Rattle.sdd_script_model.proofs.Words.{IsPermutation, IsNonDecreasingBy, IsStrictlyIncreasing, Contains-get_or, is_for, waiting_for, listed-without, ItemName, ScriptState, IsThere, slot_at, names_in, SlotsHaveNames, not, [], subst, filter, range_with_len, filter_passes, is_private_to, none-taken, slots_waiting_for, ◌≡◌, ℕ, zero, suc, ◌+◌, ◌<◌, ◌≤◌, ◌==◌, Bool, true, false, if◌then◌else◌, List, ◌∷◌, Option, IsSome, map, length, slice_index_or, refl, sym, ap, ◌∙◌, eq-eqb, arith, nat_tests, All, Contains, ◌↔◌, LimboEntry, Item, Standing, is_waiting, IsWhole, is_of_slot, World, standing_at, one_where, times_among, count-cons, some-waits, Val, get_or-range_with_len, length-range_with_len, none-left}
 use Rattle.std.proofs.lemmas.List.Filters.{sum_by-filter_both}
 use Rattle.sdd_script_model.proofs.Lemmas.{counted-one, counted-there, names-found, own-slot, times_in, slot-inside}
 

@@ -86,39 +86,64 @@ with_list l g = action.Pop l g ∷ action.Peek l g ∷ action.Len l g ∷ action
 abbrev pub with_list_number : ListName → ℕ → GuardName → List Action
 with_list_number l n g = action.Push l n g ∷ action.PopIf l n g ∷ []
 
+-- the actions with one argument
+abbrev pub with_one : Argument → List Action
+with_one (Number n) = action.Owned (value.Number n) ∷ action.Shared (value.Number n) ∷ []
+with_one (Guard g) = action.Epoch g ∷ action.Garbage g ∷ action.Set g ∷ action.Accelerate g ∷ action.Defer g ∷ action.Close g ∷ []
+with_one (Owner (Some o)) = action.Read o ∷ action.Retire o ∷ action.Release o ∷ action.Clone o ∷ action.Drop o ∷ action.Raw o ∷ []
+with_one (Item (Some i)) = action.Unraw i ∷ action.Mark i ∷ action.Unmark i ∷ action.Delete i ∷ action.LinkTag i ∷ []
+with_one (Cell c) = action.Tag c ∷ action.Into c ∷ action.CloseCell c ∷ []
+with_one (Collector k) = action.CloseCollector k ∷ []
+with_one (Queue q) = action.CloseQueue q ∷ []
+with_one (Stack s) = action.CloseStack s ∷ []
+with_one (Bag b) = action.CloseBag b ∷ []
+with_one argument = []
+
+-- with two
+abbrev pub with_two : Argument → Argument → List Action
+with_two (Queue q) (Guard g) = with_list (list.Queue q) g
+with_two (Stack s) (Guard g) = action.All s g ∷ with_list (list.Stack s) g
+with_two (Bag b) (Guard g) = action.Take b g ∷ action.Drain b g ∷ action.LenBag b g ∷ []
+with_two (Bag b) (Number n) = action.Try b n ∷ []
+with_two (Item (Some i)) (Guard g) = action.Look i g ∷ action.Upgrade i g ∷ action.See i g ∷ action.Next i g ∷ []
+with_two (Owner (Some o)) (Number n) = action.Put o n ∷ []
+with_two (Cell c) (Guard g) = action.Load c g ∷ action.Copy c g ∷ action.Share c g ∷ []
+with_two (Word Of) (Owner (Some o)) = action.Owned (value.Of o) ∷ action.Shared (value.Of o) ∷ []
+with_two (Word Owned) (Owner x) = action.CellOwned x ∷ []
+with_two (Word Shared) (Owner x) = action.CellShared x ∷ []
+with_two first second = []
+
+-- with three
+abbrev pub with_three : Argument → Argument → Argument → List Action
+with_three (Queue q) (Number n) (Guard g) = with_list_number (list.Queue q) n g
+with_three (Stack s) (Number n) (Guard g) = with_list_number (list.Stack s) n g
+with_three (Bag b) (Number n) (Guard g) = action.Add b n g ∷ []
+with_three (Cell c) (Owner x) (Tag t) = action.Swap c x t ∷ []
+with_three (Owner (Some o)) (Guard g) (Collector k) = action.Collect o g k ∷ []
+with_three first second third = []
+
+-- with four
+abbrev pub with_four : Argument → Argument → Argument → Argument → List Action
+with_four (Queue q) (Number n) (Number m) (Guard g) = action.PushIf (list.Queue q) n m g ∷ []
+with_four (Stack s) (Number n) (Number m) (Guard g) = action.PushIf (list.Stack s) n m g ∷ []
+with_four (Cell c) (Tag t) (Word If) (Tag u) = action.TagIf c t u ∷ []
+with_four (Item (Some i)) (Owner (Some o)) (Word Mark) (Guard g) = action.Append i o true g ∷ []
+with_four (Item (Some i)) (Owner (Some o)) (Word Plain) (Guard g) = action.Append i o false g ∷ []
+with_four first second third fourth = []
+
+-- with eight
+abbrev pub with_eight : Argument → Argument → Argument → Argument → Argument → Argument → Argument → Argument → List Action
+with_eight (Cell c) (Guard g) (Word Was) (Item y) (Tag t) (Word Now) (Owner x) (Tag u) = action.Exchange c g y t x u ∷ []
+with_eight first second third fourth fifth sixth seventh eighth = []
+
 -- the actions with these arguments
 abbrev pub with_arguments : List Argument → List Action
 with_arguments [] = action.Open ∷ action.Collector ∷ action.Queue ∷ action.Stack ∷ action.Bag ∷ action.End ∷ []
-with_arguments (Number n ∷ []) = action.Owned (value.Number n) ∷ action.Shared (value.Number n) ∷ []
-with_arguments (Guard g ∷ []) = action.Epoch g ∷ action.Garbage g ∷ action.Set g ∷ action.Accelerate g ∷ action.Defer g ∷ action.Close g ∷ []
-with_arguments (Owner (Some o) ∷ []) = action.Read o ∷ action.Retire o ∷ action.Release o ∷ action.Clone o ∷ action.Drop o ∷ action.Raw o ∷ []
-with_arguments (Item (Some i) ∷ []) = action.Unraw i ∷ action.Mark i ∷ action.Unmark i ∷ action.Delete i ∷ action.LinkTag i ∷ []
-with_arguments (Cell c ∷ []) = action.Tag c ∷ action.Into c ∷ action.CloseCell c ∷ []
-with_arguments (Collector k ∷ []) = action.CloseCollector k ∷ []
-with_arguments (Queue q ∷ []) = action.CloseQueue q ∷ []
-with_arguments (Queue q ∷ Guard g ∷ []) = with_list (list.Queue q) g
-with_arguments (Queue q ∷ Number n ∷ Guard g ∷ []) = with_list_number (list.Queue q) n g
-with_arguments (Queue q ∷ Number n ∷ Number m ∷ Guard g ∷ []) = action.PushIf (list.Queue q) n m g ∷ []
-with_arguments (Stack s ∷ []) = action.CloseStack s ∷ []
-with_arguments (Stack s ∷ Guard g ∷ []) = action.All s g ∷ with_list (list.Stack s) g
-with_arguments (Stack s ∷ Number n ∷ Guard g ∷ []) = with_list_number (list.Stack s) n g
-with_arguments (Stack s ∷ Number n ∷ Number m ∷ Guard g ∷ []) = action.PushIf (list.Stack s) n m g ∷ []
-with_arguments (Bag b ∷ []) = action.CloseBag b ∷ []
-with_arguments (Bag b ∷ Guard g ∷ []) = action.Take b g ∷ action.Drain b g ∷ action.LenBag b g ∷ []
-with_arguments (Bag b ∷ Number n ∷ []) = action.Try b n ∷ []
-with_arguments (Bag b ∷ Number n ∷ Guard g ∷ []) = action.Add b n g ∷ []
-with_arguments (Item (Some i) ∷ Guard g ∷ []) = action.Look i g ∷ action.Upgrade i g ∷ action.See i g ∷ action.Next i g ∷ []
-with_arguments (Owner (Some o) ∷ Number n ∷ []) = action.Put o n ∷ []
-with_arguments (Cell c ∷ Guard g ∷ []) = action.Load c g ∷ action.Copy c g ∷ action.Share c g ∷ []
-with_arguments (Word Of ∷ Owner (Some o) ∷ []) = action.Owned (value.Of o) ∷ action.Shared (value.Of o) ∷ []
-with_arguments (Word Owned ∷ Owner x ∷ []) = action.CellOwned x ∷ []
-with_arguments (Word Shared ∷ Owner x ∷ []) = action.CellShared x ∷ []
-with_arguments (Cell c ∷ Owner x ∷ Tag t ∷ []) = action.Swap c x t ∷ []
-with_arguments (Owner (Some o) ∷ Guard g ∷ Collector k ∷ []) = action.Collect o g k ∷ []
-with_arguments (Cell c ∷ Tag t ∷ Word If ∷ Tag u ∷ []) = action.TagIf c t u ∷ []
-with_arguments (Item (Some i) ∷ Owner (Some o) ∷ Word Mark ∷ Guard g ∷ []) = action.Append i o true g ∷ []
-with_arguments (Item (Some i) ∷ Owner (Some o) ∷ Word Plain ∷ Guard g ∷ []) = action.Append i o false g ∷ []
-with_arguments (Cell c ∷ Guard g ∷ Word Was ∷ Item y ∷ Tag t ∷ Word Now ∷ Owner x ∷ Tag u ∷ []) = action.Exchange c g y t x u ∷ []
+with_arguments (a ∷ []) = with_one a
+with_arguments (a ∷ b ∷ []) = with_two a b
+with_arguments (a ∷ b ∷ c ∷ []) = with_three a b c
+with_arguments (a ∷ b ∷ c ∷ d ∷ []) = with_four a b c d
+with_arguments (a ∷ b ∷ c ∷ d ∷ e ∷ f ∷ g ∷ h ∷ []) = with_eight a b c d e f g h
 with_arguments arguments = []
 
 -- the first of the actions with this verb

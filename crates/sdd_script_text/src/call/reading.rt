@@ -4,7 +4,7 @@ ghost use Rattle.std.specs.Prelude.{◌≡◌, [], ◌∷◌, ◌<◌, Some, IfS
 ghost use Rattle.std.specs.List.{AllByRecursion};
 ghost use Rattle.std.specs.Fmt.{decimal};
 ghost use Rattle.sdd_script_text.specs.Call.{IsNumber, HasNumber, word_of, spoken, HasNumbers, words, words_of};
-ghost use Rattle.sdd_script_text.specs.Reading.{IsNumberOf, numbered_at, argument_at, numbered_argument_at, few_arguments_at, with_arguments, with_list, with_list_number, called, action_at, call_at};
+ghost use Rattle.sdd_script_text.specs.Reading.{IsNumberOf, numbered_at, argument_at, numbered_argument_at, few_arguments_at, with_arguments, with_four, with_list, with_list_number, with_one, with_three, with_two, called, action_at, call_at};
 
 use super::arguments::Arguments;
 use super::{Action, Argument, Call, Value, Word};
@@ -130,7 +130,7 @@ fn spoken(verb: &str, arguments: &[Argument]) -> Option<Action>
 
 /// The verbs with a number.
 fn with_number(verb: &str, number: u64) -> Option<Action>
-    ensures { result ≡ called verb.now (with_arguments (Argument.Number number ∷ [])) }
+    ensures { result ≡ called verb.now (with_one (Argument.Number number)) }
 {
     match verb {
         "owned" => Some(Action::Owned(Value::Number(number))),
@@ -141,7 +141,7 @@ fn with_number(verb: &str, number: u64) -> Option<Action>
 
 /// The verbs with a guard.
 fn with_guard(verb: &str, guard: GuardName) -> Option<Action>
-    ensures { result ≡ called verb.now (with_arguments (Argument.Guard guard ∷ [])) }
+    ensures { result ≡ called verb.now (with_one (Argument.Guard guard)) }
 {
     match verb {
         "epoch" => Some(Action::Epoch(guard)),
@@ -156,7 +156,7 @@ fn with_guard(verb: &str, guard: GuardName) -> Option<Action>
 
 /// The verbs with an owner.
 fn with_owner(verb: &str, owner: OwnerName) -> Option<Action>
-    ensures { result ≡ called verb.now (with_arguments (Argument.Owner (Some owner) ∷ [])) }
+    ensures { result ≡ called verb.now (with_one (Argument.Owner (Some owner))) }
 {
     match verb {
         "read" => Some(Action::Read(owner)),
@@ -171,7 +171,7 @@ fn with_owner(verb: &str, owner: OwnerName) -> Option<Action>
 
 /// The verbs with a cell.
 fn with_cell(verb: &str, cell: CellName) -> Option<Action>
-    ensures { result ≡ called verb.now (with_arguments (Argument.Cell cell ∷ [])) }
+    ensures { result ≡ called verb.now (with_one (Argument.Cell cell)) }
 {
     match verb {
         "tag" => Some(Action::Tag(cell)),
@@ -183,7 +183,7 @@ fn with_cell(verb: &str, cell: CellName) -> Option<Action>
 
 /// The verbs with an item.
 fn with_item(verb: &str, item: ItemName) -> Option<Action>
-    ensures { result ≡ called verb.now (with_arguments (Argument.Item (Some item) ∷ [])) }
+    ensures { result ≡ called verb.now (with_one (Argument.Item (Some item))) }
 {
     match verb {
         "unraw" => Some(Action::Unraw(item)),
@@ -197,7 +197,7 @@ fn with_item(verb: &str, item: ItemName) -> Option<Action>
 
 /// The verbs with one argument.
 fn with_one(verb: &str, argument: Argument) -> Option<Action>
-    ensures { result ≡ called verb.now (with_arguments (argument ∷ [])) }
+    ensures { result ≡ called verb.now (with_one argument) }
 {
     match argument {
         Argument::Number(number) => with_number(verb, number),
@@ -252,7 +252,7 @@ fn with_list_number(verb: &str, list: ListName, number: u64, guard: GuardName) -
 
 /// The verbs with a bag and a guard.
 fn with_bag(verb: &str, bag: BagName, guard: GuardName) -> Option<Action>
-    ensures { result ≡ called verb.now (with_arguments (Argument.Bag bag ∷ Argument.Guard guard ∷ [])) }
+    ensures { result ≡ called verb.now (with_two (Argument.Bag bag) (Argument.Guard guard)) }
 {
     match verb {
         "take" => Some(Action::Take(bag, guard)),
@@ -264,7 +264,7 @@ fn with_bag(verb: &str, bag: BagName, guard: GuardName) -> Option<Action>
 
 /// The verbs with a guard behind another argument.
 fn with_guard_behind(verb: &str, first: Argument, guard: GuardName) -> Option<Action>
-    ensures { result ≡ called verb.now (with_arguments (first ∷ Argument.Guard guard ∷ [])) }
+    ensures { result ≡ called verb.now (with_two first (Argument.Guard guard)) }
 {
     match first {
         Argument::Item(Some(item)) => match verb {
@@ -292,7 +292,7 @@ fn with_guard_behind(verb: &str, first: Argument, guard: GuardName) -> Option<Ac
 
 /// The verbs with a word behind which an owner, or `none`, stands.
 fn with_owner_behind(verb: &str, word: Word, held: Option<OwnerName>) -> Option<Action>
-    ensures { result ≡ called verb.now (with_arguments (Argument.Word word ∷ Argument.Owner held ∷ [])) }
+    ensures { result ≡ called verb.now (with_two (Argument.Word word) (Argument.Owner held)) }
 {
     match word {
         Word::Of => {
@@ -317,7 +317,7 @@ fn with_owner_behind(verb: &str, word: Word, held: Option<OwnerName>) -> Option<
 
 /// The verbs with two arguments.
 fn with_two(verb: &str, first: Argument, second: Argument) -> Option<Action>
-    ensures { result ≡ called verb.now (with_arguments (first ∷ second ∷ [])) }
+    ensures { result ≡ called verb.now (with_two first second) }
 {
     match second {
         Argument::Guard(guard) => with_guard_behind(verb, first, guard),
@@ -342,7 +342,7 @@ fn with_two(verb: &str, first: Argument, second: Argument) -> Option<Action>
 
 /// The verbs with three arguments.
 fn with_three(verb: &str, first: Argument, second: Argument, third: Argument) -> Option<Action>
-    ensures { result ≡ called verb.now (with_arguments (first ∷ second ∷ third ∷ [])) }
+    ensures { result ≡ called verb.now (with_three first second third) }
 {
     match (first, second, third) {
         (Argument::Cell(cell), Argument::Owner(held), Argument::Tag(tag)) => match verb {
@@ -376,8 +376,7 @@ fn with_entry(
     word: Word,
     guard: GuardName,
 ) -> Option<Action>
-    ensures { result ≡ called verb.now (with_arguments (Argument.Item (Some item) ∷ Argument.Owner (Some owner)
-        ∷ Argument.Word word ∷ Argument.Guard guard ∷ [])) }
+    ensures { result ≡ called verb.now (with_four (Argument.Item (Some item)) (Argument.Owner (Some owner)) (Argument.Word word) (Argument.Guard guard)) }
 {
     match word {
         Word::Mark => match verb {
@@ -400,7 +399,7 @@ fn with_four(
     third: Argument,
     fourth: Argument,
 ) -> Option<Action>
-    ensures { result ≡ called verb.now (with_arguments (first ∷ second ∷ third ∷ fourth ∷ [])) }
+    ensures { result ≡ called verb.now (with_four first second third fourth) }
 {
     match (first, second, third, fourth) {
         (Argument::Cell(cell), Argument::Tag(tag), Argument::Word(Word::If), Argument::Tag(old)) =>

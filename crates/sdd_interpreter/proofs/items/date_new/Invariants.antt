@@ -1,5 +1,4 @@
-use Rattle.std.proofs.Common.{◌≡◌, ◌<◌, ◌≤◌, ℕ, length, slice_index}
-use Rattle.sdd_interpreter.specs.Environment.{date_now}
+use Rattle.sdd_interpreter.proofs.Words.{date_now, length, slice_index, ℕ, ◌<◌, ◌≡◌, ◌≤◌}
 use Rattle.sdd_interpreter.proofs.items.date_new.Given as goal
 
 abbrev pub invariant-loop-slot : goal.invariant-loop-slot

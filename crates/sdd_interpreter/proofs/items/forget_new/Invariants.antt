@@ -1,5 +1,4 @@
-use Rattle.sdd_interpreter.proofs.Words.{◌≡◌, ◌<◌, ◌≤◌, ℕ, false, None, is_some, if◌then◌else◌, length, slice_index_or, standing_at}
-use Rattle.std.specs.Prelude.{◌&&◌}
+use Rattle.sdd_interpreter.proofs.Words.{◌≡◌, ◌<◌, ◌≤◌, ℕ, false, None, is_some, if◌then◌else◌, length, slice_index_or, standing_at, ◌&&◌}
 use Rattle.sdd_interpreter.proofs.items.forget_new.Given as goal
 
 abbrev pub invariant-loop-slot : goal.invariant-loop-slot

@@ -1,5 +1,4 @@
-use Rattle.sdd_interpreter.proofs.Words.{◌≡◌, ◌<◌, ◌≤◌, ℕ, false, is_some, length, slice_index_or, vec_capacity, standing_at}
-use Rattle.std.specs.Prelude.{not}
+use Rattle.sdd_interpreter.proofs.Words.{◌≡◌, ◌<◌, ◌≤◌, ℕ, false, is_some, length, slice_index_or, vec_capacity, standing_at, not}
 use Rattle.sdd_interpreter.proofs.items.free_by_slot.Given as goal
 
 abbrev pub invariant-loop-slot : goal.invariant-loop-slot

@@ -1,5 +1,4 @@
-use Rattle.sdd_interpreter.proofs.Words.{◌≡◌, ℕ, ◌+◌, ◌<◌, List, [], ◌∷◌, ◌++◌, Option, Some, length, slice_index_or, slice_set, take, sym, ap, ◌∙◌, append_assoc, arith, rules, length-append, take_more, names_from}
-use Rattle.sdd_script_model.proofs.Filling.{names-last}
+use Rattle.sdd_interpreter.proofs.Words.{◌≡◌, ℕ, ◌+◌, ◌<◌, List, [], ◌∷◌, ◌++◌, Option, Some, length, slice_index_or, slice_set, take, sym, ap, ◌∙◌, append_assoc, arith, rules, length-append, take_more, names_from, names-last}
 use Rattle.sdd_interpreter.proofs.items.name_all.Goals as goal
 
 pub loop-slot-preserved : goal.loop-slot-preserved

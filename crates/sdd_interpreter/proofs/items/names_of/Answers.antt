@@ -1,9 +1,4 @@
-use Rattle.sdd_interpreter.proofs.Words.{◌≡◌, ℕ, ◌+◌, ◌<◌, List, [], ◌∷◌, ◌++◌, None, Option, Some, Global, length, slice_index_or, take, sym, ap, ◌∙◌, arith, rules, option_map, take_more, ItemName, names_in}
-use Rattle.std.proofs.Common.{Vec, append-nil}
-use Rattle.std.specs.List.{cons_option}
-use Rattle.std.proofs.lemmas.List.{length_push}
-use Rattle.std.proofs.lemmas.List.Elements.{filter_map-append}
-use Rattle.sdd_script_model.specs.Shown.{named_in}
+use Rattle.sdd_interpreter.proofs.Words.{◌≡◌, ℕ, ◌+◌, ◌<◌, List, [], ◌∷◌, ◌++◌, None, Option, Some, Global, length, slice_index_or, take, sym, ap, ◌∙◌, arith, rules, option_map, take_more, ItemName, names_in, Vec, append-nil, cons_option, filter_map-append, length_push, named_in}
 use Rattle.sdd_interpreter.proofs.items.names_of.Goals.{in-Some, in_default}
 use Rattle.sdd_interpreter.proofs.items.names_of.Goals as goal
 

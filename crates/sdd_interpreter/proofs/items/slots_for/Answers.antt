@@ -1,9 +1,4 @@
-use Rattle.std.proofs.Common.{◌≡◌, ℕ, ◌+◌, Bool, true, false, if◌then◌else◌, [], ◌∷◌, ◌++◌, sym, ap, ◌∙◌, arith, Vec, Global}
-use Rattle.std.specs.List.{filter, range_with_len}
-use Rattle.std.proofs.lemmas.List.{append-nil, map-id}
-use Rattle.std.proofs.lemmas.List.FromFn.{filter_of_map_range_with_len_more}
-use Rattle.sdd_participants.specs.Collecting.{is_private_to}
-use Rattle.sdd_space.specs.World.{standing_at}
+use Rattle.sdd_interpreter.proofs.Words.{Bool, Global, Vec, [], ap, append-nil, arith, false, filter, filter_of_map_range_with_len_more, if◌then◌else◌, is_private_to, map-id, range_with_len, standing_at, sym, true, ℕ, ◌++◌, ◌+◌, ◌∙◌, ◌∷◌, ◌≡◌}
 use Rattle.sdd_interpreter.proofs.items.slots_for.Goals.{then-waits_for+in_ok-push, else-waits_for}
 use Rattle.sdd_interpreter.proofs.items.slots_for.Goals as goal
 

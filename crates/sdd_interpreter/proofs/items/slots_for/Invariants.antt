@@ -1,5 +1,4 @@
-use Rattle.std.proofs.Common.{◌≡◌}
-use Rattle.sdd_script_model.specs.Held.{slots_waiting_for}
+use Rattle.sdd_interpreter.proofs.Words.{slots_waiting_for, ◌≡◌}
 use Rattle.sdd_interpreter.proofs.items.slots_for.Given as goal
 
 abbrev pub invariant-loop-slot : goal.invariant-loop-slot

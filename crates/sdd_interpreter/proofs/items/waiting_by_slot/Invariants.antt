@@ -1,5 +1,4 @@
-use Rattle.sdd_interpreter.proofs.Words.{◌≡◌, ◌<◌, ◌≤◌, ℕ, false, length, slice_index_or, vec_capacity, standing_at}
-use Rattle.sdd_standings.specs.Slots.{is_waiting}
+use Rattle.sdd_interpreter.proofs.Words.{◌≡◌, ◌<◌, ◌≤◌, ℕ, false, length, slice_index_or, vec_capacity, standing_at, is_waiting}
 use Rattle.sdd_interpreter.proofs.items.waiting_by_slot.Given as goal
 
 abbrev pub invariant-loop-slot : goal.invariant-loop-slot

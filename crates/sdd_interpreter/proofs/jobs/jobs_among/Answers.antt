@@ -1,5 +1,4 @@
-use Rattle.std.proofs.lemmas.List.Sorted.{IsNonDecreasingBy-from_sort}
-use Rattle.sdd_script_text.specs.declared.name.JobName.{JobName}
+use Rattle.sdd_interpreter.proofs.Words.{IsNonDecreasingBy-from_sort, JobName}
 use Rattle.sdd_interpreter.proofs.jobs.jobs_among.Goals as goal
 
 pub returns-clause-named : goal.returns-clause-named

@@ -1,5 +1,4 @@
-use Rattle.std.proofs.Common.{◌≡◌, ◌≤◌, map, length, take, vec_capacity}
-use Rattle.sdd_script_model.specs.Shown.{job_in}
+use Rattle.sdd_interpreter.proofs.Words.{job_in, length, map, take, vec_capacity, ◌≡◌, ◌≤◌}
 use Rattle.sdd_interpreter.proofs.jobs.jobs_of.Given as goal
 
 abbrev pub invariant-loop-place : goal.invariant-loop-place

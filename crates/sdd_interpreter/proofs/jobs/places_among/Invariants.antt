@@ -1,5 +1,4 @@
-use Rattle.std.proofs.Common.{◌≡◌, ◌≤◌, length, take, vec_capacity}
-use Rattle.sdd_script_model.specs.Held.{places_among}
+use Rattle.sdd_interpreter.proofs.Words.{length, places_among, take, vec_capacity, ◌≡◌, ◌≤◌}
 use Rattle.sdd_interpreter.proofs.jobs.places_among.Given as goal
 
 abbrev pub invariant-loop-what : goal.invariant-loop-what

@@ -1,6 +1,4 @@
-use Rattle.sdd_script.proofs.Words.{rules, Answers, desk_of}
-use Rattle.sdd_script_model.specs.ScriptState.{later}
-use Rattle.sdd_script_model.proofs.Going.{sound-later}
+use Rattle.sdd_script.proofs.Words.{rules, Answers, desk_of, later, sound-later}
 use Rattle.sdd_script.proofs.line.step.Goals as goal
 
 pub returns : goal.returns

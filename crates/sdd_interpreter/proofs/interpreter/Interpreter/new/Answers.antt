@@ -1,4 +1,4 @@
-use Rattle.std.proofs.Common.{refl, arith}
+use Rattle.sdd_interpreter.proofs.Words.{arith, refl}
 use Rattle.sdd_interpreter.proofs.Acts.{tied-start}
 use Rattle.sdd_interpreter.proofs.interpreter.Interpreter.new.Goals as goal
 

@@ -1,5 +1,4 @@
-use Rattle.std.proofs.Common.{vec_len}
-use Rattle.std.proofs.Common.{◌≡◌, ℕ, None, slice_index_or}
+use Rattle.sdd_interpreter.proofs.Words.{None, slice_index_or, vec_len, ℕ, ◌≡◌}
 use Rattle.sdd_interpreter.proofs.name_table.NameTable.destroy_spent.Given as goal
 
 abbrev pub decreases-loop-entry : goal.decreases-loop-entry

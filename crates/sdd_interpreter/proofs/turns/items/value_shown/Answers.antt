@@ -1,5 +1,4 @@
-use Rattle.sdd_interpreter.proofs.Words.{[], ◌∷◌, sym, ap, ◌∙◌, World, Val, link_holding, owner_in}
-use Rattle.sdd_lists.specs.Entries.{value_of}
+use Rattle.sdd_interpreter.proofs.Words.{[], ◌∷◌, sym, ap, ◌∙◌, World, Val, link_holding, owner_in, value_of}
 use Rattle.sdd_space.proofs.Composed.{rest-of}
 use Rattle.sdd_interpreter.proofs.turns.items.value_shown.Goals as goal
 

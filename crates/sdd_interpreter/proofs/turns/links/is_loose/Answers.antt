@@ -1,8 +1,5 @@
-use Rattle.sdd_interpreter.proofs.Words.{◌≡◌, ℕ, Option, None, Some, sym, ap, ◌∙◌, subst, rules, IsTrue, entry_at, CellContents, World, value_at, held_in, IsNumber, Val, body_of, link_of, Body, Number}
-use Rattle.std.proofs.Common.{◌↔◌}
-use Rattle.sdd_core.specs.declared.tag.Tag.{Tag}
+use Rattle.sdd_interpreter.proofs.Words.{◌≡◌, ℕ, Option, None, Some, sym, ap, ◌∙◌, subst, rules, IsTrue, entry_at, CellContents, World, value_at, held_in, IsNumber, Val, body_of, link_of, Body, Number, IsLooseEntry, Tag, ◌↔◌}
 use Rattle.sdd_core.specs.declared.tag.Tag.TheVariants.{None as no_tag}
-use Rattle.sdd_script_model.specs.Appending.{IsLooseEntry}
 use Rattle.sdd_interpreter.proofs.turns.links.is_loose.Goals as goal
 
 -- a number in no cell, behind which nothing comes, is loose exactly where its link has no tag

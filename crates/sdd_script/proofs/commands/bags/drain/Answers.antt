@@ -1,7 +1,6 @@
-use Rattle.sdd_script.proofs.Words.{◌≡◌, length, arith, rules, List, ℕ, subst, sym, At, desk_of, Does, invalid, IsNonDecreasing, IsPermutation}
+use Rattle.sdd_script.proofs.Words.{◌≡◌, length, arith, rules, List, ℕ, subst, sym, At, desk_of, Does, invalid, IsNonDecreasing, IsPermutation, IsNonDecreasingBy-from_sort}
 use Rattle.sdd_script_text.specs.declared.call.Action.TheVariants as call
 use Rattle.sdd_script_text.specs.declared.answer.Reply.TheVariants as reply
-use Rattle.std.proofs.lemmas.List.Sorted.{IsNonDecreasingBy-from_sort}
 use Rattle.sdd_script.proofs.BagActs.{acts-drained, no-bag, put-so}
 use Rattle.sdd_script.proofs.StackActs.{AreTold}
 use Rattle.sdd_script.proofs.commands.bags.drain.Goals as goal

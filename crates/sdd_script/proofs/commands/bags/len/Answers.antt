@@ -1,4 +1,4 @@
-use Rattle.sdd_interpreter.proofs.Missing.{invalid}
+use Rattle.sdd_script.proofs.Words.{invalid}
 use Rattle.sdd_script.proofs.BagActs.{acts-counted, no-bag}
 use Rattle.sdd_script.proofs.commands.bags.len.Goals as goal
 

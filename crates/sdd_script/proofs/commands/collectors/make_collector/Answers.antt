@@ -1,7 +1,6 @@
-use Rattle.sdd_script.proofs.Words.{refl, map_push, At, collector_holding, desk_of, Does, attends, here, leaves, next, sits}
+use Rattle.sdd_script.proofs.Words.{refl, map_push, At, collector_holding, desk_of, Does, attends, here, leaves, next, sits, collecting-leaves}
 use Rattle.sdd_script_text.specs.declared.call.Action.TheVariants as call
 use Rattle.sdd_script_text.specs.declared.answer.Reply.TheVariants as reply
-use Rattle.sdd_script_model.proofs.Collected.{collecting-leaves}
 use Rattle.sdd_script.proofs.commands.collectors.make_collector.Goals as goal
 
 made : (c : goal.After-give-name) → Does (desk_of c.stage.inside.hand) (At c.args.name call.Collector)

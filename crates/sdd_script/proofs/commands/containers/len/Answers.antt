@@ -1,4 +1,4 @@
-use Rattle.sdd_interpreter.proofs.Missing.{invalid}
+use Rattle.sdd_script.proofs.Words.{invalid}
 use Rattle.sdd_script.proofs.ContainerActs.{acts-counted, list-home, no-list, reader-is}
 use Rattle.sdd_script.proofs.commands.containers.len.Goals as goal
 

@@ -1,4 +1,4 @@
-use Rattle.sdd_interpreter.proofs.Missing.{invalid}
+use Rattle.sdd_script.proofs.Words.{invalid}
 use Rattle.sdd_script.proofs.ContainerActs.{acts-peeked, list-home, no-list, of-numbers, reader-is}
 use Rattle.sdd_script.proofs.commands.containers.peek.Goals as goal
 

@@ -1,4 +1,5 @@
-use Rattle.sdd_script.proofs.Words.{◌≡◌, ℕ, Some, length, map, slice_set, ap, ◌∙◌, arith, rules, option_map, with_item, At, owner_holding, desk_of, Environment, Does, does, goes, pushing}
+use Rattle.sdd_script.proofs.Words.{◌≡◌, ℕ, Some, length, map, slice_set, ap, ◌∙◌, arith, rules, option_map, At, owner_holding, desk_of, Environment, Does, does, goes, pushing}
+use Rattle.std.specs.Vec.{with_item}
 use Rattle.sdd_space.specs.Shared.{slot_of}
 use Rattle.sdd_script_text.specs.declared.answer.Reply.TheVariants as reply
 use Rattle.sdd_script.proofs.ContainerActs.{entries-of, list-home, no-list}

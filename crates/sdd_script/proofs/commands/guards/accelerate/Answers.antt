@@ -1,7 +1,6 @@
-use Rattle.sdd_script.proofs.Words.{refl, At, desk_of, Does, leaves, place-is, sits, under}
+use Rattle.sdd_script.proofs.Words.{refl, At, desk_of, Does, leaves, place-is, sits, under, accelerated-leaves}
 use Rattle.sdd_script_text.specs.declared.call.Action.TheVariants as call
 use Rattle.sdd_script_text.specs.declared.answer.Reply.TheVariants as reply
-use Rattle.sdd_script_model.proofs.Going.{accelerated-leaves}
 use Rattle.sdd_script.proofs.commands.guards.accelerate.Goals as goal
 
 accelerated : (c : goal.After-accelerate_at) → Does (desk_of c.stage.inside.hand) (At c.args.name (call.Accelerate c.args.guard)) reply.Done

@@ -1,7 +1,6 @@
-use Rattle.sdd_script.proofs.Words.{refl, At, desk_of, Does, leaves, place-is, sits, under}
+use Rattle.sdd_script.proofs.Words.{refl, At, desk_of, Does, leaves, place-is, sits, under, stirred-leaves}
 use Rattle.sdd_script_text.specs.declared.call.Action.TheVariants as call
 use Rattle.sdd_script_text.specs.declared.answer.Reply.TheVariants as reply
-use Rattle.sdd_script_model.proofs.Going.{stirred-leaves}
 use Rattle.sdd_script.proofs.commands.guards.set.Goals as goal
 
 stirred : (c : goal.After-stir_at) → Does (desk_of c.stage.inside.hand) (At c.args.name (call.Set c.args.guard)) reply.Done

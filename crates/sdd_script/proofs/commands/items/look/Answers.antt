@@ -7,7 +7,7 @@ value_shown-requires-clause-stays c =
     let found = c.in-Some.ensures.found in
     let can = rw (c.as_slice-slots.ensures.value, c.as_slice-names.ensures.value, c.as_slice-dates.ensures.value) at c.in-Some-slot_since.ensures.0 in
     let slot = c.in-Some-slot_since.ensures.1 ∙ ap (λ slots. slice_index_or slots c.args.item.0 0) c.as_slice-slots.ensures.value in
-    rw slot (stays-here _ c.stage.invariant c.is_whole.ensures c.args.name _ found.0 c.args.guard.0 c.args.item.0 _ found.1 found.2
+    rw slot (stays-here (under c.args.name.0 c.stage.invariant c.is_whole.ensures found.0) c.args.guard.0 c.args.item.0 _ found.1 found.2
     (points c.stage.inside.hand c.args.name.0 _ found.0 c.args.item.0 can))
 
 pub returns : goal.returns

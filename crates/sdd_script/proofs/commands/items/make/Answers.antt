@@ -1,4 +1,5 @@
-use Rattle.sdd_script.proofs.Words.{◌≡◌, ℕ, Some, length, slice_set, sym, ap, ◌∙◌, rules, with_item, false≢true, still, slot_of, At, Environment, Acts, desk_of, IsTied, making, here}
+use Rattle.sdd_script.proofs.Words.{◌≡◌, ℕ, Some, length, slice_set, sym, ap, ◌∙◌, rules, false≢true, still, slot_of, At, Environment, Acts, desk_of, IsTied, making, here}
+use Rattle.std.specs.Vec.{with_item}
 use Rattle.sdd_script_text.specs.declared.answer.Reply.TheVariants as reply
 use Rattle.sdd_script.proofs.ItemActs.{acts-made, refused-meets}
 use Rattle.sdd_script.proofs.Making.{becomes-long, body-home, first-slot, there-to-put}

@@ -1,5 +1,4 @@
-use Rattle.sdd_script.proofs.Words.{◌≡◌, ◌∙◌, ℕ, ap, refl, retired, desk_of, index_of, with_standing, Val, World}
-use Rattle.sdd_participants.specs.declared.standing.Standing.TheVariants.{Owned}
+use Rattle.sdd_script.proofs.Words.{◌≡◌, ◌∙◌, ℕ, ap, refl, retired, desk_of, index_of, with_standing, Val, World, Owned}
 use Rattle.sdd_script.proofs.Ending.{ends-raw, goes-same, gone-raw, live-in, not-raw}
 use Rattle.sdd_script.proofs.commands.leaving.give_up_raw_item.Goals as goal
 

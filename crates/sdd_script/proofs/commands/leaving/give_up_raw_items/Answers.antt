@@ -1,5 +1,4 @@
-use Rattle.std.proofs.Common.{below_more}
-use Rattle.sdd_script.proofs.Words.{◌∙◌, ap, refl, arith, length, Environment}
+use Rattle.sdd_script.proofs.Words.{◌∙◌, ap, refl, arith, length, Environment, below_more}
 use Rattle.sdd_script.proofs.Ending.{goes-start, goes-then, none-raw}
 use Rattle.sdd_script.proofs.commands.leaving.give_up_raw_items.Goals as goal
 

@@ -1,5 +1,4 @@
-use Rattle.sdd_script.proofs.Words.{◌≡◌, ◌≢◌, ◌<◌, ℕ, Some, Raw, standing_at, index_of}
-use Rattle.sdd_script.specs.Leaving.{GoesOn}
+use Rattle.sdd_script.proofs.Words.{◌≡◌, ◌≢◌, ◌<◌, ℕ, Some, Raw, standing_at, index_of, GoesOn}
 use Rattle.sdd_script.proofs.commands.leaving.give_up_raw_items.Given as goal
 
 abbrev pub invariant-loop-slot : goal.invariant-loop-slot

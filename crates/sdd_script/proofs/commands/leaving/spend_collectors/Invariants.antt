@@ -1,5 +1,4 @@
-use Rattle.sdd_script.proofs.Words.{desk_of, IsSound}
-use Rattle.sdd_script.specs.Leaving.{KeepsTold}
+use Rattle.sdd_script.proofs.Words.{desk_of, IsSound, KeepsTold}
 use Rattle.sdd_script.proofs.Ending.{Spends}
 use Rattle.sdd_script.proofs.commands.leaving.spend_collectors.Given as goal
 

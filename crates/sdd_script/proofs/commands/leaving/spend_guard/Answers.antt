@@ -1,4 +1,4 @@
-use Rattle.std.proofs.Common.{refl, sym}
+use Rattle.sdd_script.proofs.Words.{refl, sym}
 use Rattle.sdd_script.proofs.Ending.{spends-nothing, spends-guard}
 use Rattle.sdd_script.proofs.commands.leaving.spend_guard.Goals as goal
 

@@ -1,5 +1,4 @@
-use Rattle.sdd_script.proofs.Words.{index_of}
-use Rattle.sdd_script.specs.Leaving.{GoesOn}
+use Rattle.sdd_script.proofs.Words.{index_of, GoesOn}
 use Rattle.sdd_script.proofs.Ending.{Spends}
 use Rattle.sdd_script.proofs.commands.leaving.spend_owners.Given as goal
 

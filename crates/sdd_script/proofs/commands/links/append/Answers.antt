@@ -1,9 +1,10 @@
-use Rattle.sdd_script.proofs.Words.{◌≢◌, inl, is_some, slice_index_or, ap, ◌∙◌, At, IsTrue, IsLooseEntry, slot_at, desk_of, Share, Does, owner-home, stays-here, invalid, no-shared, points, points-not, name-given}
+use Rattle.sdd_script.proofs.Words.{◌≢◌, inl, is_some, slice_index_or, ap, ◌∙◌, At, IsTrue, IsLooseEntry, slot_at, desk_of, Share, Does, stays-here, invalid, no-shared, points, points-not, name-given, under}
 use Rattle.sdd_script_text.specs.declared.call.Action.TheVariants as call
 use Rattle.sdd_script_text.specs.declared.answer.Reply.TheVariants as reply
 use Rattle.sdd_space.specs.Shared.{slot_of}
 use Rattle.sdd_script.proofs.ContainerActs.{reader-is}
 use Rattle.sdd_script.proofs.LinkActs.{acts-appended, acts-deleted, its-out, loose-taken, may-come, may-not}
+use Rattle.sdd_interpreter.proofs.Taken.{owner-home}
 use Rattle.sdd_script.proofs.commands.links.append.Goals as goal
 
 pub returns-in_default : goal.returns-in_default
@@ -52,7 +53,7 @@ value_shown-entry-requires-clause-stays c =
     let found = c.in-Some.ensures.found in
     let can = rw (c.as_slice-slots.ensures.value, c.as_slice-names.ensures.value, c.as_slice-dates.ensures.value) at c.in-Some-slot_since.ensures.0 in
     let slot = c.in-Some-slot_since.ensures.1 ∙ ap (λ slots. slice_index_or slots c.args.item.0 0) c.as_slice-slots.ensures.value in
-    rw (c.is_loose_beside.ensures.world, slot) (stays-here _ c.stage.invariant c.is_whole.ensures c.args.name _ found.0 c.args.guard.0 c.args.item.0 _ found.1
+    rw (c.is_loose_beside.ensures.world, slot) (stays-here (under c.args.name.0 c.stage.invariant c.is_whole.ensures found.0) c.args.guard.0 c.args.item.0 _ found.1
     found.2 (points c.stage.inside.hand c.args.name.0 _ found.0 c.args.item.0 can))
 
 pub list_step_at-requires-clause-asked : goal.list_step_at-requires-clause-asked
@@ -69,7 +70,7 @@ list_step_at-requires-clause-asked c =
     (rw (c.slot_of_share.ensures, slot) at (c.is_loose_beside.ensures.loose.0 c.if-not-is_loose_beside.false)) in
     rw (c.value_shown-entry.ensures.world, c.is_loose_beside.ensures.world) (
       rw c.is_loose_beside.ensures.world at c.value_shown-entry.ensures.home,
-      owner-home h c.stage.invariant c.is_whole.ensures c.args.owner.0 (Share c.in-Some-take_shared.last) taken,
+      owner-home h c.stage.invariant c.args.owner.0 (Share c.in-Some-take_shared.last) taken,
       reader-is h c.stage.invariant c.args.guard.0 _ _ found.1 found.2,
       may-come h c.stage.invariant c.is_whole.ensures c.args.name _ found.0 c.args.item c.value_shown-entry.result.now shown can c.args.owner
           c.in-Some-take_shared.last taken loose.0 loose.1,

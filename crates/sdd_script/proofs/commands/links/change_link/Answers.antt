@@ -1,4 +1,4 @@
-use Rattle.sdd_script.proofs.Words.{slice_index_or, ap, ◌∙◌, At, desk_of, Does, stays-here, invalid, points, points-not, changing, name-given}
+use Rattle.sdd_script.proofs.Words.{slice_index_or, ap, ◌∙◌, At, desk_of, Does, stays-here, invalid, points, points-not, changing, name-given, under}
 use Rattle.sdd_script_text.specs.declared.answer.Reply.TheVariants as reply
 use Rattle.sdd_script.proofs.LinkActs.{acts-changed, valid-changing}
 use Rattle.sdd_script.proofs.commands.links.change_link.Goals as goal
@@ -27,7 +27,7 @@ value_shown-entry-requires-clause-stays c =
     let found = c.in-Some.ensures in
     let can = rw (c.as_slice-slots.ensures.value, c.as_slice-names.ensures.value, c.as_slice-dates.ensures.value) at c.in-Some-slot_since.ensures.0 in
     let slot = c.in-Some-slot_since.ensures.1 ∙ ap (λ slots. slice_index_or slots c.args.item.0 0) c.as_slice-slots.ensures.value in
-    rw slot (stays-here _ c.stage.invariant c.is_whole.ensures c.args.name _ found.0 found.2.0 c.args.item.0 _ found.2.1 found.1
+    rw slot (stays-here (under c.args.name.0 c.stage.invariant c.is_whole.ensures found.0) found.2.0 c.args.item.0 _ found.2.1 found.1
     (points c.stage.inside.hand c.args.name.0 _ found.0 c.args.item.0 can))
 
 changed : (c : goal.After-cell_step_at) → Does (desk_of c.stage.inside.hand) (At c.args.name (changing c.args.change c.args.item))

@@ -1,4 +1,4 @@
-use Rattle.sdd_script.proofs.Words.{slice_index_or, ap, ◌∙◌, stays-here, invalid, points, points-not, name-given}
+use Rattle.sdd_script.proofs.Words.{slice_index_or, ap, ◌∙◌, stays-here, invalid, points, points-not, name-given, under}
 use Rattle.sdd_script.proofs.LinkActs.{acts-link_told}
 use Rattle.sdd_script.proofs.commands.links.link_tag.Goals as goal
 
@@ -24,7 +24,7 @@ value_shown-entry-requires-clause-stays c =
     let found = c.in-Some.ensures in
     let can = rw (c.as_slice-slots.ensures.value, c.as_slice-names.ensures.value, c.as_slice-dates.ensures.value) at c.in-Some-slot_since.ensures.0 in
     let slot = c.in-Some-slot_since.ensures.1 ∙ ap (λ slots. slice_index_or slots c.args.item.0 0) c.as_slice-slots.ensures.value in
-    rw slot (stays-here _ c.stage.invariant c.is_whole.ensures c.args.name _ found.0 found.2.0 c.args.item.0 _ found.2.1 found.1
+    rw slot (stays-here (under c.args.name.0 c.stage.invariant c.is_whole.ensures found.0) found.2.0 c.args.item.0 _ found.2.1 found.1
     (points c.stage.inside.hand c.args.name.0 _ found.0 c.args.item.0 can))
 
 pub returns : goal.returns

@@ -1,4 +1,4 @@
-use Rattle.sdd_script.proofs.Words.{length, slice_index_or, ap, ◌∙◌, arith, At, desk_of, Does, stays-here, invalid, points, points-not, name-given}
+use Rattle.sdd_script.proofs.Words.{length, slice_index_or, ap, ◌∙◌, arith, At, desk_of, Does, stays-here, invalid, points, points-not, name-given, under}
 use Rattle.sdd_core.specs.declared.tag.Tag.TheVariants.{None as no_tag}
 use Rattle.sdd_script_text.specs.declared.call.Action.TheVariants as call
 use Rattle.sdd_script_text.specs.declared.answer.Reply.TheVariants as reply
@@ -29,7 +29,7 @@ value_shown-entry-requires-clause-stays c =
     let found = c.in-Some.ensures.found in
     let can = rw (c.as_slice-slots.ensures.value, c.as_slice-names.ensures.value, c.as_slice-dates.ensures.value) at c.in-Some-slot_since.ensures.0 in
     let slot = c.in-Some-slot_since.ensures.1 ∙ ap (λ slots. slice_index_or slots c.args.item.0 0) c.as_slice-slots.ensures.value in
-    rw slot (stays-here _ c.stage.invariant c.is_whole.ensures c.args.name _ found.0 c.args.guard.0 c.args.item.0 _ found.1 found.2
+    rw slot (stays-here (under c.args.name.0 c.stage.invariant c.is_whole.ensures found.0) c.args.guard.0 c.args.item.0 _ found.1 found.2
     (points c.stage.inside.hand c.args.name.0 _ found.0 c.args.item.0 can))
 
 pub list_step_at-next-requires-clause-asked : goal.list_step_at-next-requires-clause-asked

@@ -1,9 +1,6 @@
-use Rattle.sdd_script.proofs.Words.{ap, is_some, refl, map_push, shared_slot, slot_of, At, desk_of, owner_holding, Does, attends, here, leaves, named-as, next, sits, starts, still}
+use Rattle.sdd_script.proofs.Words.{ap, is_some, refl, map_push, shared_slot, slot_of, At, desk_of, owner_holding, Does, attends, here, leaves, next, sits, starts, still, named as named-as, owned-apart, owner-outside, shared-leaves}
 use Rattle.sdd_script_text.specs.declared.call.Action.TheVariants as call
 use Rattle.sdd_script_text.specs.declared.answer.Reply.TheVariants as reply
-use Rattle.sdd_script_model.proofs.Chains.{owned-apart}
-use Rattle.sdd_script_model.proofs.Going.{shared-leaves}
-use Rattle.sdd_script_model.proofs.InPlaceGoing.{owner-outside}
 use Rattle.sdd_script.proofs.commands.owners.clone_owner.Goals as goal
 
 cloned : (c : goal.After-give-name) → Does (desk_of c.stage.inside.hand) (At c.args.name (call.Clone c.args.owner))

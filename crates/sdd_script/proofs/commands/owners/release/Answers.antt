@@ -1,9 +1,10 @@
-use Rattle.sdd_script.proofs.Words.{◌≡◌, ℕ, Bool, Option, None, Some, IsTrue, ◌↔◌, if◌then◌else◌, ap, is_some, refl, slice_index_or, slice_set, map-set, with_item, Vec, IsSharedBy, owner_given, World, standing_at, shared_slot, index_of, OwnerName, PlaceName, At, Val, AnyOwner, Share, NamedParticipant, Environment, desk_of, owner_holding, Shared, Does, Here, attends, here, leaves, named-as, place-is, sits}
+use Rattle.sdd_script.proofs.Words.{◌≡◌, ℕ, Bool, Option, None, Some, IsTrue, ◌↔◌, if◌then◌else◌, ap, is_some, refl, slice_index_or, slice_set, map-set, Vec, IsSharedBy, owner_given, World, standing_at, shared_slot, index_of, OwnerName, PlaceName, At, Val, AnyOwner, Share, NamedParticipant, Environment, desk_of, owner_holding, Does, Here, attends, here, leaves, place-is, sits, named as named-as, released-leaves}
+use Rattle.sdd_space.specs.declared.shared.Shared.{Shared}
+use Rattle.std.specs.Vec.{with_item}
 use Rattle.sdd_participants.specs.declared.standing.Standing.TheVariants as standing
 use Rattle.sdd_space.specs.Shared as shared
 use Rattle.sdd_script_text.specs.declared.call.Action.TheVariants as call
 use Rattle.sdd_script_text.specs.declared.answer.Reply.TheVariants as reply
-use Rattle.sdd_script_model.proofs.Going.{released-leaves}
 use Rattle.sdd_script.proofs.commands.owners.release.Goals.{then-was_last, else-was_last}
 use Rattle.sdd_script.proofs.commands.owners.release.Goals as goal
 

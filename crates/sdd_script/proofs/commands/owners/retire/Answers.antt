@@ -1,7 +1,7 @@
-use Rattle.sdd_script.proofs.Words.{ap, is_some, refl, map-set, with_item, sole_slot, At, desk_of, owner_holding, Does, attends, here, leaves, named-as, place-is, sits}
+use Rattle.sdd_script.proofs.Words.{ap, is_some, refl, map-set, sole_slot, At, desk_of, owner_holding, Does, attends, here, leaves, place-is, sits, named as named-as, retired-leaves}
+use Rattle.std.specs.Vec.{with_item}
 use Rattle.sdd_script_text.specs.declared.call.Action.TheVariants as call
 use Rattle.sdd_script_text.specs.declared.answer.Reply.TheVariants as reply
-use Rattle.sdd_script_model.proofs.Going.{retired-leaves}
 use Rattle.sdd_script.proofs.commands.owners.retire.Goals as goal
 
 retired : (c : goal.After-stage-1) → Does (desk_of c.stage.inside.hand) (At c.args.name (call.Retire c.args.owner)) reply.Done

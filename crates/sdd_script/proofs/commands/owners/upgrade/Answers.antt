@@ -1,7 +1,6 @@
-use Rattle.sdd_script.proofs.Words.{slice_index_or, ap, refl, ◌∙◌, At, desk_of, owner_holding, Does, leaves, next, points, sits, stays-here, there-apart, under}
+use Rattle.sdd_script.proofs.Words.{slice_index_or, ap, refl, ◌∙◌, At, desk_of, owner_holding, Does, leaves, next, points, sits, stays-here, there-apart, under, shared-leaves}
 use Rattle.sdd_script_text.specs.declared.call.Action.TheVariants as call
 use Rattle.sdd_script_text.specs.declared.answer.Reply.TheVariants as reply
-use Rattle.sdd_script_model.proofs.Going.{shared-leaves}
 use Rattle.sdd_script.proofs.Making.{shared-more}
 use Rattle.sdd_script.proofs.commands.owners.upgrade.Goals as goal
 
@@ -10,7 +9,7 @@ share_item-requires-clause-stays c =
     let found = c.in-Some.ensures.found in
     let can = rw (c.as_slice-slots.ensures.value, c.as_slice-names.ensures.value, c.as_slice-dates.ensures.value) at c.in-Some-slot_since.ensures.0 in
     let slot = c.in-Some-slot_since.ensures.1 ∙ ap (λ slots. slice_index_or slots c.args.item.0 0) c.as_slice-slots.ensures.value in
-    rw slot (stays-here c.stage.inside.hand c.stage.invariant c.is_whole.ensures c.args.name _ found.0 c.args.guard.0 c.args.item.0 _ found.1 found.2
+    rw slot (stays-here (under c.args.name.0 c.stage.invariant c.is_whole.ensures found.0) c.args.guard.0 c.args.item.0 _ found.1 found.2
     (points c.stage.inside.hand c.args.name.0 _ found.0 c.args.item.0 can))
 
 shared : (c : goal.After-give-name) → Does (desk_of c.stage.inside.hand) (At c.args.name (call.Upgrade c.args.item c.args.guard))

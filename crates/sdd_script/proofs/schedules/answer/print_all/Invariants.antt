@@ -1,4 +1,4 @@
-use Rattle.std.proofs.Common.{◌≡◌, string_bytes, take}
+use Rattle.sdd_script.proofs.Words.{string_bytes, take, ◌≡◌}
 use Rattle.sdd_script.specs.ScheduleAnswer.{text_of_all}
 use Rattle.sdd_script.proofs.schedules.answer.print_all.Given as goal
 

@@ -1,4 +1,4 @@
-use Rattle.std.proofs.Common.{append_assoc}
+use Rattle.sdd_script.proofs.Words.{append_assoc}
 use Rattle.sdd_script.proofs.schedules.answer.push_answer.Goals as goal
 
 pub returns-in-Opened : goal.returns-in-Opened

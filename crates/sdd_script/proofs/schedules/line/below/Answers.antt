@@ -1,4 +1,4 @@
-use Rattle.std.proofs.Common.{arith}
+use Rattle.sdd_script.proofs.Words.{arith}
 use Rattle.sdd_script.proofs.ScheduleLines.{too_great}
 use Rattle.sdd_script.proofs.schedules.line.below.Goals as goal
 

@@ -1,4 +1,4 @@
-use Rattle.sdd_script_text.proofs.Plays.{reads_all}
+use Rattle.sdd_script.proofs.Words.{reads_all}
 use Rattle.sdd_script.proofs.schedules.player.play_steps.Goals as goal
 
 pub returns-clause-plays : goal.returns-clause-plays

@@ -1,6 +1,5 @@
-use Rattle.sdd_script.proofs.Words.{◌≡◌, [], length, take, get_or, refl, sym, ap, ◌∙◌, arith, take_more, take_all, length_push, did, size_for, state, history}
+use Rattle.sdd_script.proofs.Words.{◌≡◌, [], length, take, get_or, refl, sym, ap, ◌∙◌, arith, take_more, take_all, length_push, did, size_for, state, history, taken_more}
 use Rattle.sdd_machine.specs.declared.machine.steps.Step.TheVariants.{Register}
-use Rattle.sdd_machine.proofs.Theorem.{taken_more}
 use Rattle.sdd_script.proofs.ScheduleTaken.{answered_more, are_answers, always_safe, always_exact}
 use Rattle.sdd_script.proofs.schedules.taking.take_all.Goals as goal
 

@@ -1,5 +1,4 @@
-use Rattle.sdd_interpreter.proofs.Words.{rules, ◌≡◌, held_in, entry_at}
-use Rattle.sdd_interpreter.specs.Owners.{cell_number}
+use Rattle.sdd_interpreter.proofs.Words.{rules, ◌≡◌, held_in, entry_at, cell_number}
 use Rattle.sdd_interpreter.proofs.Peeked.{as-before}
 use Rattle.sdd_interpreter.proofs.commands.cells.PeekCellCellCommand.done.Goals as goal
 

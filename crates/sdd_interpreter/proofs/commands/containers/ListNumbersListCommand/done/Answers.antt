@@ -1,5 +1,4 @@
-use Rattle.sdd_interpreter.proofs.Words.{ℕ, List, ◌++◌, sym, ap, subst, ◌∙◌, drop, CallerId, IsExact, IsWalkOf, shown_of, Number}
-use Rattle.std.specs.Prelude.{map}
+use Rattle.sdd_interpreter.proofs.Words.{ℕ, List, ◌++◌, sym, ap, subst, ◌∙◌, drop, CallerId, IsExact, IsWalkOf, shown_of, Number, map}
 use Rattle.sdd_interpreter.proofs.Shown.{next-number, shown-all, shown-more}
 use Rattle.sdd_interpreter.proofs.commands.containers.ListNumbersListCommand.done.Goals as goal
 

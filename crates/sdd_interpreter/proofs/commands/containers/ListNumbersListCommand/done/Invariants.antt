@@ -1,6 +1,4 @@
-use Rattle.sdd_interpreter.proofs.Words.{◌≡◌, ◌++◌, ℕ, List, Option, Entry, IsWalkOf, shown_of, Val, Body, Number, HasEntries}
-use Rattle.std.specs.Prelude.{map}
-use Rattle.sdd_lists.specs.Walk.{ShowsInOrder, steps_left}
+use Rattle.sdd_interpreter.proofs.Words.{◌≡◌, ◌++◌, ℕ, List, Option, Entry, IsWalkOf, shown_of, Val, Body, Number, HasEntries, ShowsInOrder, map, steps_left}
 use Rattle.sdd_interpreter.proofs.commands.containers.ListNumbersListCommand.done.Given as goal
 
 -- the numbers so far are those that were shown, and the walk shows the others

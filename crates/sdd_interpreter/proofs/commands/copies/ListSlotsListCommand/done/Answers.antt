@@ -1,5 +1,4 @@
-use Rattle.sdd_interpreter.proofs.Words.{◌++◌, [], ◌∷◌, ℕ, List, refl, sym, ap, ◌∙◌, subst, rules, CallerId, IsExact, SpaceId, World, entry_at, AreLinked, entry_slots, Val, link_of}
-use Rattle.sdd_lists.proofs.Fronts.{names-some, shows-it}
+use Rattle.sdd_interpreter.proofs.Words.{◌++◌, [], ◌∷◌, ℕ, List, refl, sym, ap, ◌∙◌, subst, rules, CallerId, IsExact, SpaceId, World, entry_at, AreLinked, entry_slots, Val, link_of, names-some, shows-it}
 use Rattle.sdd_interpreter.proofs.Copied.{link-at-home, next-slot, none-left}
 use Rattle.sdd_interpreter.proofs.commands.copies.ListSlotsListCommand.done.Goals as goal
 

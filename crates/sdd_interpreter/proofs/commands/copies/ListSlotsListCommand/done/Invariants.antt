@@ -1,5 +1,4 @@
-use Rattle.sdd_interpreter.proofs.Words.{◌≡◌, ◌≤◌, ◌++◌, ℕ, List, Option, length, vec_capacity, PtrIsShown, slot_named, AreLinked, Entry, first_slot, entry_slots, Val, link_of, HasEntries}
-use Rattle.sdd_script_model.specs.Copies.{ArePlain}
+use Rattle.sdd_interpreter.proofs.Words.{◌≡◌, ◌≤◌, ◌++◌, ℕ, List, Option, length, vec_capacity, PtrIsShown, slot_named, AreLinked, Entry, first_slot, entry_slots, Val, link_of, HasEntries, ArePlain}
 use Rattle.sdd_interpreter.proofs.commands.copies.ListSlotsListCommand.done.Given as goal
 
 -- the slots so far are those of the first entries, and the pointer is to the next

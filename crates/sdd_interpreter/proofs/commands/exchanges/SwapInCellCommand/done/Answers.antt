@@ -1,4 +1,4 @@
-use Rattle.std.proofs.Common.{refl}
+use Rattle.sdd_interpreter.proofs.Words.{refl}
 use Rattle.sdd_space.specs.Owned as owned
 use Rattle.sdd_space.specs.Shared as shared
 use Rattle.sdd_interpreter.proofs.Out.{sole-out, sole-slot, share-out, share-slot}

@@ -1,4 +1,4 @@
-use Rattle.std.proofs.Common.{◌≡◌, ◌∙◌, true, false}
+use Rattle.sdd_interpreter.proofs.Words.{false, true, ◌∙◌, ◌≡◌}
 use Rattle.sdd_interpreter.proofs.commands.links.NextEntryListCommand.done.Goals as goal
 
 pub unreachable-requires : goal.unreachable-requires

@@ -1,4 +1,4 @@
-use Rattle.std.proofs.Common.{◌≡◌, ℕ}
+use Rattle.sdd_interpreter.proofs.Words.{ℕ, ◌≡◌}
 use Rattle.sdd_interpreter.proofs.Asked.{queue-pops-if, stack-pops-if}
 use Rattle.sdd_interpreter.proofs.commands.pops.PopFirstIfListCommand.done.Goals as goal
 

@@ -1,9 +1,8 @@
-use Rattle.std.proofs.Common.{ℕ, Some, inl, inr, refl, ap, ◌∙◌}
+use Rattle.sdd_interpreter.proofs.Words.{Renumbers, Some, ap, inl, inr, refl, ℕ, ◌∙◌}
 use Rattle.sdd_participants.specs.declared.standing.Standing.TheVariants as standing
 use Rattle.sdd_space.specs.Owned as owned
 use Rattle.sdd_space.specs.OwnerOrCell as holding
 use Rattle.sdd_space.specs.Shared as shared
-use Rattle.sdd_script_model.specs.Val.{Renumbers}
 use Rattle.sdd_interpreter.proofs.commands.raw.PutNumberInPlaceCommand.done.Goals as goal
 
 pub returns-in-Ok-clause-done : goal.returns-in-Ok-clause-done
