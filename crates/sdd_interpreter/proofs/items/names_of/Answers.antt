@@ -1,4 +1,4 @@
-use Rattle.sdd_interpreter.proofs.Words.{◌≡◌, ℕ, ◌+◌, ◌<◌, List, [], ◌∷◌, ◌++◌, None, Option, Some, Global, length, slice_index_or, take, sym, ap, ◌∙◌, arith, rules, option_map, take_more, ItemName, names_in, Vec, append-nil, cons_option, filter_map-append, length_push, named_in}
+use Rattle.sdd_interpreter.proofs.Words.{◌≡◌, ℕ, ◌+◌, ◌<◌, List, [], ◌∷◌, ◌++◌, None, Option, Some, length, slice_index_or, take, sym, ap, ◌∙◌, arith, rules, option_map, take_more, ItemName, names_in, Vec, append-nil, cons_option, filter_map-append, length_push, named_in}
 use Rattle.sdd_interpreter.proofs.items.names_of.Goals.{in-Some, in_default}
 use Rattle.sdd_interpreter.proofs.items.names_of.Goals as goal
 
@@ -20,14 +20,14 @@ loop-slot-preserved c =
     let lt : i < length slots = c.loop-slot-test.true in
     elim c.match-names-slot.branch [
       | in-Some w ↦
-          (let pushed = ap (λ (v : Vec ItemName Global). v.items) w.found-is ∙ w.push_reserved.ensures.items in (
+          (let pushed = ap (λ (v : Vec ItemName). v.items) w.found-is ∙ w.push_reserved.ensures.items in (
             pushed ∙ ap (λ xs. xs ++ called w.in-Some.item ∷ []) c.loop-slot.invariant.0
                 ∙ sym (one-more names slots i (Some w.in-Some.item) lt w.in-Some.is),
             omega (arith, ap length pushed, length_push c.loop-slot.found.items (called w.in-Some.item), c.loop-slot.invariant.1),
             search rules,
           ))
       | in_default w ↦
-          (let same = ap (λ (v : Vec ItemName Global). v.items) w.found-is in (
+          (let same = ap (λ (v : Vec ItemName). v.items) w.found-is in (
             same ∙ c.loop-slot.invariant.0 ∙ sym (one-more names slots i None lt w.in_default.is ∙ append-nil (names_in names (take i slots))),
             omega (arith, ap length same, c.loop-slot.invariant.1),
             search rules,

@@ -1,4 +1,4 @@
-use Rattle.sdd_interpreter.proofs.Words.{Bool, Global, Vec, [], ap, append-nil, arith, false, filter, filter_of_map_range_with_len_more, if◌then◌else◌, is_private_to, map-id, range_with_len, standing_at, sym, true, ℕ, ◌++◌, ◌+◌, ◌∙◌, ◌∷◌, ◌≡◌}
+use Rattle.sdd_interpreter.proofs.Words.{Bool, Vec, [], ap, append-nil, arith, false, filter, filter_of_map_range_with_len_more, if◌then◌else◌, is_private_to, map-id, range_with_len, standing_at, sym, true, ℕ, ◌++◌, ◌+◌, ◌∙◌, ◌∷◌, ◌≡◌}
 use Rattle.sdd_interpreter.proofs.items.slots_for.Goals.{then-waits_for+in_ok-push, else-waits_for}
 use Rattle.sdd_interpreter.proofs.items.slots_for.Goals as goal
 
@@ -24,7 +24,7 @@ loop-slot-preserved c =
     let before : c.loop-slot.found.items ≡ filter of (range_with_len 0 n) = c.loop-slot.invariant in
     elim c.if-waits_for.branch [
       | then-waits_for+in_ok-push w ↦
-          ap (λ (v : Vec ℕ Global). v.items) w.found-is ∙ w.in_ok-push.ensures.items ∙ ap (λ xs. xs ++ n ∷ []) before
+          ap (λ (v : Vec ℕ). v.items) w.found-is ∙ w.in_ok-push.ensures.items ∙ ap (λ xs. xs ++ n ∷ []) before
           ∙ sym (passes of n (sym told ∙ w.if-waits_for.true))
-      | else-waits_for w ↦ ap (λ (v : Vec ℕ Global). v.items) w.found-is ∙ before ∙ sym (fails of n (sym told ∙ w.if-waits_for.false))
+      | else-waits_for w ↦ ap (λ (v : Vec ℕ). v.items) w.found-is ∙ before ∙ sym (fails of n (sym told ∙ w.if-waits_for.false))
     ]
