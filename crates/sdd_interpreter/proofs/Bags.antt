@@ -1,5 +1,5 @@
--- What calls of a bag make of it in a turn, as a line says it
-use Rattle.sdd_interpreter.proofs.Words.{◌≡◌, ◌⊎◌, MatchOption, Option, Some, None, inl, inr, ℕ, ◌+◌, ◌<◌, ◌≤◌, List, [], ◌∷◌, ◌++◌, length, vec_capacity, refl, sym, ap, ◌∙◌, subst, arith, Vec, append-nil, length-append, length-map, World, Entry, cell_in, values_of, PutsNumber, TakesAll, TakesNumber, Val, same-list, AddsStorage, AreEmpty, AreFull, HasSameCells, IsBag, NumberBag, PopsBehind, PopsInside, PushesBehind, PushesInside, RemovesStorage, RemovesStorages, StandsOn, append_assoc, bag_length, drop, names_of, overflow_of, primary_of, storage_in}
+-- What calls of a bag make of it, as a line says it
+use Rattle.sdd_interpreter.proofs.Words.{◌≡◌, ◌⊎◌, MatchOption, Option, Some, None, inl, inr, ℕ, ◌+◌, ◌<◌, ◌≤◌, List, [], ◌∷◌, ◌++◌, length, vec_capacity, sym, ap, ◌∙◌, subst, arith, Vec, append-nil, length-append, length-map, World, Entry, cell_in, values_of, PutsNumber, TakesAll, TakesNumber, Val, same-list, AddsStorage, AreFull, HasSameCells, IsBag, NumberBag, PopsBehind, PopsInside, PushesBehind, PushesInside, RemovesStorage, RemovesStorages, StandsOn, append_assoc, bag_length, drop, names_of, overflow_of, primary_of, storage_in}
 use Rattle.sdd_bag.specs.Folding.{Folds}
 use Rattle.sdd_bag.specs.Values.{AreInSomeOrder, HasOneMore}
 use Rattle.sdd_bag.proofs.Values.{all-empty, few-in}
@@ -30,10 +30,6 @@ order-long (v ∷ vs) values (others, one, order) =
 none-second : (xs ys : List ℕ) → xs ++ ys ≡ [] → ys ≡ []
 none-second [] ys none = none
 none-second (x ∷ xs) ys none = absurd (cc)
-
--- what is so from one world to another is so from and to the same ones
-pub at-turn : {u new v w : World Val} (P : World Val → World Val → Type 0) → v ≡ w → u ≡ new → P v new → P w u
-at-turn {u} {new} {v} {w} P start last holds = subst (λ (x : World Val). P x u) start (subst (λ (y : World Val). P v y) (sym last) holds)
 
 module _ (w new : World Val) (p : ℕ) (old bag : NumberBag) (cells : HasSameCells old bag) (was : IsBag storage_in bag_length w old)
     (is : IsBag storage_in bag_length new bag) where

@@ -1,5 +1,6 @@
 //! What each line of a script does in a space, as a value: over any space, of which it says what must be so and what is so then.
 
+pub mod bags;
 pub mod cells;
 pub mod collectors;
 pub mod containers;

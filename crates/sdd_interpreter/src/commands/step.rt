@@ -114,7 +114,7 @@ pub trait CollectorCommand {
         ensures done { does self (S.seat s.old).home (S.seat s.old).place (S.world s.old) result (S.world s.new) };
 }
 
-/// What a participant does with queues and stacks, in a space that nobody else changes.
+/// What a participant does with queues, stacks and bags, in a space that nobody else changes.
 pub trait ListCommand {
     type Out;
 

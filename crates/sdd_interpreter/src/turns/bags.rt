@@ -1,5 +1,5 @@
 //! Bags, in a turn at a world.
-ghost use Rattle.std.specs.Prelude.{◌≡◌, ◌<◌, ◌≤◌, ◌++◌, ◌∷◌, List, MatchOption, MatchResult, [], length, vec_capacity};
+ghost use Rattle.std.specs.Prelude.{◌≡◌, ◌≤◌, List, MatchOption, MatchResult, [], length, vec_capacity};
 ghost use Rattle.sdd_space.specs.CallerId.{reader_at};
 ghost use Rattle.sdd_space.specs.Guard.{reader_of};
 ghost use Rattle.sdd_space.specs.World.{World, IsPlaceOf};
@@ -15,6 +15,8 @@ ghost use Rattle.sdd_script_model.specs.Bags.{StandsOn};
 ghost use Rattle.sdd_script_model.specs.ScriptState.{bag_length};
 ghost use Rattle.sdd_script_model.specs.Val.{Val, storage_in};
 
+use crate::commands::bags::{AddNumber, DrainBag, MakeBag, TakeNumber};
+use crate::turns::turn::list_step_at;
 use sdd_bag::Bag;
 use sdd_core::Refused;
 use sdd_script_model::{Body, Val};
@@ -28,8 +30,7 @@ pub fn bag_at(world: &mut World<Val>, place: &Place) -> Result<Bag<u64, 32, Body
         (λ bag. BeginsBag world.old bag world.new)
         (λ e. HasOneAtMost world.old.cells × (e ≡ Refused.NoCell) × (world.new ≡ world.old)) }
 {
-    let mut turn = world.at(place);
-    Bag::new(&mut turn)
+    list_step_at(world, place, MakeBag)
 }
 
 /// A number is put into a bag, which comes back.
@@ -50,12 +51,7 @@ pub fn add_at(
         (λ why. (length (primary_of bag) ≡ bag_length) × AreFull bag_length bag.overflow.places × RefusesStorage world.old why ×
         (result.0 ≡ bag) × (world.new ≡ world.old)) }
 {
-    let mut bag = bag;
-    let mut turn = world.at(place);
-    match bag.push(number, guard, &mut turn) {
-        Ok(()) => (bag, Ok(())),
-        Err((_, refused)) => (bag, Err(refused)),
-    }
+    list_step_at(world, place, AddNumber { bag, number, guard })
 }
 
 /// Some number is taken out of a bag, if it has one. The bag comes back.
@@ -74,10 +70,7 @@ pub fn take_at(
         ((values_of bag ≡ []) × (result.0 ≡ bag) × (world.new ≡ world.old))
         (λ number. TakesNumber world.old (index_of place.now) number bag result.0 world.new) }
 {
-    let mut bag = bag;
-    let mut turn = world.at(place);
-    let taken = bag.pop(guard, &mut turn);
-    (bag, taken)
+    list_step_at(world, place, TakeNumber { bag, guard })
 }
 
 /// All numbers are taken out of a bag, which comes back, and put behind those that are there, for which there is room.
@@ -97,22 +90,7 @@ pub fn drain_at(
     ensures bag { IsBag storage_in bag_length world.new result.0 }
     ensures taken { TakesAll world.old (index_of place.now) bag result.0 result.1.items world.new }
 {
-    let mut bag = bag;
-    let mut turn = world.at(place);
-    let numbers = bag.pop_all(room, with_number, guard, &mut turn);
-    (bag, numbers)
-}
-
-/// A number comes behind these, where there is room.
-fn with_number(numbers: Vec<u64>, number: u64) -> Vec<u64>
-    ensures behind { (length numbers.items < vec_capacity numbers) → result.items ≡ numbers.items ++ number ∷ [] }
-    ensures room { vec_capacity result ≡ vec_capacity numbers }
-{
-    let mut numbers = numbers;
-    if numbers.len() < numbers.capacity() {
-        numbers.push_reserved(number);
-    }
-    numbers
+    list_step_at(world, place, DrainBag { bag, guard, room })
 }
 
 /// A bag is closed.
@@ -124,6 +102,7 @@ pub fn close_at(world: &mut World<Val>, place: &Place, bag: Bag<u64, 32, Body>, 
     ensures closed { (es : List (Entry Val)) → StandsOn world.old bag es →
         ClosesBag holds_nothing bag_length world.old (index_of place.now) bag es world.new }
 {
+    // No command: one trait with its step for this call alone costs as much to prove as this.
     let mut turn = world.at(place);
     bag.close(guard, &mut turn);
 }

@@ -75,7 +75,7 @@ pub fn collector_step_at<P: CollectorCommand>(
     step.done(&mut turn)
 }
 
-/// The participant does this, with queues or stacks.
+/// The participant does this, with queues, stacks or bags.
 pub fn list_step_at<P: ListCommand>(world: &mut World<Val>, place: &Place, step: P) -> P::Out
     requires place { IsPlaceOf world.old (index_of place.now) }
     requires asked { P.asks step world.old.home (reader_at world.old (index_of place.now)) world.old }
