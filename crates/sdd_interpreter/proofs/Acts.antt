@@ -1,15 +1,11 @@
 -- What the acts of a script share: what is left in hand is sound, and is what a call means
-use Rattle.sdd_interpreter.proofs.Words.{◌≡◌, ℕ, ◌+◌, [], ◌∷◌, ◌++◌, Option, Some, None, IsSome, map, length, slice_index_or, slice_set, refl, sym, ap, ◌∙◌, subst, arith, IsTrue, option_map, Vec, get_or-map, map-set, map_push, IsSharedBy, with_standing, World, standing_at, index_of, PlaceName, Val, AnyOwner, Share, NamedParticipant, NamedGuard, Environment, List, length-map, ScriptState, OpenSince, opening_at, holding_at, place_in, since_in, since_of, Acts, IsParticipant, CanPointTo, attending, guarding, owner_holding, cell_holding, collector_holding, newest_holding, oldest_holding, stack_holding, desk_of, IsTied, Answers, AreInRange, Call, CannotGo, GuardsIn, HasOpen, IsNew, IsPlaceOf, IsReclaimed, IsRunBy, IsSound, IsStored, IsWhole, Limits, Meets, Reply, deferred, in_world, is_open, lt-ltb, none as no_call, place_of, replicate, set-get_or, set-set, slot_at, with_owner}
-use Rattle.sdd_space.specs.declared.shared.Shared.{Shared}
+use Rattle.sdd_interpreter.proofs.Words.{◌≡◌, ℕ, [], Option, Some, None, IsSome, map, length, slice_index_or, slice_set, refl, sym, ap, ◌∙◌, subst, arith, IsTrue, option_map, get_or-map, map-set, index_of, NamedParticipant, NamedGuard, Environment, List, length-map, ScriptState, OpenSince, opening_at, place_in, since_in, since_of, Acts, IsParticipant, CanPointTo, attending, guarding, owner_holding, cell_holding, collector_holding, newest_holding, oldest_holding, stack_holding, desk_of, IsTied, Answers, AreInRange, Call, CannotGo, GuardsIn, HasOpen, IsNew, IsPlaceOf, IsReclaimed, IsRunBy, IsSound, IsWhole, Limits, Meets, Reply, deferred, is_open, lt-ltb, none as no_call, place_of, replicate, set-get_or, set-set, slot_at}
 use Rattle.sdd_participants.specs.EpochState as time
-use Rattle.sdd_participants.specs.declared.standing.Standing.TheVariants as standing
-use Rattle.sdd_space.specs.OwnerOrCell as holding
-use Rattle.sdd_space.specs.Shared as shared
 use Rattle.sdd_interpreter.specs.declared.name_table.NameTable.{NameTable}
 use Rattle.sdd_script_model.specs.Script as script
 use Rattle.sdd_script_model.proofs.Dates.{dated-same}
 use Rattle.sdd_script_model.proofs.Chains.{LeavesSound}
-use Rattle.sdd_script_model.proofs.Going.{open-guard, can-point, shared-leaves, sound-start}
+use Rattle.sdd_script_model.proofs.Going.{open-guard, can-point, sound-start}
 
 -- what is left in hand is sound, and is this desk
 pub record Goes (new : Environment) (e : ScriptState) : Type 0 where

@@ -1,7 +1,6 @@
 -- What a clone of a queue or a stack of numbers is
-use Rattle.sdd_interpreter.proofs.Words.{◌≡◌, ◌⊎◌, ◌≤◌, inl, inr, ℕ, length, append_assoc, arith, List, [], ◌∷◌, ◌++◌, None, Option, Some, refl, sym, ap, ◌∙◌, subst, Err, Ok, length-append, length-map, Refused, NoCell, NoSlot, entry_at, CellContents, OwnerOrCell, SpaceId, PtrIsShown, shown_by, slot_named, Ptr, World, value_at, held_in, nulled, AreLinked, Entry, first_slot, queue_closed, shown_of, Body, entry_slots, AreNumbers, IsNumber, RefusesEntry, stack_closed, Val, body_of, holdings_of, link_holding, link_of, owner_in, AllZip, AreAllNumbers, AreOf, ClonesStack, ExtendsStack, FillsQueue, MakesQueueOf, MakesStackOf, QueueCells, append-nil, cell_seen, link_home}
+use Rattle.sdd_interpreter.proofs.Words.{◌≡◌, ◌≤◌, inl, inr, ℕ, length, append_assoc, arith, List, [], ◌∷◌, ◌++◌, None, Option, Some, refl, sym, ap, ◌∙◌, subst, Err, length-append, length-map, Refused, entry_at, CellContents, OwnerOrCell, SpaceId, PtrIsShown, shown_by, slot_named, Ptr, World, value_at, held_in, nulled, AreLinked, Entry, first_slot, queue_closed, shown_of, Body, entry_slots, AreNumbers, IsNumber, RefusesEntry, stack_closed, Val, body_of, holdings_of, link_holding, link_of, owner_in, AllZip, AreAllNumbers, AreOf, ClonesStack, ExtendsStack, FillsQueue, MakesQueueOf, MakesStackOf, QueueCells, append-nil, cell_seen, link_home}
 use Rattle.sdd_lists.specs.Cloning.{ClonesQueue, RefusesClone}
-use Rattle.sdd_lists.specs.Filling.{RefusesPush}
 use Rattle.sdd_script_model.proofs.Copying.{shown-numbers}
 use Rattle.sdd_interpreter.proofs.Shown.{points-first}
 use Rattle.sdd_interpreter.specs.Copies.{QueueIsCopied, StackIsCopied}

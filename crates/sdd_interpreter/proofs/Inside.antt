@@ -1,5 +1,5 @@
 -- What values hold owners of has a name
-use Rattle.sdd_interpreter.proofs.Words.{◌≡◌, ℕ, ◌+◌, ◌≤◌, [], ◌∷◌, None, Some, IsSome, slice_index_or, refl, ap, ◌∙◌, arith, OwnerOrCell, value_at, Body, Val, body_of, holdings_of, owner_in, slot_of, Environment, desk_of, IsTied, IsOfNamed, count-cons, count_by, eq-eqb, is_owner_of, name-some, named, one_where, times_held, ◌==◌}
+use Rattle.sdd_interpreter.proofs.Words.{◌≡◌, ℕ, ◌≤◌, [], ◌∷◌, None, Some, IsSome, slice_index_or, refl, ap, ◌∙◌, arith, OwnerOrCell, value_at, Body, Val, body_of, holdings_of, owner_in, slot_of, Environment, desk_of, IsTied, IsOfNamed, count-cons, count_by, eq-eqb, is_owner_of, name-some, named, one_where, times_held, ◌==◌}
 use Rattle.sdd_space.specs.Owned as owned
 use Rattle.sdd_space.specs.Shared as shared
 use Rattle.sdd_script_model.specs.declared.val.Body.TheVariants as body

@@ -1,6 +1,5 @@
 -- At the end of a script one participant gives up the queues, stacks and bags that are left in hand
-use Rattle.sdd_script.proofs.Words.{AreOfCells, Begins, Body, ClosesBag, Entry, Environment, IsQueue, IsWhole, List, None, NumberBag, Option, Queue, ScriptState, Some, Stack, StandsOn, Val, Vec, World, [], ap, bag_closed-leaves, bag_length, cell_in, cells_in, desk_of, first_slot, holds_nothing, home_in, inr, let_go_first, link_of, newest_holding, oldest_holding, queue_closed, refl, shared_cell, slice_index_or, slice_set, spilled, stack_closed, stack_holding, subst, sym, without_cell, ℕ, ◌++◌, ◌+◌, ◌∷◌, ◌≡◌, GoesOn, IsEnding, IsKeptBag, KeepsTold, arith, common_steps, desk_under, emptied, queue-there, queue_closed-leaves, stack_closed-leaves, world-is}
-use Rattle.sdd_script_model.specs.Sound.{named}
+use Rattle.sdd_script.proofs.Words.{AreOfCells, Begins, Body, ClosesBag, Entry, Environment, IsQueue, IsWhole, List, None, NumberBag, Option, Queue, ScriptState, Some, Stack, StandsOn, Val, Vec, World, [], ap, bag_closed-leaves, bag_length, cell_in, cells_in, desk_of, first_slot, holds_nothing, home_in, inr, let_go_first, link_of, newest_holding, oldest_holding, queue_closed, refl, shared_cell, slice_index_or, slice_set, spilled, stack_closed, stack_holding, subst, sym, without_cell, ℕ, ◌++◌, ◌∷◌, ◌≡◌, GoesOn, IsEnding, IsKeptBag, KeepsTold, arith, common_steps, desk_under, emptied, queue-there, queue_closed-leaves, stack_closed-leaves, world-is}
 use Rattle.sdd_core.specs.declared.tag.Tag.TheVariants.{None as no_tag}
 use Rattle.sdd_script_model.proofs.BagChains.{let_go_many, own_of, stack_of}
 use Rattle.sdd_script.proofs.Ending.{told-cell, named-at, spent-at, dates_in, within, goes-on, live-in}

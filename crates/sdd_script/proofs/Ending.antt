@@ -1,5 +1,5 @@
 -- The end of a script: no guard is open, one participant gives up all that is left in hand, and then all goes with the world
-use Rattle.sdd_script.proofs.Words.{Acts, AnyCell, AnyGuardOpen, AnyOwner, AreSpare, At, Bool, CanNest, Environment, GuardName, HasLists, HoldsLess, IsLedger, IsListCell, IsNullCell, IsPlaceOf, IsSecondCell, IsSome, IsSound, IsSpentTo, IsStored, IsTied, IsTrue, IsWhole, KeepsSlots, LeavesSound, List, NamedGuard, None, NumberBag, OpenSince, Option, OwnerOrCell, PlaceName, PrivateCollector, Raw, Reply, ScriptState, Share, Sole, Some, Standing, Val, Vec, World, [], accounts, ap, arith, at_home-spent, bag_at, body_of, cell_closed, cell_holding, cell_number, closed, collector_holding, contained, desk_of, entry_at, false, get_or-map, get_or_default, get_or_past, guarding, if◌then◌else◌, has-stored, held_in, holding_at, holdings_of, in_world, inl, inr, inside, is_of, is_open, is_out, is_some, is_waiting, length, less-same, link_of, live-is, ltb-true, map, map-set, newest_holding, oldest_holding, opened, opening_at, option_map, owned-out, owner_given, owner_holding, owner_in, phase_at, place_at, refl, retired, revived, right_to, shared_slot, slice_index_or, slice_set, slot_of, slots-same, sole_slot, spare-as, spent_twice, stack_holding, standing_at, starts, stocked-as, storage_in, subst, sym, true, value_at, with_standing, without_cell, ℕ, ◌+◌, ◌<◌, ◌∙◌, ◌∷◌, ◌≡◌, ◌≢◌, AreAllSpent, AreAtHome, AreSpent, BagsStay, CellsFall, GivesUp, GoesOn, HasMade, IsAccounted, IsEnding, IsOf, IsSpent, KeepsTold, ParticipantsMatch, ReaderId, SpendsGuard, StorageName, accounted-as, all-go, at-home, at-same, bags-still, cell-there, cell_closed-leaves, collector-spent, common_steps, date_at, dated-all, desk_under, finishes, get_or-map-range_with_len, has_right, is_own_cell, is_stack_cell, later, length-map-range_with_len, line-begins, linked, moves, named_among, named_owners, nat_lt, owner_held, owns, range_with_len, reader_at, released-leaves, retired-leaves, retires, sound-closed, sound-later, sound-opened, spends_cell, stays-as, stored-still, takes_back_raw}
+use Rattle.sdd_script.proofs.Words.{Acts, AnyCell, AnyGuardOpen, AnyOwner, AreSpare, At, Bool, CanNest, Environment, GuardName, HasLists, HoldsLess, IsLedger, IsListCell, IsNullCell, IsPlaceOf, IsSecondCell, IsSome, IsSound, IsSpentTo, IsStored, IsTied, IsTrue, IsWhole, KeepsSlots, LeavesSound, List, NamedGuard, None, NumberBag, OpenSince, Option, OwnerOrCell, PlaceName, PrivateCollector, Raw, Reply, ScriptState, Share, Sole, Some, Standing, Val, Vec, World, [], accounts, ap, arith, at_home-spent, bag_at, body_of, cell_closed, cell_holding, cell_number, closed, collector_holding, contained, desk_of, entry_at, false, get_or-map, get_or_default, get_or_past, guarding, if◌then◌else◌, has-stored, held_in, holding_at, holdings_of, in_world, inl, inr, inside, is_of, is_open, is_out, is_some, is_waiting, length, less-same, link_of, live-is, ltb-true, map, map-set, newest_holding, oldest_holding, opened, opening_at, option_map, owned-out, owner_given, owner_holding, owner_in, phase_at, place_at, refl, retired, revived, right_to, shared_slot, slice_index_or, slice_set, slots-same, sole_slot, spare-as, spent_twice, stack_holding, standing_at, starts, stocked-as, storage_in, subst, sym, true, value_at, with_standing, without_cell, ℕ, ◌+◌, ◌<◌, ◌∙◌, ◌∷◌, ◌≡◌, ◌≢◌, AreAllSpent, AreAtHome, AreSpent, BagsStay, CellsFall, GivesUp, GoesOn, HasMade, IsAccounted, IsEnding, IsOf, IsSpent, KeepsTold, ParticipantsMatch, ReaderId, SpendsGuard, StorageName, accounted-as, all-go, at-home, at-same, bags-still, cell-there, cell_closed-leaves, collector-spent, common_steps, date_at, dated-all, desk_under, finishes, get_or-map-range_with_len, has_right, is_own_cell, is_stack_cell, later, length-map-range_with_len, line-begins, linked, moves, named_among, named_owners, nat_lt, owner_held, owns, range_with_len, reader_at, released-leaves, retired-leaves, retires, sound-closed, sound-later, sound-opened, spends_cell, stays-as, stored-still, takes_back_raw}
 use Rattle.sdd_script_model.proofs.Layers.{layered-less}
 use Rattle.sdd_script_model.proofs.ListChanges.{has-same}
 use Rattle.sdd_script_model.proofs.Attending.{attended-same, keeps-time}
@@ -14,8 +14,6 @@ use Rattle.sdd_script.proofs.Ranks.{link-falls, rank, value-falls}
 use Rattle.sdd_space.specs.Owned as owned
 use Rattle.sdd_space.specs.Shared as shared
 use Rattle.sdd_participants.specs.declared.standing.Standing.TheVariants as standing
-use Rattle.sdd_space.specs.declared.owned.Owned.{Owned}
-use Rattle.sdd_space.specs.declared.shared.Shared.{Shared}
 
 -- ---- nothing is told otherwise
 

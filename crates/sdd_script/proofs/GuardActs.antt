@@ -1,5 +1,5 @@
 -- What coming and going, and each action of a guard leaves in hand: it is sound, and it is what the call means
-use Rattle.sdd_script.proofs.Words.{◌≡◌, ◌≢◌, ℕ, ◌+◌, Bool, if◌then◌else◌, List, [], ◌∷◌, ◌++◌, Option, Some, None, map, length, slice_index_or, slice_set, refl, sym, ap, ◌∙◌, subst, arith, IsTrue, ◌↔◌, IsPermutation, IsNonDecreasingBy, option_map, Vec, get_or-map, get_or_past, length-map, map-set, map_push, CanNest, is_open, Item, reader_of, reader_at, opened, closed, IsWhole, World, index_of, PlaceName, GuardName, ItemName, Register, At, NamedParticipant, NamedGuard, Environment, Val, holdings_of, ScriptState, OpenSince, BeginsLine, IsThere, opening_at, place_of, slot_at, in_world, Answers, HasOpen, names_in, attending, guarding, desk_of, IsTied, GuardsIn, slots_among, at-other, IsDatedWithin, Goes, Does, Here, attends, does, goes, place, place-is, sits, Contains, Epoch, IsVacant, Job, JobName, WaitsAt, at-end, at-pushed, closes, common_steps, dated-opened, ended, ends, epoch_of, home-opened, job_in, names-go, names-run, none as no_call, not-run-under, not-under, one_more, opened_since, places_among, reclaims, registered, registers, sound-closed, sound-ended, sound-opened, sound-registered, with_guard, with_newcomer, without_guard, without_participant}
+use Rattle.sdd_script.proofs.Words.{◌≡◌, ◌≢◌, ℕ, Bool, if◌then◌else◌, List, [], ◌∷◌, ◌++◌, Option, Some, None, map, length, slice_index_or, slice_set, refl, sym, ap, ◌∙◌, subst, arith, IsTrue, ◌↔◌, IsPermutation, IsNonDecreasingBy, option_map, Vec, get_or-map, get_or_past, length-map, map-set, map_push, CanNest, is_open, Item, reader_of, reader_at, opened, closed, IsWhole, World, index_of, PlaceName, GuardName, ItemName, Register, At, NamedParticipant, NamedGuard, Environment, Val, holdings_of, ScriptState, OpenSince, BeginsLine, IsThere, opening_at, place_of, slot_at, in_world, Answers, HasOpen, names_in, attending, guarding, desk_of, IsTied, GuardsIn, slots_among, at-other, IsDatedWithin, Goes, Does, Here, attends, does, goes, place, place-is, sits, Contains, Epoch, IsVacant, Job, JobName, WaitsAt, at-end, at-pushed, closes, common_steps, dated-opened, ended, ends, epoch_of, home-opened, job_in, names-go, names-run, none as no_call, not-run-under, not-under, one_more, opened_since, places_among, reclaims, registered, registers, sound-closed, sound-ended, sound-opened, sound-registered, with_guard, with_newcomer, without_guard, without_participant}
 use Rattle.sdd_rights.specs.Units as token
 use Rattle.sdd_participants.specs.EpochState as time
 use Rattle.sdd_space.specs.WorldStep.WorldStep.{opens}

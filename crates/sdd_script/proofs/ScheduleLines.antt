@@ -1,15 +1,15 @@
 -- The words of a line, and the step that they are
-use Rattle.sdd_script.proofs.Words.{◌≡◌, ℕ, ◌+◌, ◌^◌, ◌<◌, ◌≤◌, Bool, true, false, List, [], ◌∷◌, length, get_or, map, Option, Some, None, refl, sym, ap, subst, ◌∙◌, arith, rules, ◌==◌, AllByRecursion, Step, line_of, HasNumbers, IsStepText, IsBelow, IsTextOf, MatchOption, OnSome, Retire, codes, drop, if◌then◌else◌, item_named, numbers_of, place_named, verb_of, words_of}
+use Rattle.sdd_script.proofs.Words.{◌≡◌, ℕ, ◌^◌, ◌<◌, ◌≤◌, Bool, true, false, List, [], ◌∷◌, length, get_or, map, Option, Some, None, refl, sym, ap, subst, ◌∙◌, arith, rules, ◌==◌, AllByRecursion, Step, line_of, HasNumbers, IsStepText, IsBelow, IsTextOf, MatchOption, OnSome, Retire, codes, drop, if◌then◌else◌, item_named, numbers_of, place_named, verb_of, words_of}
 use Rattle.std.specs.Fmt.{decimal}
 use Rattle.std.specs.Str.{IsAscii, IsUtf8, bytes_eq}
 use Rattle.std.specs.Str.Parse.{AllDigits, digits_value}
 use Rattle.std.proofs.lemmas.Slice.Eq.{bytes_eq-Decides}
-use Rattle.std.proofs.lemmas.List.Splits.{slice_split_none, length-slice_split, join_with_byte-slice_split}
+use Rattle.std.proofs.lemmas.List.Splits.{length-slice_split, join_with_byte-slice_split}
 use Rattle.std.proofs.lemmas.Str.Parse.{IsNumeralModel, numerals_by_value, tells_digits}
 use Rattle.std.proofs.lemmas.Fmt.{digits_value-decimal}
 use Rattle.std.proofs.lemmas.Str.{IsUtf8-from_ascii}
 use Rattle.sdd_script_text.specs.Call.{IsWordOf, joined, words}
-use Rattle.sdd_script_text.proofs.Lines.{IsWord, AreJoined, number_word, written_word, one_joined, more_joined, unspaced}
+use Rattle.sdd_script_text.proofs.Lines.{IsWord, AreJoined, number_word, written_word, one_joined, more_joined}
 use Rattle.sdd_script.specs.ScheduleReading.{steps_at, called}
 
 -- ---- numbers

@@ -1,5 +1,5 @@
 -- What the steps of a list are answered, one by one
-use Rattle.sdd_script.proofs.Words.{◌≡◌, ◌≢◌, ℕ, ◌+◌, ◌<◌, Bool, true, false, List, [], ◌∷◌, ◌++◌, length, Some, refl, sym, ap, subst, suc, ◌∙◌, Step, did, size_for, state, history, AreAnswers, Exact, IsSomeAnd, Publish, Safe, Size, Tells, at_each, cond, did_possible, exact, goes_on, goes_on-append, goes_on_is, if◌then◌else◌, possible, safe, slice_get}
+use Rattle.sdd_script.proofs.Words.{◌≡◌, ◌≢◌, ℕ, Bool, true, false, List, [], ◌∷◌, ◌++◌, length, Some, refl, sym, ap, subst, suc, ◌∙◌, Step, did, size_for, state, history, AreAnswers, Exact, IsSomeAnd, Publish, Safe, Size, Tells, at_each, did_possible, exact, goes_on, goes_on-append, goes_on_is, if◌then◌else◌, possible, safe, slice_get}
 use Rattle.sdd_machine.specs.declared.machine.steps.Did.{Did}
 use Rattle.sdd_machine.specs.declared.machine.steps.Did.TheVariants.{NotPossible}
 use Rattle.sdd_machine.specs.Laws.{AtEachMoment}

@@ -1,9 +1,6 @@
 -- How many owners and rights to cells have names, as names are given and spent, and what that tells of a script's world
 use Rattle.sdd_script_model.proofs.Words.{◌≡◌, ◌⊎◌, List, ℕ, suc, inl, inr, ◌+◌, ◌≤◌, [], ◌∷◌, ◌++◌, true, Option, Some, None, IsSome, is_some, count_by, slice_index_or, slice_set, refl, ap, ◌∙◌, arith, ◌==◌, sum_by-cons, sum_by_push, cases_lt, nat_tests, entry_at, Claim, owner_of, right_to, is_right_to, claims, one, owner_held, times_kept, Tells, once_if, OwnerOrCell, is_out, World, standing_at, value_at, held_in, is_owner_of, times_held, one_where, outside-out, ledger-laws, once-where, OwnerName, Value, Body, Val, body_of, owner_in, holdings_of, link_of, storage_in, ScriptState, holding_at, slot_of, cell_of, collector_of, StorageName, IsSpare, IsPutIn, owners_left, owners_put, owners_taken, slot_put, IsSound, owns, has_right, named, named_among, named_owners, contained, one-if, Bool, false, sum_by, IsAccounted, in_cell-out, IsOwnerName, common_steps}
 use Rattle.sdd_script_model.proofs.Links.{holds-so}
-use Rattle.sdd_space.specs.Owned as owned_of
-use Rattle.sdd_space.specs.Shared as shared_of
-use Rattle.sdd_script_model.specs.declared.val.Body.TheVariants as body
 
 -- the owners of a desk are accounted for, where these have names and the world is this
 abbrev pub AreCounted : ScriptState → World Val → Type 0

@@ -5,7 +5,6 @@ use Rattle.sdd_script_model.proofs.Attending.{left-entry, place, opens-one, open
 use Rattle.sdd_script_model.proofs.Dates.{date-before}
 use Rattle.sdd_script_model.proofs.Gone.{reclaimed-waits}
 use Rattle.sdd_script_model.proofs.Stocked.{KeepsSlots, begins-out, slots-opened}
-use Rattle.sdd_participants.specs.EpochState as time
 use Rattle.sdd_script_model.specs.ScriptState as desk
 
 -- each participant that has a guard open had one open before, since the same line

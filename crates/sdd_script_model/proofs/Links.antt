@@ -2,8 +2,6 @@
 use Rattle.sdd_script_model.proofs.Words.{◌≡◌, inl, inr, ℕ, ◌+◌, Some, None, slice_index_or, slice_set, refl, sym, ap, ◌∙◌, arith, ◌==◌, nat_tests, entry_at, without_entry, CellContents, Claim, right_to, claims, one, World, value_at, held_in, cell_closed, spilled, once_if, Val, holdings_of, body_of, link_of, owner_in, Sheds, common_steps}
 use Rattle.sdd_core.specs.declared.tag.Tag.TheVariants.{None as no_tag}
 use Rattle.sdd_script_model.proofs.Entry.{set-where}
-use Rattle.sdd_space.specs.Owned as owned
-use Rattle.sdd_space.specs.Shared as shared
 
 -- each value that is there was there, but for a number
 abbrev pub HoldsLess : World Val → World Val → Type 0

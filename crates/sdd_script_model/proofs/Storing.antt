@@ -2,7 +2,6 @@
 use Rattle.sdd_script_model.proofs.Words.{◌≡◌, ◌≢◌, ◌⊎◌, ◌+◌, ◌≤◌, inl, inr, ℕ, List, [], ◌∷◌, Bool, true, false, cond, Option, Some, None, is_some, slice_index_or, slice_set, eq-eqb, refl, sym, ap, ◌∙◌, subst, arith, ◌==◌, cases_eq, get_or-le-sum_by, entry_at, without_entry, CellContents, Standing, Owned, Raw, Shared, Retired, Private as privately, LimboEntry, collector_closed, waiting_for, without_collector, atomic_shared, Claim, owner_of, right_to, claims, inside, one, times_kept, IsLedger, Keeps, Moves, Sets, stirs, accelerates, changes_pointers, makes, shares, retires, releases, collects, drops, puts_out_raw, takes_back_raw, edits, makes_cell, changes_cell, spends_cell, closes_cell, closes_collector, is_out, holds_slot, times_held, World, standing_at, value_at, all_reclaimed, cell_closed, dropped, dropped_out, freed, held_in, opened, owner_given, retired, vacated, IsWhole, sum-out, once-bound, ledger-laws, IsAmong, AreLinked, Entry, first_slot, cell_in, AreShelves, StorageName, AreBags, AreSpare, HasStorages, IsKept, IsSpare, IsStored, StandsOn, bagged, IsThere, NumberBag, ScriptState, bag_at, bag_length, name_at, slot_at, contained, stacked, Value, IsPutIn, Val, body_of, holdings_of, link_of, owner_in, storage_in, Body, with_standing, ◌-◌, ◌<◌, owner_count, IsLinkIn, owner-given, common_steps}
 use Rattle.sdd_space.specs.OwnerCounts.{is_of}
 use Rattle.sdd_space.specs.Ledger.Moves.{registers, ends, opens, closes, defers}
-use Rattle.sdd_script_text.specs.declared.call.Value.TheVariants.{Number}
 use Rattle.sdd_script_model.proofs.Entry.{at-other, inside as inside-list}
 use Rattle.sdd_script_model.proofs.Gone.{given-other}
 use Rattle.sdd_script_model.proofs.Links.{HoldsLess, holds-so, less-same, same-once}

@@ -1,4 +1,4 @@
-use Rattle.sdd_script.proofs.Words.{refl, At, cell_holding, desk_of, Does, here, next, making_cell}
+use Rattle.sdd_script.proofs.Words.{At, cell_holding, desk_of, Does, here, next, making_cell}
 use Rattle.sdd_script_text.specs.declared.answer.Reply.TheVariants as reply
 use Rattle.sdd_script.proofs.CellActs.{acts-celled, named-home}
 use Rattle.sdd_script.proofs.commands.cells.make_cell.Goals as goal

@@ -1,4 +1,3 @@
-use Rattle.sdd_script.proofs.Words.{refl, rules}
 use Rattle.sdd_script.proofs.ScheduleLines.{none_then, no_place, no_item, two_words}
 use Rattle.sdd_script.proofs.schedules.line.step.Goals as goal
 

@@ -1,4 +1,4 @@
-use Rattle.sdd_script_text.proofs.Words.{◌≡◌, ◌∙◌, sym, codes, cond-false, false_from_ne_true, bytes_eq, bytes_eq-Decides}
+use Rattle.sdd_script_text.proofs.Words.{◌∙◌, sym, codes, cond-false, false_from_ne_true, bytes_eq, bytes_eq-Decides}
 use Rattle.sdd_script_text.proofs.call.reading.with_guard_behind.Goals as goal
 
 -- a stack's verbs but `all` are those of any list
