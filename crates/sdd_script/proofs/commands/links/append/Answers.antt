@@ -53,8 +53,8 @@ value_shown-entry-requires-clause-stays c =
     let found = c.in-Some.ensures.found in
     let can = rw (c.as_slice-slots.ensures.value, c.as_slice-names.ensures.value, c.as_slice-dates.ensures.value) at c.in-Some-slot_since.ensures.0 in
     let slot = c.in-Some-slot_since.ensures.1 ∙ ap (λ slots. slice_index_or slots c.args.item.0 0) c.as_slice-slots.ensures.value in
-    rw (c.is_loose_beside.ensures.world, slot) (stays-here (under c.args.name.0 c.stage.invariant c.is_whole.ensures found.0) c.args.guard.0 c.args.item.0 _ found.1
-    found.2 (points c.stage.inside.hand c.args.name.0 _ found.0 c.args.item.0 can))
+    rw (c.is_loose_beside.ensures.world, slot) (stays-here (under c.args.name.0 c.stage.invariant c.is_whole.ensures found.0) c.args.guard.0
+    c.args.item.0 _ found.1 found.2 (points c.stage.inside.hand c.args.name.0 _ found.0 c.args.item.0 can))
 
 pub list_step_at-requires-clause-asked : goal.list_step_at-requires-clause-asked
 list_step_at-requires-clause-asked c =
