@@ -48,25 +48,6 @@ fn ptr_compared<'g>(
     ptr_at(world, place, slot.number(), guard).with_tag(tag)
 }
 
-/// The cell holds this from now on, with this tag. Answers what it held, and the tag before.
-pub fn swap_in(
-    world: &mut World<Val>,
-    place: &Place,
-    cell: &AnyCell,
-    next: CellOwner,
-    tag: Tag,
-) -> (CellOwner, Tag)
-    requires place { IsPlaceOf world.old (index_of place.now) }
-    requires home { IsOf world.old.home (cell_holding cell.now) }
-    requires of_kind { filling_kind next ≡ cell_kind cell.now }
-    requires owner { IfSome (filling_holding next) (IsOf world.old.home) }
-    ensures swapped { (held : CellContents) × (entry_at world.old.cells (cell_number cell.now) ≡ Some held) × (result.1 ≡ held.tag)
-        × (filling_holding result.0 ≡ held_as (cell_kind cell.now) held.held world.old.home.slots)
-        × (world.new ≡ with_cell world.old (cell_number cell.now) (record { held = slot_of (filling_holding next); tag = tag })) }
-{
-    cell_step_at(world, place, SwapIn { cell, next, tag })
-}
-
 /// The cell holds this from now on, with this tag, if it held that: then what it held comes back. Else what was to go in, and what the cell holds.
 pub fn exchange_at(
     world: &mut World<Val>,
@@ -125,59 +106,4 @@ fn exchange_in<'g>(
         tag,
     };
     cell_step_at(world, place, exchanges)
-}
-
-/// The cell is spent, and what it held comes back.
-pub fn take_out(world: &mut World<Val>, place: &Place, cell: AnyCell) -> CellOwner
-    requires place { IsPlaceOf world.old (index_of place.now) }
-    requires home { IsOf world.old.home (cell_holding cell) }
-    ensures taken { (held : CellContents) × (entry_at world.old.cells (cell_number cell) ≡ Some held)
-        × (filling_holding result ≡ held_as (cell_kind cell) held.held world.old.home.slots)
-        × (world.new ≡ without_cell world.old (cell_number cell)) }
-{
-    cell_step_at(world, place, TakeOut { cell })
-}
-
-/// One owner more of what the cell holds, if it holds something.
-pub fn share_held(
-    world: &mut World<Val>,
-    place: &Place,
-    guard: &Guard,
-    cell: &AtomicShared<Val>,
-) -> Result<Option<Shared<Val>>, Refused>
-    requires place { IsPlaceOf world.old (index_of place.now) }
-    requires reader { reader_of guard.now ≡ reader_at world.old (index_of place.now) }
-    requires home { shared.cells_home cell.now ≡ world.old.home.cells }
-    ensures home { IfOk result (shared.IsOfSlots world.old.home.slots) }
-    ensures shared { (held : CellContents) × (entry_at world.old.cells (shared.cell_of cell.now) ≡ Some held) × MatchResult result
-        (λ o. (option_map shared.slot_of o ≡ held.held) × MatchOption o (world.new ≡ world.old)
-        (λ owner. (owners : ℕ) × IsSharedBy owners (standing_at world.old (shared.slot_of owner)) × (owners < 2 ^ 62)
-        × (world.new ≡ with_standing world.old (shared.slot_of owner) (shared_by (owners + 1)))))
-        (λ e. (e ≡ Refused.TooManyOwners) × IfSome held.held (λ slot. IsSharedBy (2 ^ 62) (standing_at world.old slot)) × IsSome held.held
-        × (world.new ≡ world.old)) }
-{
-    cell_step_at(world, place, ShareHeld { guard, cell })
-}
-
-/// Another cell, with one owner more of what the cell holds, if it holds something.
-pub fn copy_held(
-    world: &mut World<Val>,
-    place: &Place,
-    guard: &Guard,
-    cell: &AtomicShared<Val>,
-) -> Result<AtomicShared<Val>, Refused>
-    requires place { IsPlaceOf world.old (index_of place.now) }
-    requires reader { reader_of guard.now ≡ reader_at world.old (index_of place.now) }
-    requires home { shared.cells_home cell.now ≡ world.old.home.cells }
-    ensures home { IfOk result (λ other. shared.cells_home other ≡ world.old.home.cells) }
-    ensures copied { (held : CellContents) × (entry_at world.old.cells (shared.cell_of cell.now) ≡ Some held) × MatchResult result
-        (λ other. IsEmptyAt world.old.cells (shared.cell_of other) × MatchOption held.held
-        (world.new ≡ with_cell world.old (shared.cell_of other) held)
-        (λ slot. (owners : ℕ) × IsSharedBy owners (standing_at world.old slot) × (owners < 2 ^ 62)
-        × (world.new ≡ with_cell (with_standing world.old slot (shared_by (owners + 1))) (shared.cell_of other) held)))
-        (λ e. (world.new ≡ world.old) × (IsFull world.old.cells × (e ≡ Refused.NoCell) ⊎
-        ¬ (IsFull world.old.cells) × (e ≡ Refused.TooManyOwners) × IsSome held.held
-        × IfSome held.held (λ slot. IsSharedBy (2 ^ 62) (standing_at world.old slot)))) }
-{
-    cell_step_at(world, place, CopyCell { guard, cell })
 }

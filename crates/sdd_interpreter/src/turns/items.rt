@@ -20,25 +20,6 @@ use sdd_space::{Guard, Shows};
 use sdd_world::inner::ptr_at;
 use sdd_world::{Place, World};
 
-/// A new item, which holds this, and a cell for its link.
-pub fn make_item(
-    world: &mut World<Val>,
-    place: &Place,
-    body: Body,
-    ownership: OwnerKind,
-) -> AnyOwner
-    requires place { IsPlaceOf world.old (index_of place.now) }
-    requires cell { ¬ (IsFull world.old.cells) }
-    requires slot { ¬ (IsFull world.old.standings) }
-    requires home { AreOf world.old.home (owner_in body) }
-    ensures made { (k cell : ℕ) × (entry : Val) × (owner_holding result ≡ holding_first ownership k world.old.home.slots)
-        × IsEmptyAt world.old.cells cell × IsEmptyAt world.old.standings k
-        × (body_of entry ≡ body) × (link_of entry ≡ cell) × (link_home entry ≡ world.old.home.cells)
-        × (world.new ≡ made_as (nulled world.old cell) k entry (standing_first ownership)) }
-{
-    item_step_at(world, place, MakeItem { body, ownership })
-}
-
 /// The value in a slot, as a pointer to its item shows it under a guard of the participant.
 pub fn value_shown<'g>(
     world: &mut World<Val>,

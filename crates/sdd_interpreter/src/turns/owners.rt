@@ -21,43 +21,6 @@ use sdd_space::{Guard, Owned, Shared};
 use sdd_world::inner::ptr_at;
 use sdd_world::{Place, World};
 
-/// The only owner retires its item, which waits with the participant.
-pub fn retire_item(world: &mut World<Val>, place: &Place, owner: Owned<Val>)
-    requires place { IsPlaceOf world.old (index_of place.now) }
-    requires home { slots_home owner ≡ world.old.home.slots }
-    ensures retired { world.new ≡ retired world.old (index_of place.now) (slot_of owner) }
-    ensures owned { standing_at world.old (slot_of owner) ≡ Some standing.Owned }
-{
-    item_step_at(world, place, RetireItem { owner });
-}
-
-/// A shared owner is given up; the last one's item waits with the participant.
-pub fn release_owner(world: &mut World<Val>, place: &Place, owner: Shared<Val>) -> bool
-    requires place { IsPlaceOf world.old (index_of place.now) }
-    requires home { shared_owner.slots_home owner ≡ world.old.home.slots }
-    ensures released { (owners : ℕ) × IsSharedBy owners (standing_at world.old (shared_owner.slot_of owner)) × (IsTrue result ↔ (owners ≡ 1))
-        × (world.new ≡ owner_given world.old (index_of place.now) (shared_owner.slot_of owner) (Some (shared_by owners))) }
-{
-    item_step_at(world, place, ReleaseOwner { owner })
-}
-
-/// One owner more beside a shared one.
-pub fn clone_held(
-    world: &mut World<Val>,
-    place: &Place,
-    owner: &Shared<Val>,
-) -> Result<Shared<Val>, Refused>
-    requires place { IsPlaceOf world.old (index_of place.now) }
-    requires home { shared_owner.slots_home owner.now ≡ world.old.home.slots }
-    ensures owner { IfOk result (λ other.
-        (shared_owner.slot_of other ≡ shared_owner.slot_of owner.now) × (shared_owner.slots_home other ≡ world.old.home.slots)) }
-    ensures shared { (owners : ℕ) × IsSharedBy owners (standing_at world.old (shared_owner.slot_of owner.now)) × MatchResult result
-        (λ _. (owners < 2 ^ 62) × (world.new ≡ with_standing world.old (shared_owner.slot_of owner.now) (shared_by (owners + 1))))
-        (λ e. (owners ≡ 2 ^ 62) × (e ≡ Refused.TooManyOwners) × (world.new ≡ world.old)) }
-{
-    item_step_at(world, place, CloneOwner { owner })
-}
-
 /// One owner more of the item in a slot, through a pointer to it under a guard of the participant.
 pub fn share_item(
     world: &mut World<Val>,

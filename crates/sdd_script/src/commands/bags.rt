@@ -6,9 +6,10 @@ ghost use Rattle.sdd_script_model.specs.Script.{Acts};
 ghost use Rattle.sdd_script_model.specs.ScriptState.{BeginsLine};
 
 use sdd_interpreter::Interpreter;
+use sdd_interpreter::commands::bags::{AddNumber, DrainBag, MakeBag, TakeNumber};
 use sdd_interpreter::items::{date_new, forget_new, free_by_slot, waiting_by_slot};
 use sdd_interpreter::participants::{under, under_any};
-use sdd_interpreter::turns::bags::{add_at, bag_at, close_at, drain_at, take_at};
+use sdd_interpreter::turns::{bag_closed_at, list_step_at};
 use sdd_script_text::{Action, BagName, Call, GuardName, Numbers, PlaceName, Reply};
 use std::alloc::AllocError;
 
@@ -21,7 +22,7 @@ pub fn make_bag(stage: &mut Interpreter, name: PlaceName) -> Result<Reply, Alloc
     };
     stage.hand.bags.make_room()?;
     stage.hand.world.is_whole();
-    match bag_at(&mut stage.hand.world, &attending.place) {
+    match list_step_at(&mut stage.hand.world, &attending.place, MakeBag) {
         Ok(bag) => {
             let name = stage.hand.bags.give(bag);
             Ok(Reply::Bag(BagName(name)))
@@ -55,7 +56,15 @@ pub fn add(
         unreachable!()
     };
     let place = &attending.place;
-    let (taken, added) = add_at(&mut stage.hand.world, place, taken, number, &held.guard);
+    let (taken, added) = list_step_at(
+        &mut stage.hand.world,
+        place,
+        AddNumber {
+            bag: taken,
+            number,
+            guard: &held.guard,
+        },
+    );
     stage.hand.bags.put_back(bag.0, taken);
     match added {
         Ok(()) => {
@@ -110,7 +119,14 @@ pub fn take(
         unreachable!()
     };
     let place = &attending.place;
-    let (taken, number) = take_at(&mut stage.hand.world, place, taken, &held.guard);
+    let (taken, number) = list_step_at(
+        &mut stage.hand.world,
+        place,
+        TakeNumber {
+            bag: taken,
+            guard: &held.guard,
+        },
+    );
     stage.hand.bags.put_back(bag.0, taken);
     let line = stage.hand.moment;
     date_new(
@@ -152,7 +168,15 @@ pub fn drain(
         unreachable!()
     };
     let place = &attending.place;
-    let (taken, mut numbers) = drain_at(&mut stage.hand.world, place, taken, &held.guard, room);
+    let (taken, mut numbers) = list_step_at(
+        &mut stage.hand.world,
+        place,
+        DrainBag {
+            bag: taken,
+            guard: &held.guard,
+            room,
+        },
+    );
     stage.hand.bags.put_back(bag.0, taken);
     let line = stage.hand.moment;
     date_new(
@@ -199,7 +223,7 @@ pub fn close_bag(
     let Some(taken) = stage.hand.bags.take(bag.0) else {
         unreachable!()
     };
-    close_at(&mut stage.hand.world, &attending.place, taken, &held.guard);
+    bag_closed_at(&mut stage.hand.world, &attending.place, taken, &held.guard);
     let line = stage.hand.moment;
     date_new(
         &mut stage.hand.dates,

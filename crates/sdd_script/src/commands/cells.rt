@@ -8,10 +8,11 @@ ghost use Rattle.sdd_script_model.specs.Script.{Acts};
 
 use sdd_core::{Refused, Tag};
 use sdd_interpreter::Interpreter;
+use sdd_interpreter::commands::cells::{CloseCell, LoadCell, MakeCell, PeekCell, ReadTag, TagIf};
 use sdd_interpreter::items::{date_if_waiting, item_seen};
 use sdd_interpreter::owners::{fits, take_filling};
 use sdd_interpreter::participants::under;
-use sdd_interpreter::turns::cells::{cell_around, cell_loaded, close_at, slot_in, tag_if, tag_of};
+use sdd_interpreter::turns::{cell_step_at, item_step_at};
 use sdd_participants::CellContents;
 use sdd_script_model::OwnerKind;
 use sdd_script_text::{Action, Call, CellName, GuardName, ItemName, OwnerName, PlaceName, Reply};
@@ -40,7 +41,11 @@ pub fn make_cell(
         return Ok(Reply::Refused(Refused::NoCell));
     }
     let filling = take_filling(&mut stage.hand.owners, ownership, owner);
-    let cell = cell_around(&mut stage.hand.world, &attending.place, filling);
+    let cell = cell_step_at(
+        &mut stage.hand.world,
+        &attending.place,
+        MakeCell { filling },
+    );
     let name = stage.hand.cells.give(cell);
     Ok(Reply::Cell(CellName(name)))
 }
@@ -56,7 +61,14 @@ pub fn load(stage: &mut Interpreter, name: PlaceName, cell: CellName, guard: Gua
         return Reply::Invalid;
     };
     stage.hand.world.is_whole();
-    let loaded = cell_loaded(&mut stage.hand.world, &attending.place, cell, &held.guard);
+    let loaded = cell_step_at(
+        &mut stage.hand.world,
+        &attending.place,
+        LoadCell {
+            cell,
+            guard: &held.guard,
+        },
+    );
     let item = item_seen(stage.hand.names.as_slice(), loaded.held);
     Reply::Pointer(item, loaded.tag)
 }
@@ -72,7 +84,7 @@ pub fn tag(stage: &mut Interpreter, name: PlaceName, cell: CellName) -> Reply
         return Reply::Invalid;
     };
     stage.hand.world.is_whole();
-    Reply::Tag(tag_of(&mut stage.hand.world, &attending.place, cell))
+    Reply::Tag(cell_step_at(&mut stage.hand.world, &attending.place, ReadTag { cell }))
 }
 
 /// `P tagif C T if T`: a cell has the first tag where it had the second, and whether it had is told.
@@ -92,7 +104,11 @@ pub fn set_tag_if(
         return Reply::Invalid;
     };
     stage.hand.world.is_whole();
-    Reply::Truth(tag_if(&mut stage.hand.world, &attending.place, cell, tag, was))
+    Reply::Truth(cell_step_at(
+        &mut stage.hand.world,
+        &attending.place,
+        TagIf { cell, tag, was },
+    ))
 }
 
 /// `P close C`: the cell is closed, and the participant given what it held.
@@ -106,8 +122,12 @@ pub fn close_cell(stage: &mut Interpreter, name: PlaceName, cell: CellName) -> R
         return Reply::Invalid;
     };
     stage.hand.world.is_whole();
-    let held = slot_in(&mut stage.hand.world, &attending.place, &cell);
-    close_at(&mut stage.hand.world, &attending.place, cell);
+    let held = cell_step_at(
+        &mut stage.hand.world,
+        &attending.place,
+        PeekCell { cell: &cell },
+    );
+    item_step_at(&mut stage.hand.world, &attending.place, CloseCell { cell });
     let line = stage.hand.moment;
     date_if_waiting(&mut stage.hand.dates, &stage.hand.world, held, line);
     Reply::Done

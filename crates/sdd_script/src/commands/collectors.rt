@@ -10,9 +10,10 @@ ghost use Rattle.sdd_script_model.specs.Script.{Acts, Answers};
 
 use sdd_core::Refused;
 use sdd_interpreter::Interpreter;
+use sdd_interpreter::commands::collectors::{CloseCollector, GiveToCollector, MakeCollector};
 use sdd_interpreter::items::{date_if_waiting, date_new, items_in, slots_for, waiting_by_slot};
 use sdd_interpreter::participants::under;
-use sdd_interpreter::turns::collectors::{close_at, collector_at, give_to};
+use sdd_interpreter::turns::collector_step_at;
 use sdd_script_model::Val;
 use sdd_script_text::{
     Action, Answer, Call, CollectorName, GuardName, ItemName, Names, OwnerName, PlaceName, Reply,
@@ -30,7 +31,7 @@ pub fn make_collector(stage: &mut Interpreter, name: PlaceName) -> Result<Reply,
     };
     stage.hand.collectors.make_room()?;
     stage.hand.world.is_whole();
-    match collector_at(&mut stage.hand.world, &attending.place) {
+    match collector_step_at(&mut stage.hand.world, &attending.place, MakeCollector) {
         Ok(collector) => {
             let name = stage.hand.collectors.give(collector);
             Ok(Reply::Collector(CollectorName(name)))
@@ -60,12 +61,14 @@ pub fn collect(
     };
     stage.hand.world.is_whole();
     let slot = owner.slot();
-    let reply = give_to(
+    let reply = collector_step_at(
         &mut stage.hand.world,
         &attending.place,
-        collector,
-        owner,
-        &held.guard,
+        GiveToCollector {
+            collector,
+            owner,
+            guard: &held.guard,
+        },
     );
     let line = stage.hand.moment;
     date_if_waiting(&mut stage.hand.dates, &stage.hand.world, Some(slot), line);
@@ -95,7 +98,11 @@ pub fn close_collector(
     let Some(held) = stage.hand.collectors.take(collector.0) else {
         unreachable!()
     };
-    if let Err((held, refused)) = close_at(&mut stage.hand.world, &attending.place, held) {
+    if let Err((held, refused)) = collector_step_at(
+        &mut stage.hand.world,
+        &attending.place,
+        CloseCollector { collector: held },
+    ) {
         stage.hand.collectors.put_back(collector.0, held);
         return Ok(stage.answer(Reply::Refused(refused)));
     }

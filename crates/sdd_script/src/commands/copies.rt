@@ -9,7 +9,7 @@ use sdd_interpreter::Interpreter;
 use sdd_interpreter::holding::AnyList;
 use sdd_interpreter::items::{date_new, forget_new, free_by_slot, name_all, waiting_by_slot};
 use sdd_interpreter::participants::under;
-use sdd_interpreter::turns::copies::{copy_queue_at, copy_stack_at, slots_at};
+use sdd_interpreter::turns::{copy_queue_at, copy_stack_at, slots_at};
 use sdd_script_text::{Action, Call, GuardName, ListName, PlaceName, QueueName, Reply, StackName};
 use std::alloc::AllocError;
 

@@ -10,7 +10,7 @@ use sdd_interpreter::containers::{list_named, number_owned};
 use sdd_interpreter::holding::{AnyOwner, slot_of_share};
 use sdd_interpreter::items::{date_new, waiting_by_slot};
 use sdd_interpreter::participants::under;
-use sdd_interpreter::turns::containers::{pop_at, push_at};
+use sdd_interpreter::turns::{pop_at, push_at};
 use sdd_lists::Unpopped;
 use sdd_script_text::{Call, GuardName, ItemName, ListName, OwnerName, PlaceName, Reply};
 use std::alloc::AllocError;

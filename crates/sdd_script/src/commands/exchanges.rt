@@ -7,13 +7,14 @@ ghost use Rattle.sdd_script_model.specs.Script.{Acts};
 
 use sdd_core::{Refused, Tag};
 use sdd_interpreter::Interpreter;
+use sdd_interpreter::commands::exchanges::{CopyCell, ShareHeld, SwapIn, TakeOut};
 use sdd_interpreter::holding::{AnyCell, AnyOwner};
 use sdd_interpreter::items::{item_seen, slot_compared};
 use sdd_interpreter::owners::{
     fits, give_filling, put_back, shared_cell_of, take_filling, told_back,
 };
 use sdd_interpreter::participants::under;
-use sdd_interpreter::turns::exchanges::{copy_held, exchange_at, share_held, swap_in, take_out};
+use sdd_interpreter::turns::{cell_step_at, exchange_at};
 use sdd_participants::CellContents;
 use sdd_script_text::{Action, Call, CellName, GuardName, ItemName, OwnerName, PlaceName, Reply};
 use std::alloc::AllocError;
@@ -41,7 +42,15 @@ pub fn swap(
     stage.hand.owners.make_room()?;
     stage.hand.world.is_whole();
     let next = take_filling(&mut stage.hand.owners, holder.ownership(), owner);
-    let (old, was) = swap_in(&mut stage.hand.world, &attending.place, holder, next, tag);
+    let (old, was) = cell_step_at(
+        &mut stage.hand.world,
+        &attending.place,
+        SwapIn {
+            cell: holder,
+            next,
+            tag,
+        },
+    );
     let name = give_filling(&mut stage.hand.owners, old);
     Ok(Reply::Swapped(name, was))
 }
@@ -130,7 +139,11 @@ pub fn into_owner(
     let Some(holder) = stage.hand.cells.take(cell.0) else {
         unreachable!()
     };
-    let held = take_out(&mut stage.hand.world, &attending.place, holder);
+    let held = cell_step_at(
+        &mut stage.hand.world,
+        &attending.place,
+        TakeOut { cell: holder },
+    );
     let name = give_filling(&mut stage.hand.owners, held);
     Ok(told_back(name))
 }
@@ -156,7 +169,14 @@ pub fn copy(
     let Some(holder) = shared_cell_of(&stage.hand.cells, cell.0) else {
         unreachable!()
     };
-    match copy_held(&mut stage.hand.world, &attending.place, &held.guard, holder) {
+    match cell_step_at(
+        &mut stage.hand.world,
+        &attending.place,
+        CopyCell {
+            guard: &held.guard,
+            cell: holder,
+        },
+    ) {
         Ok(other) => {
             let name = stage.hand.cells.give(AnyCell::Share(other));
             Ok(Reply::Cell(CellName(name)))
@@ -183,7 +203,14 @@ pub fn share(
     };
     stage.hand.owners.make_room()?;
     stage.hand.world.is_whole();
-    match share_held(&mut stage.hand.world, &attending.place, &held.guard, holder) {
+    match cell_step_at(
+        &mut stage.hand.world,
+        &attending.place,
+        ShareHeld {
+            guard: &held.guard,
+            cell: holder,
+        },
+    ) {
         Ok(Some(owner)) => {
             let name = stage.hand.owners.give(AnyOwner::Share(owner));
             Ok(Reply::Owner(OwnerName(name)))

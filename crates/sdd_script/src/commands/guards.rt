@@ -10,12 +10,13 @@ ghost use Rattle.sdd_script_model.specs.ScriptState.{BeginsLine};
 ghost use Rattle.sdd_script_model.specs.Script.{Acts, Answers};
 
 use sdd_interpreter::Interpreter;
+use sdd_interpreter::commands::guards::{
+    Accelerate, CloseGuard, OpenGuard, SetGarbage, ShowEpoch, ShowGarbage,
+};
 use sdd_interpreter::items::{date_new, items_in, slots_among, waiting_by_slot};
 use sdd_interpreter::jobs::jobs_among;
 use sdd_interpreter::participants::{NamedGuard, note_opening, under};
-use sdd_interpreter::turns::guards::{
-    accelerate_at, close_at, defer_at, epoch_at, garbage_at, open_at, stir_at,
-};
+use sdd_interpreter::turns::{defer_at, guard_step_at};
 use sdd_participants::LimboEntry;
 use sdd_script_text::{
     Action, Answer, Call, GuardName, ItemName, JobName, Names, PlaceName, Reply,
@@ -41,7 +42,7 @@ pub fn open(stage: &mut Interpreter, name: PlaceName) -> Result<Answer, AllocErr
     let due = items_among(stage.hand.alloc, waiting, names)?;
     let waited = waiting_by_slot(stage.hand.alloc, &stage.hand.world, names.len())?;
     let is_nested = is_open(&stage.hand.world, &attending.place);
-    let (guard, epoch) = match open_at(&mut stage.hand.world, &attending.place) {
+    let (guard, epoch) = match guard_step_at(&mut stage.hand.world, &attending.place, OpenGuard) {
         Ok(opened) => opened,
         Err(refused) => return Ok(stage.answer(Reply::Refused(refused))),
     };
@@ -76,7 +77,11 @@ pub fn epoch(stage: &mut Interpreter, name: PlaceName, guard: GuardName) -> Repl
         return Reply::Invalid;
     };
     stage.hand.world.is_whole();
-    Reply::Epoch(epoch_at(&mut stage.hand.world, &attending.place, &held.guard))
+    Reply::Epoch(guard_step_at(
+        &mut stage.hand.world,
+        &attending.place,
+        ShowEpoch { guard: &held.guard },
+    ))
 }
 
 /// `P garbage G`: whether something may wait with the participant.
@@ -87,7 +92,11 @@ pub fn garbage(stage: &mut Interpreter, name: PlaceName, guard: GuardName) -> Re
         return Reply::Invalid;
     };
     stage.hand.world.is_whole();
-    Reply::Truth(garbage_at(&mut stage.hand.world, &attending.place, &held.guard))
+    Reply::Truth(guard_step_at(
+        &mut stage.hand.world,
+        &attending.place,
+        ShowGarbage { guard: &held.guard },
+    ))
 }
 
 /// `P set G`: the participant has garbage from now on.
@@ -98,7 +107,11 @@ pub fn set(stage: &mut Interpreter, name: PlaceName, guard: GuardName) -> Reply
         return Reply::Invalid;
     };
     stage.hand.world.is_whole();
-    stir_at(&mut stage.hand.world, &attending.place, &held.guard);
+    guard_step_at(
+        &mut stage.hand.world,
+        &attending.place,
+        SetGarbage { guard: &held.guard },
+    );
     Reply::Done
 }
 
@@ -110,7 +123,11 @@ pub fn accelerate(stage: &mut Interpreter, name: PlaceName, guard: GuardName) ->
         return Reply::Invalid;
     };
     stage.hand.world.is_whole();
-    accelerate_at(&mut stage.hand.world, &attending.place, &held.guard);
+    guard_step_at(
+        &mut stage.hand.world,
+        &attending.place,
+        Accelerate { guard: &held.guard },
+    );
     Reply::Done
 }
 
@@ -154,7 +171,11 @@ pub fn close_guard(stage: &mut Interpreter, name: PlaceName, guard: GuardName) -
         return Reply::Invalid;
     };
     stage.hand.world.is_whole();
-    close_at(&mut stage.hand.world, &attending.place, guard);
+    guard_step_at(
+        &mut stage.hand.world,
+        &attending.place,
+        CloseGuard { guard },
+    );
     Reply::Done
 }
 

@@ -9,10 +9,11 @@ ghost use Rattle.sdd_script_model.specs.Script.{Acts};
 
 use sdd_core::Refused;
 use sdd_interpreter::Interpreter;
+use sdd_interpreter::commands::items::MakeItem;
 use sdd_interpreter::items::{slot_since, told};
 use sdd_interpreter::owners::{body_from, is_missing, value_of};
 use sdd_interpreter::participants::under;
-use sdd_interpreter::turns::items::{make_item, value_shown};
+use sdd_interpreter::turns::{item_step_at, value_shown};
 use sdd_script_model::{OwnerKind, Val};
 use sdd_script_text::{Action, Call, GuardName, ItemName, OwnerName, PlaceName, Reply, Value};
 use sdd_world::World;
@@ -44,7 +45,11 @@ pub fn make(
     let Some(body) = body_from(&mut stage.hand.owners, value) else {
         unreachable!()
     };
-    let owner = make_item(&mut stage.hand.world, &attending.place, body, ownership);
+    let owner = item_step_at(
+        &mut stage.hand.world,
+        &attending.place,
+        MakeItem { body, ownership },
+    );
     let slot = owner.slot();
     let item = stage.hand.slots.len() as u64;
     stage.hand.names[slot as usize] = Some(item);

@@ -12,10 +12,16 @@ ghost use Rattle.sdd_interpreter.specs.Owners.{owner_holding};
 ghost use Rattle.sdd_script.specs.Leaving.{AreSpent, GivesUp, GoesOn, HasMade, IsEnding, IsSpent, KeepsTold, SpendsGuard};
 
 use crate::commands::guards::close_guard;
+use sdd_interpreter::commands::cells::CloseCell;
+use sdd_interpreter::commands::guards::{CloseGuard, OpenGuard};
+use sdd_interpreter::commands::owners::{ReleaseOwner, RetireItem};
+use sdd_interpreter::commands::queues::CloseQueue;
 use sdd_interpreter::commands::raw::ComeBack;
+use sdd_interpreter::commands::stacks::CloseStack;
 use sdd_interpreter::holding::AnyOwner;
-use sdd_interpreter::turns::owners::{release_owner, retire_item};
-use sdd_interpreter::turns::{bags, cells, guards, queues, raw_step_at, stacks};
+use sdd_interpreter::turns::{
+    bag_closed_at, guard_step_at, item_step_at, list_step_at, raw_step_at,
+};
 use sdd_interpreter::{Environment, Interpreter};
 use sdd_participants::Tally;
 use sdd_script_model::Val;
@@ -120,7 +126,7 @@ fn spend_names(hand: &mut Environment)
     }
     let place = some_place(&mut hand.world);
     hand.world.is_whole();
-    let Ok((guard, _)) = guards::open_at(&mut hand.world, &place) else {
+    let Ok((guard, _)) = guard_step_at(&mut hand.world, &place, OpenGuard) else {
         unreachable!()
     };
     spend_queues(hand, &place, &guard);
@@ -130,7 +136,7 @@ fn spend_names(hand: &mut Environment)
     spend_cells(hand, &place);
     give_up_raw_items(hand, &place);
     hand.world.is_whole();
-    guards::close_at(&mut hand.world, &place, guard);
+    guard_step_at(&mut hand.world, &place, CloseGuard { guard });
     hand.world.is_whole();
 }
 
@@ -158,7 +164,7 @@ fn spend_queues(hand: &mut Environment, place: &Place, guard: &Guard)
         let Some(queue) = hand.queues.take(queue as u64) else {
             continue;
         };
-        queues::close_at(&mut hand.world, place, queue, guard);
+        list_step_at(&mut hand.world, place, CloseQueue { queue, guard });
     }
 }
 
@@ -175,7 +181,7 @@ fn spend_stacks(hand: &mut Environment, place: &Place, guard: &Guard)
         let Some(stack) = hand.stacks.take(stack as u64) else {
             continue;
         };
-        stacks::close_at(&mut hand.world, place, stack, guard);
+        list_step_at(&mut hand.world, place, CloseStack { stack, guard });
     }
 }
 
@@ -192,7 +198,7 @@ fn spend_bags(hand: &mut Environment, place: &Place, guard: &Guard)
         let Some(bag) = hand.bags.take(bag as u64) else {
             continue;
         };
-        bags::close_at(&mut hand.world, place, bag, guard);
+        bag_closed_at(&mut hand.world, place, bag, guard);
     }
 }
 
@@ -219,9 +225,9 @@ fn give_up(world: &mut World<Val>, place: &Place, owner: AnyOwner)
     ensures { GivesUp world.old (index_of place.now) owner world.new }
 {
     match owner {
-        AnyOwner::Sole(owner) => retire_item(world, place, owner),
+        AnyOwner::Sole(owner) => item_step_at(world, place, RetireItem { owner }),
         AnyOwner::Share(owner) => {
-            release_owner(world, place, owner);
+            item_step_at(world, place, ReleaseOwner { owner });
         }
     }
 }
@@ -238,7 +244,7 @@ fn spend_cells(hand: &mut Environment, place: &Place)
         let Some(cell) = hand.cells.take(cell as u64) else {
             continue;
         };
-        cells::close_at(&mut hand.world, place, cell);
+        item_step_at(&mut hand.world, place, CloseCell { cell });
     }
 }
 
@@ -264,6 +270,6 @@ fn give_up_raw_item(hand: &mut Environment, place: &Place, slot: u32)
 {
     hand.world.is_whole();
     if let Some(owner) = raw_step_at(&mut hand.world, place, ComeBack { slot }) {
-        retire_item(&mut hand.world, place, owner);
+        item_step_at(&mut hand.world, place, RetireItem { owner });
     }
 }

@@ -6,11 +6,12 @@ ghost use Rattle.sdd_script_model.specs.Script.{Acts};
 
 use sdd_core::Refused;
 use sdd_interpreter::Interpreter;
+use sdd_interpreter::commands::owners::{CloneOwner, ReleaseOwner, RetireItem};
 use sdd_interpreter::holding::{AnyOwner, slot_of_share, slot_of_sole};
 use sdd_interpreter::items::slot_since;
 use sdd_interpreter::owners::{shared_of, take_shared, take_sole};
 use sdd_interpreter::participants::under;
-use sdd_interpreter::turns::owners::{clone_held, release_owner, retire_item, share_item};
+use sdd_interpreter::turns::{item_step_at, share_item};
 use sdd_script_text::{Action, Call, GuardName, ItemName, OwnerName, PlaceName, Reply};
 use std::alloc::AllocError;
 
@@ -26,7 +27,11 @@ pub fn retire(stage: &mut Interpreter, name: PlaceName, owner: OwnerName) -> Rep
     };
     stage.hand.world.is_whole();
     let slot = slot_of_sole(&owner);
-    retire_item(&mut stage.hand.world, &attending.place, owner);
+    item_step_at(
+        &mut stage.hand.world,
+        &attending.place,
+        RetireItem { owner },
+    );
     stage.hand.dates[slot as usize] = stage.hand.moment;
     Reply::Done
 }
@@ -43,7 +48,11 @@ pub fn release(stage: &mut Interpreter, name: PlaceName, owner: OwnerName) -> Re
     };
     stage.hand.world.is_whole();
     let slot = slot_of_share(&owner);
-    let was_last = release_owner(&mut stage.hand.world, &attending.place, owner);
+    let was_last = item_step_at(
+        &mut stage.hand.world,
+        &attending.place,
+        ReleaseOwner { owner },
+    );
     if was_last {
         stage.hand.dates[slot as usize] = stage.hand.moment;
     }
@@ -66,7 +75,11 @@ pub fn clone_owner(
         return Ok(Reply::Invalid);
     };
     stage.hand.world.is_whole();
-    match clone_held(&mut stage.hand.world, &attending.place, held) {
+    match item_step_at(
+        &mut stage.hand.world,
+        &attending.place,
+        CloneOwner { owner: held },
+    ) {
         Ok(owner) => {
             let name = stage.hand.owners.give(AnyOwner::Share(owner));
             Ok(Reply::Owner(OwnerName(name)))

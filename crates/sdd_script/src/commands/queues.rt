@@ -5,9 +5,10 @@ ghost use Rattle.std.specs.Prelude.{◌≡◌, MatchResult};
 ghost use Rattle.sdd_script_model.specs.Script.{Acts};
 
 use sdd_interpreter::Interpreter;
+use sdd_interpreter::commands::queues::{CloseQueue, MakeQueue};
 use sdd_interpreter::items::{date_new, waiting_by_slot};
 use sdd_interpreter::participants::under_any;
-use sdd_interpreter::turns::queues::{close_at, queue_at};
+use sdd_interpreter::turns::list_step_at;
 use sdd_script_text::{Action, Call, PlaceName, QueueName, Reply};
 use std::alloc::AllocError;
 
@@ -20,7 +21,7 @@ pub fn make_queue(stage: &mut Interpreter, name: PlaceName) -> Result<Reply, All
     };
     stage.hand.queues.make_room()?;
     stage.hand.world.is_whole();
-    match queue_at(&mut stage.hand.world, &attending.place) {
+    match list_step_at(&mut stage.hand.world, &attending.place, MakeQueue) {
         Ok(queue) => {
             let name = stage.hand.queues.give(queue);
             Ok(Reply::Queue(QueueName(name)))
@@ -50,7 +51,14 @@ pub fn close_queue(
     let Some(taken) = stage.hand.queues.take(queue.0) else {
         unreachable!()
     };
-    close_at(&mut stage.hand.world, &attending.place, taken, &held.guard);
+    list_step_at(
+        &mut stage.hand.world,
+        &attending.place,
+        CloseQueue {
+            queue: taken,
+            guard: &held.guard,
+        },
+    );
     let line = stage.hand.moment;
     date_new(
         &mut stage.hand.dates,

@@ -5,9 +5,10 @@ ghost use Rattle.std.specs.Prelude.{◌≡◌, MatchResult};
 ghost use Rattle.sdd_script_model.specs.Script.{Acts};
 
 use sdd_interpreter::Interpreter;
+use sdd_interpreter::commands::stacks::{CloseStack, MakeStack, PourStack};
 use sdd_interpreter::items::{date_new, waiting_by_slot};
 use sdd_interpreter::participants::{under, under_any};
-use sdd_interpreter::turns::stacks::{close_at, pour_at, stack_at};
+use sdd_interpreter::turns::{cell_step_at, list_step_at};
 use sdd_script_text::{Action, Call, GuardName, PlaceName, Reply, StackName};
 use std::alloc::AllocError;
 
@@ -20,7 +21,7 @@ pub fn make_stack(stage: &mut Interpreter, name: PlaceName) -> Result<Reply, All
     };
     stage.hand.stacks.make_room()?;
     stage.hand.world.is_whole();
-    match stack_at(&mut stage.hand.world, &attending.place) {
+    match cell_step_at(&mut stage.hand.world, &attending.place, MakeStack) {
         Ok(stack) => {
             let name = stage.hand.stacks.give(stack);
             Ok(Reply::Stack(StackName(name)))
@@ -46,7 +47,14 @@ pub fn pour(
         return Ok(Reply::Invalid);
     };
     stage.hand.world.is_whole();
-    match pour_at(&mut stage.hand.world, &attending.place, stack, &held.guard) {
+    match list_step_at(
+        &mut stage.hand.world,
+        &attending.place,
+        PourStack {
+            stack,
+            guard: &held.guard,
+        },
+    ) {
         Ok(all) => {
             let name = stage.hand.stacks.give(all);
             Ok(Reply::Stack(StackName(name)))
@@ -76,7 +84,14 @@ pub fn close_stack(
     let Some(taken) = stage.hand.stacks.take(stack.0) else {
         unreachable!()
     };
-    close_at(&mut stage.hand.world, &attending.place, taken, &held.guard);
+    list_step_at(
+        &mut stage.hand.world,
+        &attending.place,
+        CloseStack {
+            stack: taken,
+            guard: &held.guard,
+        },
+    );
     let line = stage.hand.moment;
     date_new(
         &mut stage.hand.dates,

@@ -16,15 +16,15 @@ returns-in_default-get c = record {
 }
 
 closed : (c : goal.After-drop-waited) → Does (desk_of c.stage.inside.hand) (At c.args.name (call.CloseBag c.args.bag)) reply.Done
-    (record c.stage.inside.hand { world = c.close_at.new.world; bags = c.take.new.self; dates = c.date_new.new.dates })
+    (record c.stage.inside.hand { world = c.bag_closed_at.new.world; bags = c.take.new.self; dates = c.date_new.new.dates })
 closed c =
     let h = c.stage.inside.hand in
     let found = c.in-Some.ensures in
     let long : c.len-slots.result ≡ length c.stage.inside.hand.names.items = search rules in
     let told_so : AreTold c.stage.inside.hand c.in_ok-waited.waited.items = λ s lt. c.in_ok-waited.ensures.each s (omega (arith, lt, long)) in
     acts-closed h c.stage.invariant c.is_whole.ensures c.args.name _ found.0 c.args.bag _ c.in-Some-take.ensures.taken
-    c.in_ok-waited.waited.items told_so c.close_at.new.world c.take.new.self.entries c.date_new.new.dates (found.2.0, found.2.2)
-    c.close_at.ensures.closed c.in-Some-take.ensures.spent (rw c.as_slice.ensures.value at c.date_new.ensures.dated, c.date_new.ensures.long)
+    c.in_ok-waited.waited.items told_so c.bag_closed_at.new.world c.take.new.self.entries c.date_new.new.dates (found.2.0, found.2.2)
+    c.bag_closed_at.ensures.closed c.in-Some-take.ensures.spent (rw c.as_slice.ensures.value at c.date_new.ensures.dated, c.date_new.ensures.long)
 
 pub invariant_of-stage : goal.invariant_of-stage
 invariant_of-stage c = (closed c).0

@@ -17,16 +17,16 @@ returns-in_default-get c = record {
 
 drained : (c : goal.After-drop-waited) → Does (desk_of c.stage.inside.hand) (At c.args.name (call.Drain c.args.bag c.args.guard))
     (reply.Numbers c.of.result)
-    (record c.stage.inside.hand { world = c.drain_at-taken.new.world; bags = c.put_back.new.self; dates = c.date_new.new.dates })
+    (record c.stage.inside.hand { world = c.list_step_at-taken.new.world; bags = c.put_back.new.self; dates = c.date_new.new.dates })
 drained c =
-    let h = c.stage.inside.hand in let bag = c.drain_at-taken.result.0 in let numbers = c.drain_at-taken.result.1.items in
-    let did = c.drain_at-taken.ensures.taken in
+    let h = c.stage.inside.hand in let bag = c.list_step_at-taken.result.0 in let numbers = c.list_step_at-taken.result.1.items in
+    let did = c.list_step_at-taken.ensures.done.1 in
     let put = put-so h.bags.entries.items c.take.new.self.entries.items c.put_back.new.self.entries.items c.args.bag.0 bag c.in-Some-take.ensures.spent
     c.put_back.ensures.back in
     let long : c.len-slots.result ≡ length c.stage.inside.hand.names.items = search rules in
     let told_so : AreTold c.stage.inside.hand c.in_ok-waited.waited.items = λ s lt. c.in_ok-waited.ensures.each s (omega (arith, lt, long)) in
     acts-drained h c.stage.invariant c.is_whole.ensures c.args.name _ c.in-Some.ensures.found.0 c.args.bag _ c.in-Some-take.ensures.taken bag did.cells
-    c.put_back.new.self.entries put c.drain_at-taken.new.world c.drain_at-taken.ensures.bag c.args.guard c.in-Some.ensures.valid
+    c.put_back.new.self.entries put c.list_step_at-taken.new.world c.list_step_at-taken.ensures.done.0 c.args.guard c.in-Some.ensures.valid
     c.in_ok-waited.waited.items told_so c.date_new.new.dates (rw c.as_slice.ensures.value at c.date_new.ensures.dated, c.date_new.ensures.long) numbers
     c.of.result did (subst (λ (xs : List ℕ). IsPermutation numbers xs) (sym c.of.ensures) c.sort_unstable.ensures.permutation)
     (subst (λ (xs : List ℕ). IsNonDecreasing xs) (sym c.of.ensures)

@@ -9,7 +9,7 @@ returns-in_default c = record { acts = rw (← c.stage.view_is) (nobody c.stage.
 pub returns-in-Err : goal.returns-in-Err
 returns-in-Err c =
     let h = c.stage.inside.hand in
-    let refused = c.in-Err.ensures.made in
+    let refused = c.in-Err.ensures.done in
     record {
       acts = rw (refused.1, refused.2, c.make_room.ensures.kept, ← c.stage.view_is)
           (acts-no_cells h c.stage.invariant c.is_whole.ensures c.args.name _ (got h.places c.args.name.0 _ c.in-Some.ensures) refused.0);
@@ -19,7 +19,7 @@ pub invariant_of-stage-in-Ok : goal.invariant_of-stage-in-Ok
 invariant_of-stage-in-Ok c =
     let h = c.stage.inside.hand in
     (acts-begun h c.stage.invariant c.is_whole.ensures c.args.name _ (got h.places c.args.name.0 _ c.in-Some.ensures) _
-    c.give-name.new.self.entries _ (record { 0 = c.give-name.result }) c.in-Ok.ensures.made
+    c.give-name.new.self.entries _ (record { 0 = c.give-name.result }) (c.in-Ok.ensures.done refl)
     (rw c.make_room.ensures.kept at c.give-name.ensures.given) (c.give-name.ensures.name ∙ ap length c.make_room.ensures.kept)).0
 
 pub returns-in-Ok : goal.returns-in-Ok
@@ -28,6 +28,6 @@ returns-in-Ok c =
     record {
       acts = rw (← c.stage.view_is) (acts-begun h c.stage.invariant c.is_whole.ensures c.args.name _
           (got h.places c.args.name.0 _ c.in-Some.ensures) _ c.give-name.new.self.entries _ (record { 0 = c.give-name.result })
-          c.in-Ok.ensures.made (rw c.make_room.ensures.kept at c.give-name.ensures.given)
+          (c.in-Ok.ensures.done refl) (rw c.make_room.ensures.kept at c.give-name.ensures.given)
           (c.give-name.ensures.name ∙ ap length c.make_room.ensures.kept)).1;
     }

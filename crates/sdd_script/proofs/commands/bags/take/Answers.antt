@@ -17,16 +17,16 @@ returns-in_default-get c = record {
 
 took : (c : goal.After-drop-waited) → Does (desk_of c.stage.inside.hand) (At c.args.name (call.Take c.args.bag c.args.guard))
     (reply.Value c.in-Some-number.number)
-    (record c.stage.inside.hand { world = c.take_at-taken.new.world; bags = c.put_back.new.self; dates = c.date_new.new.dates })
+    (record c.stage.inside.hand { world = c.list_step_at-taken.new.world; bags = c.put_back.new.self; dates = c.date_new.new.dates })
 took c =
-    let h = c.stage.inside.hand in let bag = c.take_at-taken.result.0 in
-    let did = rw c.in-Some-number.is at c.take_at-taken.ensures.taken in
+    let h = c.stage.inside.hand in let bag = c.list_step_at-taken.result.0 in
+    let did = rw c.in-Some-number.is at c.list_step_at-taken.ensures.done.1 in
     let put = put-so h.bags.entries.items c.take.new.self.entries.items c.put_back.new.self.entries.items c.args.bag.0 bag c.in-Some-take.ensures.spent
     c.put_back.ensures.back in
     let long : c.len-slots.result ≡ length c.stage.inside.hand.names.items = search rules in
     let told_so : AreTold c.stage.inside.hand c.in_ok-waited.waited.items = λ s lt. c.in_ok-waited.ensures.each s (omega (arith, lt, long)) in
     acts-took h c.stage.invariant c.is_whole.ensures c.args.name _ c.in-Some.ensures.found.0 c.args.bag _ c.in-Some-take.ensures.taken bag did.0
-    c.put_back.new.self.entries put c.take_at-taken.new.world c.take_at-taken.ensures.bag c.args.guard c.in-Some.ensures.valid c.in_ok-waited.waited.items
+    c.put_back.new.self.entries put c.list_step_at-taken.new.world c.list_step_at-taken.ensures.done.0 c.args.guard c.in-Some.ensures.valid c.in_ok-waited.waited.items
     told_so c.date_new.new.dates (rw c.as_slice.ensures.value at c.date_new.ensures.dated, c.date_new.ensures.long) c.in-Some-number.number did
 
 pub invariant_of-stage : goal.invariant_of-stage
@@ -36,17 +36,17 @@ pub returns-in-Some-number : goal.returns-in-Some-number
 returns-in-Some-number c = record { acts = rw (← c.stage.view_is) (took c).1 }
 
 nothing : (c : goal.After-drop-waited-2) → Does (desk_of c.stage.inside.hand) (At c.args.name (call.Take c.args.bag c.args.guard)) reply.Nothing
-    (record c.stage.inside.hand { world = c.take_at-taken.new.world; bags = c.put_back.new.self; dates = c.date_new.new.dates })
+    (record c.stage.inside.hand { world = c.list_step_at-taken.new.world; bags = c.put_back.new.self; dates = c.date_new.new.dates })
 nothing c =
     let h = c.stage.inside.hand in
-    let none = rw c.in-None.is at c.take_at-taken.ensures.taken in
-    let put = put-so h.bags.entries.items c.take.new.self.entries.items c.put_back.new.self.entries.items c.args.bag.0 c.take_at-taken.result.0
+    let none = rw c.in-None.is at c.list_step_at-taken.ensures.done.1 in
+    let put = put-so h.bags.entries.items c.take.new.self.entries.items c.put_back.new.self.entries.items c.args.bag.0 c.list_step_at-taken.result.0
     c.in-Some-take.ensures.spent c.put_back.ensures.back in
     let same = put ∙ ap (λ (x : NumberBag). slice_set h.bags.entries.items c.args.bag.0 (Some x)) none.1 in
     let long : c.len-slots.result ≡ length c.stage.inside.hand.names.items = search rules in
     let told_so : AreTold c.stage.inside.hand c.in_ok-waited.waited.items = λ s lt. c.in_ok-waited.ensures.each s (omega (arith, lt, long)) in
     acts-dated-as-before h c.stage.invariant c.is_whole.ensures c.args.name _ c.in-Some.ensures.found.0 c.args.bag _ c.in-Some-take.ensures.taken
-    c.in_ok-waited.waited.items told_so c.take_at-taken.new.world c.put_back.new.self.entries c.date_new.new.dates none.2 same
+    c.in_ok-waited.waited.items told_so c.list_step_at-taken.new.world c.put_back.new.self.entries c.date_new.new.dates none.2 same
     (rw c.as_slice.ensures.value at c.date_new.ensures.dated, c.date_new.ensures.long) (At c.args.name (call.Take c.args.bag c.args.guard)) reply.Nothing
     (acts-empty h c.stage.invariant c.is_whole.ensures c.args.name _ c.in-Some.ensures.found.0 c.args.bag _ c.in-Some-take.ensures.taken c.args.guard
     c.in-Some.ensures.valid none.0)

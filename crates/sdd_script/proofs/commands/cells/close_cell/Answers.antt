@@ -6,15 +6,15 @@ use Rattle.sdd_script.proofs.commands.cells.close_cell.Goals as goal
 
 pub date_if_waiting-requires : goal.date_if_waiting-requires
 date_if_waiting-requires c =
-    rw c.slot_in-held.ensures.slot
+    rw c.cell_step_at-held.ensures.done.0
     (held-within c.args.name (here c.args.name.0 c.stage.invariant c.is_whole.ensures c.in-Some.ensures) c.args.cell _ (sym c.in-Some-take.ensures.taken))
 
 closed : (c : goal.After-date_if_waiting) → Does (desk_of c.stage.inside.hand) (At c.args.name (call.CloseCell c.args.cell)) reply.Done
-    (record c.stage.inside.hand { world = c.close_at.new.world; cells = c.take.new.self; dates = c.date_if_waiting.new.dates })
+    (record c.stage.inside.hand { world = c.item_step_at.new.world; cells = c.take.new.self; dates = c.date_if_waiting.new.dates })
 closed c =
     acts-cell_closed c.args.name (here c.args.name.0 c.stage.invariant c.is_whole.ensures c.in-Some.ensures) c.args.cell _ (sym c.in-Some-take.ensures.taken) _
-    c.take.new.self.entries c.date_if_waiting.new.dates c.in-Some-take.ensures.spent (rw c.slot_in-held.ensures.world at c.close_at.ensures)
-    (rw c.slot_in-held.ensures.slot at c.date_if_waiting.ensures)
+    c.take.new.self.entries c.date_if_waiting.new.dates c.in-Some-take.ensures.spent (rw c.cell_step_at-held.ensures.done.1 at c.item_step_at.ensures.done)
+    (rw c.cell_step_at-held.ensures.done.0 at c.date_if_waiting.ensures)
 
 pub invariant_of-stage-2 : goal.invariant_of-stage-2
 invariant_of-stage-2 c = (closed c).0

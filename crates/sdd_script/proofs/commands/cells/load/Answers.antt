@@ -5,17 +5,17 @@ use Rattle.sdd_script.proofs.commands.cells.load.Goals as goal
 
 pub item_seen-item-requires : goal.item_seen-item-requires
 item_seen-item-requires c = record {
-  named = subst (λ (names : List (Option ℕ)). IfSome c.cell_loaded-loaded.result.held (λ j. IsSome (slice_index_or names j None)))
+  named = subst (λ (names : List (Option ℕ)). IfSome c.cell_step_at-loaded.result.held (λ j. IsSome (slice_index_or names j None)))
       (sym c.as_slice.ensures.value) (seen-named c.args.name (under c.args.name.0 c.stage.invariant c.is_whole.ensures c.in-Some.ensures.found.0) c.args.cell _
-      c.cell_loaded-loaded.result (sym c.in-Some-get.ensures) c.cell_loaded-loaded.ensures.loaded _ refl);
+      c.cell_step_at-loaded.result (sym c.in-Some-get.ensures) c.cell_step_at-loaded.ensures.done.0 _ refl);
 }
 
 pub returns : goal.returns
 returns c =
     let h = c.stage.inside.hand in
-    let own = is-cell h c.args.cell.0 _ (sym c.in-Some-get.ensures) c.cell_loaded-loaded.ensures.loaded in
-    let told = c.item_seen-item.ensures ∙ ap (λ names. option_map (item_in names) c.cell_loaded-loaded.result.held) c.as_slice.ensures.value in
+    let own = is-cell h c.args.cell.0 _ (sym c.in-Some-get.ensures) c.cell_step_at-loaded.ensures.done.0 in
+    let told = c.item_seen-item.ensures ∙ ap (λ names. option_map (item_in names) c.cell_step_at-loaded.result.held) c.as_slice.ensures.value in
     record {
-      acts = rw (← c.stage.view_is, c.cell_loaded-loaded.ensures.world)
+      acts = rw (← c.stage.view_is, c.cell_step_at-loaded.ensures.done.1)
           (still (desk_of h) _ _ ((c.in-Some.ensures.valid, ap is_some own.named), ((_, _, own, told, refl), refl)));
     }

@@ -4,10 +4,10 @@ use Rattle.sdd_script_text.specs.declared.answer.Reply.TheVariants as reply
 use Rattle.sdd_script.proofs.CellActs.{acts-tagged}
 use Rattle.sdd_script.proofs.commands.cells.set_tag_if.Goals as goal
 
-tagged : (c : goal.After-tag_if) → Does (desk_of c.stage.inside.hand) (At c.args.name (call.TagIf c.args.cell c.args.tag c.args.was))
-    (reply.Truth c.tag_if.result) (record c.stage.inside.hand { world = c.tag_if.new.world })
+tagged : (c : goal.After-cell_step_at) → Does (desk_of c.stage.inside.hand) (At c.args.name (call.TagIf c.args.cell c.args.tag c.args.was))
+    (reply.Truth c.cell_step_at.result) (record c.stage.inside.hand { world = c.cell_step_at.new.world })
 tagged c =
-    let told = c.tag_if.ensures.tagged in
+    let told = c.cell_step_at.ensures.done in
     acts-tagged c.args.name (here c.args.name.0 c.stage.invariant c.is_whole.ensures c.in-Some.ensures) c.args.cell _
     (sym c.in-Some-get.ensures) c.args.tag c.args.was _ _ _ told.1 told.2 told.3
 

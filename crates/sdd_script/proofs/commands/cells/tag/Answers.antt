@@ -5,9 +5,9 @@ use Rattle.sdd_script.proofs.commands.cells.tag.Goals as goal
 pub returns : goal.returns
 returns c =
     let h = c.stage.inside.hand in
-    let told = c.tag_of.ensures.tag in
+    let told = c.cell_step_at.ensures.done in
     let own = is-cell h c.args.cell.0 _ (sym c.in-Some-get.ensures) told.1 in
     let at = here c.args.name.0 c.stage.invariant c.is_whole.ensures c.in-Some.ensures in
     record {
-      acts = rw (← c.stage.view_is, c.tag_of.ensures.world) (still (desk_of h) _ _ ((attends at, ap is_some own.named), ((_, told.0, own, told.2), refl)));
+      acts = rw (← c.stage.view_is, told.3) (still (desk_of h) _ _ ((attends at, ap is_some own.named), ((_, told.0, own, told.2), refl)));
     }

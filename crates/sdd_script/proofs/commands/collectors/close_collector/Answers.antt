@@ -36,27 +36,27 @@ again h k x y w between after mine taken back same world =
 
 pub invariant_of-stage : goal.invariant_of-stage
 invariant_of-stage c =
-    (goes (again c.stage.inside.hand c.args.collector.0 _ _ c.close_at.new.world c.take.new.self.entries c.put_back.new.self.entries
-    c.in-Some-take.ensures.taken c.in-Some-take.ensures.spent c.put_back.ensures.back c.in-Err.ensures.back c.in-Err.ensures.closed.2)
+    (goes (again c.stage.inside.hand c.args.collector.0 _ _ c.collector_step_at.new.world c.take.new.self.entries c.put_back.new.self.entries
+    c.in-Some-take.ensures.taken c.in-Some-take.ensures.spent c.put_back.ensures.back c.in-Err.ensures.done.0 c.in-Err.ensures.done.1.2)
     c.stage.invariant.sound c.stage.invariant.guards).tied
 
 pub returns-in-Err : goal.returns-in-Err
 returns-in-Err c =
     let h = c.stage.inside.hand in
-    let refused = c.in-Err.ensures.closed in
+    let refused = c.in-Err.ensures.done.1 in
     let took = c.in-Some-take.ensures in
     let at = here c.args.name.0 c.stage.invariant c.is_whole.ensures c.in-Some.ensures in
     record {
       answers = rw (c.answer-in-Err.ensures, refused.1, ← c.stage.view_is) (answers-plain (At c.args.name (call.CloseCollector c.args.collector)) _
-          (still-as h (record h { world = c.close_at.new.world; collectors = c.put_back.new.self }) _ _
-          (again h c.args.collector.0 _ _ c.close_at.new.world c.take.new.self.entries c.put_back.new.self.entries took.taken took.spent
-          c.put_back.ensures.back c.in-Err.ensures.back refused.2)
+          (still-as h (record h { world = c.collector_step_at.new.world; collectors = c.put_back.new.self }) _ _
+          (again h c.args.collector.0 _ _ c.collector_step_at.new.world c.take.new.self.entries c.put_back.new.self.entries took.taken took.spent
+          c.put_back.ensures.back c.in-Err.ensures.done.0 refused.2)
           ((attends at, ap is_some (number-is h at.tied c.args.collector.0 _ took.taken)), (refused.0, refl)))
           (λ s e. e) (λ k e. e));
     }
 
 abbrev left : goal.After-drop-waited-2 → Environment
-left c = record c.stage.inside.hand { world = c.close_at.new.world; collectors = c.take.new.self; dates = c.date_new.new.dates }
+left c = record c.stage.inside.hand { world = c.collector_step_at.new.world; collectors = c.take.new.self; dates = c.date_new.new.dates }
 
 closed : (c : goal.After-drop-waited-2) → IsTied (left c) × Answers (desk_of c.stage.inside.hand) (At c.args.name (call.CloseCollector c.args.collector))
     (record { reply = reply.Done; reclaimed = c.in_ok-gone.gone.items; ran = [] }) (desk_of (left c))
@@ -64,9 +64,9 @@ closed c =
     let took = c.in-Some-take.ensures in
     let same = one c.in-Some-get.held.now c.in-Some-take.held _ c.in-Some-get.ensures took.taken in
     let moved = rw (c.as_slice-names.ensures.value, c.number_of_collector-collected.ensures, same) at c.in_ok-gone.ensures.items in
-    let closed = c.in_default-close_at.ensures.closed in
+    let closed = c.in_default-collector_step_at.ensures.done.1 in
     answers-closed c.args.name (here c.args.name.0 c.stage.invariant c.is_whole.ensures c.in-Some.ensures) c.args.collector c.in-Some-take.held took.taken
-    closed.0 closed.1 c.close_at.new.world c.take.new.self.entries c.date_new.new.dates closed.2 took.spent _
+    closed.0 closed.1 c.collector_step_at.new.world c.take.new.self.entries c.date_new.new.dates closed.2 took.spent _
     (λ s lt. c.in_ok-waited.ensures.each s (omega (arith, lt, ap length c.as_slice-names.ensures.value)))
     (rw c.as_slice.ensures.value at c.date_new.ensures.dated, c.date_new.ensures.long) c.in_ok-gone.gone.items moved c.in_ok-gone.ensures.ascending
 

@@ -14,12 +14,12 @@ date_if_waiting-requires c =
     owner-dated c.stage.inside.hand c.stage.invariant c.is_whole.ensures c.args.owner.0 _ _ c.in-Some-take.ensures.taken c.slot-slot.ensures
 
 collected : (c : goal.After-date_if_waiting) → Does (desk_of c.stage.inside.hand)
-    (At c.args.name (call.Collect c.args.owner c.args.guard c.args.collector)) c.give_to-reply.result
-    (record c.stage.inside.hand { world = c.give_to-reply.new.world; owners = c.take.new.self; dates = c.date_if_waiting.new.dates })
+    (At c.args.name (call.Collect c.args.owner c.args.guard c.args.collector)) c.collector_step_at-reply.result
+    (record c.stage.inside.hand { world = c.collector_step_at-reply.new.world; owners = c.take.new.self; dates = c.date_if_waiting.new.dates })
 collected c =
     acts-collected c.args.name (under c.args.name.0 c.stage.invariant c.is_whole.ensures c.in-Some.ensures.found.0) c.args.owner c.args.guard c.args.collector
-    _ _ _ _ c.give_to-reply.new.world c.take.new.self.entries c.date_if_waiting.new.dates c.in-Some.ensures.valid
-    c.in-Some-take.ensures.taken c.in-Some-get.ensures c.slot-slot.ensures c.give_to-reply.ensures.collects c.in-Some-take.ensures.spent
+    _ _ _ _ c.collector_step_at-reply.new.world c.take.new.self.entries c.date_if_waiting.new.dates c.in-Some.ensures.valid
+    c.in-Some-take.ensures.taken c.in-Some-get.ensures c.slot-slot.ensures c.collector_step_at-reply.ensures.done c.in-Some-take.ensures.spent
     c.date_if_waiting.ensures
 
 pub invariant_of-stage-2 : goal.invariant_of-stage-2

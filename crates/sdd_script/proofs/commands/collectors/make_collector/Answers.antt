@@ -4,11 +4,11 @@ use Rattle.sdd_script_text.specs.declared.answer.Reply.TheVariants as reply
 use Rattle.sdd_script.proofs.commands.collectors.make_collector.Goals as goal
 
 made : (c : goal.After-give-name) → Does (desk_of c.stage.inside.hand) (At c.args.name call.Collector)
-    (reply.Collector (record { 0 = c.give-name.result })) (record c.stage.inside.hand { world = c.collector_at.new.world; collectors = c.give-name.new.self })
+    (reply.Collector (record { 0 = c.give-name.result })) (record c.stage.inside.hand { world = c.collector_step_at.new.world; collectors = c.give-name.new.self })
 made c =
     let at = here c.args.name.0 c.stage.invariant c.is_whole.ensures c.in-Some.ensures in
-    let out = c.in-Ok.ensures.made in
-    leaves at refl (simp (out.1, c.give-name.ensures.given, c.make_room.ensures.kept, map_push, c.in-Ok.ensures.home))
+    let out = c.in-Ok.ensures.done.1 in
+    leaves at refl (simp (out.1, c.give-name.ensures.given, c.make_room.ensures.kept, map_push, c.in-Ok.ensures.done.0))
     (collecting-leaves (desk_of c.stage.inside.hand) at.tied.sound at.whole _ _ (sits at) out.0)
     (attends at, (next collector_holding c.give-name.ensures.name c.make_room.ensures.kept, (_, out.0, refl)))
 

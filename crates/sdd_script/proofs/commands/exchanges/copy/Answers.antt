@@ -14,7 +14,7 @@ pub returns-in-Err : goal.returns-in-Err
 returns-in-Err c =
     let d = desk_of c.stage.inside.hand in
     let kept = c.make_room.ensures.kept in
-    let out = c.in-Err.ensures.copied in
+    let out = c.in-Err.ensures.done.1 in
     let mine = named-as cell_holding c.stage.inside.hand.cells.entries.items c.args.cell.0 (rw kept at c.in-Some-shared_cell_of.ensures) in
     let is : IsCell d c.args.cell.0 _ out.0 = record { named = ap cell_of mine; holds = out.1 } in
     let named = ap (λ s. is_some (shared_cell s)) mine in
@@ -29,16 +29,16 @@ returns-in-Err c =
     }
 
 copied : (c : goal.After-give-name) → Does (desk_of c.stage.inside.hand) (At c.args.name (call.Copy c.args.cell c.args.guard))
-    (reply.Cell (record { 0 = c.give-name.result })) (record c.stage.inside.hand { world = c.copy_held.new.world; cells = c.give-name.new.self })
+    (reply.Cell (record { 0 = c.give-name.result })) (record c.stage.inside.hand { world = c.cell_step_at.new.world; cells = c.give-name.new.self })
 copied c =
     let d = desk_of c.stage.inside.hand in
     let at = under c.args.name.0 c.stage.invariant c.is_whole.ensures c.in-Some.ensures.found.0 in
     let kept = c.make_room.ensures.kept in
-    let out = c.in-Ok.ensures.copied in
+    let out = c.in-Ok.ensures.done.1 in
     let may = copied-may _ _ _ out.0 out.0.held out.2.1 in
     let mine = named-as cell_holding c.stage.inside.hand.cells.entries.items c.args.cell.0 (rw kept at c.in-Some-shared_cell_of.ensures) in
     let is : IsCell d c.args.cell.0 _ out.0 = record { named = ap cell_of mine; holds = out.1 } in
-    leaves at refl (simp (may.2, c.give-name.ensures.given, kept, map_push, c.in-Ok.ensures.home))
+    leaves at refl (simp (may.2, c.give-name.ensures.given, kept, map_push, c.in-Ok.ensures.done.0))
     (copied-leaves d at.tied.sound at.whole _ c.args.cell.0 _ out.0 (sits at) is _ may.0 out.2.0 may.1) (
       (c.in-Some.ensures.valid, ap (λ s. is_some (shared_cell s)) mine),
       (next cell_holding c.give-name.ensures.name kept, (_, out.0, is, (may.0, _, may.1, out.2.0, refl))),

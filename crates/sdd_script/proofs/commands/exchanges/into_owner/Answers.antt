@@ -4,9 +4,9 @@ use Rattle.sdd_script.proofs.ExchangeActs.{acts-taken}
 use Rattle.sdd_script.proofs.commands.exchanges.into_owner.Goals as goal
 
 spent : (c : goal.After-told_back) → Does (desk_of c.stage.inside.hand) (At c.args.name (call.Into c.args.cell)) (given_back c.give_filling-name.result)
-    (record c.stage.inside.hand { world = c.take_out-held.new.world; owners = c.give_filling-name.new.owners; cells = c.take.new.self })
+    (record c.stage.inside.hand { world = c.cell_step_at-held.new.world; owners = c.give_filling-name.new.owners; cells = c.take.new.self })
 spent c =
-    let out = c.take_out-held.ensures.taken in
+    let out = c.cell_step_at-held.ensures.done in
     acts-taken c.args.name (here c.args.name.0 c.stage.invariant c.is_whole.ensures c.in-Some.ensures) c.args.cell c.in-Some-take.holder out.0
     (sym c.in-Some-take.ensures.taken) out.1 _ c.give_filling-name.new.owners.entries c.take.new.self.entries _ c.give_filling-name.result
     c.in-Some-take.ensures.spent out.2 (rw c.make_room.ensures.kept at c.give_filling-name.ensures) out.3

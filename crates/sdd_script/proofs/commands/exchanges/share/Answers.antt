@@ -13,7 +13,7 @@ returns-in_default-shared_cell_of c = record {
 pub returns-in-Err : goal.returns-in-Err
 returns-in-Err c =
     let d = desk_of c.stage.inside.hand in
-    let out = c.in-Err.ensures.shared in
+    let out = c.in-Err.ensures.done.1 in
     let mine = named-as cell_holding c.stage.inside.hand.cells.entries.items c.args.cell.0 c.in-Some-shared_cell_of.ensures in
     let is : IsCell d c.args.cell.0 _ out.0 = record { named = ap cell_of mine; holds = out.1 } in
     let full = crowded c.stage.inside.hand.world out.0.held out.2.2 out.2.1 in
@@ -23,12 +23,12 @@ returns-in-Err c =
     }
 
 more : (c : goal.After-give-name) → Does (desk_of c.stage.inside.hand) (At c.args.name (call.Share c.args.cell c.args.guard))
-    (reply.Owner (record { 0 = c.give-name.result })) (record c.stage.inside.hand { world = c.share_held.new.world; owners = c.give-name.new.self })
+    (reply.Owner (record { 0 = c.give-name.result })) (record c.stage.inside.hand { world = c.cell_step_at.new.world; owners = c.give-name.new.self })
 more c =
     let d = desk_of c.stage.inside.hand in
     let at = under c.args.name.0 c.stage.invariant c.is_whole.ensures c.in-Some.ensures.found.0 in
-    let out = rw c.in-Ok-Some.field-0-is at c.in-Ok-Some.ensures.shared in
-    let home = rw c.in-Ok-Some.field-0-is at c.in-Ok-Some.ensures.home in
+    let out = rw c.in-Ok-Some.field-0-is at c.in-Ok-Some.ensures.done.1 in
+    let home = rw c.in-Ok-Some.field-0-is at c.in-Ok-Some.ensures.done.0 in
     let mine = named-as cell_holding c.stage.inside.hand.cells.entries.items c.args.cell.0 c.in-Some-shared_cell_of.ensures in
     let is : IsCell d c.args.cell.0 _ out.0 = record { named = ap cell_of mine; holds = out.1 } in
     leaves at refl (simp (out.2.1.3, c.give-name.ensures.given, c.make_room.ensures.kept, map_push, home))

@@ -5,8 +5,8 @@ use Rattle.sdd_script.proofs.CellActs.{named-home}
 use Rattle.sdd_script.proofs.ExchangeActs.{acts-swapped, room-kept}
 use Rattle.sdd_script.proofs.commands.exchanges.swap.Goals as goal
 
-pub swap_in-old-requires-clause-owner : goal.swap_in-old-requires-clause-owner
-swap_in-old-requires-clause-owner c =
+pub cell_step_at-old-requires-clause-asked : goal.cell_step_at-old-requires-clause-asked
+cell_step_at-old-requires-clause-asked c =
     let fills = rw c.make_room.ensures.kept at c.take_filling-next.ensures.filled in
     rw fills.holding (named-home c.stage.inside.hand c.stage.invariant c.args.owner)
 
@@ -21,15 +21,15 @@ give_filling-name-requires c =
     }
 
 swapped : (c : goal.After-give_filling-name) → Does (desk_of c.stage.inside.hand) (At c.args.name (call.Swap c.args.cell c.args.owner c.args.tag))
-    (reply.Swapped c.give_filling-name.result c.swap_in-old.result.1)
-    (record c.stage.inside.hand { world = c.swap_in-old.new.world; owners = c.give_filling-name.new.owners })
+    (reply.Swapped c.give_filling-name.result c.cell_step_at-old.result.1)
+    (record c.stage.inside.hand { world = c.cell_step_at-old.new.world; owners = c.give_filling-name.new.owners })
 swapped c =
-    let out = c.swap_in-old.ensures.swapped in
+    let out = c.cell_step_at-old.ensures.done in
     let fits = rw c.ownership.ensures at c.if-not-fits.ensures in
     let fills = rw (c.make_room.ensures.kept, c.ownership-2.ensures) at c.take_filling-next.ensures.filled in
     acts-swapped c.args.name (here c.args.name.0 c.stage.invariant c.is_whole.ensures c.in-Some.ensures) c.args.cell c.in-Some-get.holder.now
     out.0 (sym c.in-Some-get.ensures) out.1 c.args.owner c.args.tag (fits.0 refl) _ c.give_filling-name.new.owners.entries _ c.take_filling-next.result _
-    c.give_filling-name.result fills out.3 c.give_filling-name.ensures out.4 c.swap_in-old.result.1 out.2
+    c.give_filling-name.result fills out.3 c.give_filling-name.ensures out.4 c.cell_step_at-old.result.1 out.2
 
 pub invariant_of-stage-2 : goal.invariant_of-stage-2
 invariant_of-stage-2 c = (swapped c).0

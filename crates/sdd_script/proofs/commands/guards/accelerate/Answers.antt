@@ -3,11 +3,11 @@ use Rattle.sdd_script_text.specs.declared.call.Action.TheVariants as call
 use Rattle.sdd_script_text.specs.declared.answer.Reply.TheVariants as reply
 use Rattle.sdd_script.proofs.commands.guards.accelerate.Goals as goal
 
-accelerated : (c : goal.After-accelerate_at) → Does (desk_of c.stage.inside.hand) (At c.args.name (call.Accelerate c.args.guard)) reply.Done
-    (record c.stage.inside.hand { world = c.accelerate_at.new.world })
+accelerated : (c : goal.After-guard_step_at) → Does (desk_of c.stage.inside.hand) (At c.args.name (call.Accelerate c.args.guard)) reply.Done
+    (record c.stage.inside.hand { world = c.guard_step_at.new.world })
 accelerated c =
     let at = under c.args.name.0 c.stage.invariant c.is_whole.ensures c.in-Some.ensures.found.0 in
-    leaves at refl (simp c.accelerate_at.ensures) (accelerated-leaves (desk_of c.stage.inside.hand) at.tied.sound at.whole _ (sits at))
+    leaves at refl (simp c.guard_step_at.ensures.done) (accelerated-leaves (desk_of c.stage.inside.hand) at.tied.sound at.whole _ (sits at))
     (c.in-Some.ensures.valid, rw (place-is at) refl)
 
 pub invariant_of-stage : goal.invariant_of-stage

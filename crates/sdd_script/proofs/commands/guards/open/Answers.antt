@@ -23,7 +23,7 @@ items_among-requires c =
 pub returns-in-Err : goal.returns-in-Err
 returns-in-Err c =
     let at = here c.args.name.0 c.stage.invariant c.is_whole.ensures c.in-Some.ensures in
-    let refused = c.in-Err.ensures.opened in
+    let refused = c.in-Err.ensures.done.1 in
     record {
       answers = rw (c.answer-in-Err.ensures, refused.0, refused.2, c.make_room.ensures.kept, ← c.stage.view_is) (answers-plain (At c.args.name call.Open) _
           (still (desk_of c.stage.inside.hand) _ _ (attends at, rw (place-is at) (refused.1, refl))) (λ s e. e) (λ k e. e));
@@ -31,7 +31,7 @@ returns-in-Err c =
 
 abbrev left : goal.After-drop-waited-2 → Environment
 left c = record c.stage.inside.hand {
-  world = c.open_at.new.world;
+  world = c.guard_step_at.new.world;
   places = c.note_opening.new.places;
   guards = c.give-name.new.self;
   dates = c.date_new.new.dates;
@@ -47,11 +47,11 @@ opened c =
     let moved = rw c.as_slice-names.ensures.value at c.in_ok-due.ensures.items in
     let jobs = rw (c.as_slice-deferred.ensures.value, c.reclaims_next-waiting.ensures) at c.in_ok-ran.ensures.named in
     answers-opened c.args.name at _ c.note_opening.new.places.entries c.give-name.new.self.entries c.date_new.new.dates _ _
-    (ap slots_among c.reclaims_next-waiting.ensures) noted given c.index-place.ensures c.in-Ok.ensures.reader refl refl c.in-Ok.ensures.opened.1
+    (ap slots_among c.reclaims_next-waiting.ensures) noted given c.index-place.ensures c.in-Ok.ensures.done.0 refl refl c.in-Ok.ensures.done.1.1
     (rw (← c.stage.view_is) at c.requires.line) _
     (λ s lt. c.in_ok-waited.ensures.each s (omega (arith, lt, ap length c.as_slice-names.ensures.value)))
     (rw c.as_slice.ensures.value at c.date_new.ensures.dated, c.date_new.ensures.long) c.in_ok-due.due.items _ _ moved c.in_ok-due.ensures.ascending
-    c.in-Ok.ensures.opened.0 (c.give-name.ensures.name ∙ ap length c.make_room.ensures.kept) c.in-Ok.ensures.opened.2 _ jobs c.in_ok-ran.ensures.ascending
+    c.in-Ok.ensures.done.1.0 (c.give-name.ensures.name ∙ ap length c.make_room.ensures.kept) c.in-Ok.ensures.done.1.2 _ jobs c.in_ok-ran.ensures.ascending
 
 pub invariant_of-stage-2 : goal.invariant_of-stage-2
 invariant_of-stage-2 c = (opened c).0

@@ -14,8 +14,8 @@ returns-in-Some-refuses_item c =
           (here c.args.name.0 c.stage.invariant c.is_whole.ensures c.in-Some.ensures) c.args.ownership c.args.value _ put c.in-Some-refuses_item.ensures));
     }
 
-pub make_item-owner-requires-clause-home : goal.make_item-owner-requires-clause-home
-make_item-owner-requires-clause-home c =
+pub item_step_at-owner-requires-clause-asked : goal.item_step_at-owner-requires-clause-asked
+item_step_at-owner-requires-clause-asked c =
     body-home c.stage.inside.hand c.stage.invariant c.is_whole.ensures c.args.value _ _ (rw c.make_room.ensures.kept at c.in-Some-body_from.ensures.becomes)
 
 pub give-name-requires : goal.give-name-requires
@@ -25,7 +25,7 @@ give-name-requires c =
 
 abbrev left : goal.After-give-name → Environment
 left c = record c.stage.inside.hand {
-  world = c.make_item-owner.new.world;
+  world = c.item_step_at-owner.new.world;
   owners = c.give-name.new.self;
   slots = c.push_reserved.new.self;
   names = with_item c.stage.inside.hand.names c.slot-slot.result (Some c.len-item.result);
@@ -34,7 +34,7 @@ left c = record c.stage.inside.hand {
 made : (c : goal.After-give-name) → IsTied (left c) × Acts (desk_of c.stage.inside.hand) (At c.args.name (making c.args.ownership c.args.value))
     (reply.Item (record { 0 = c.give-name.result }) (record { 0 = c.len-item.result })) (desk_of (left c))
 made c =
-    let m = c.make_item-owner.ensures.made in
+    let m = c.item_step_at-owner.ensures.done in
     let next : c.len-item.result ≡ length c.stage.inside.hand.slots.items = search rules in
     let slot : c.slot-slot.result ≡ m.0 = sym (first-slot c.args.ownership m.0 _ _ (ap (λ x. slot_of (Some x)) (sym m.3) ∙ c.slot-slot.ensures)) in
     let long = becomes-long _ _ c.args.value _ c.in-Some-body_from.ensures.becomes in

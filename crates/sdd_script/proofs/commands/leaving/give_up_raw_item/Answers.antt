@@ -5,23 +5,23 @@ use Rattle.sdd_script.proofs.commands.leaving.give_up_raw_item.Goals as goal
 pub raw_step_at-requires-clause-place : goal.raw_step_at-requires-clause-place
 raw_step_at-requires-clause-place c = live-in c.args.hand.now _ c.requires
 
-pub retire_item-requires-clause-place : goal.retire_item-requires-clause-place
-retire_item-requires-clause-place c = rw c.in-Some.ensures.done.1.1 (live-in c.args.hand.now _ c.requires)
+pub item_step_at-requires-clause-place : goal.item_step_at-requires-clause-place
+item_step_at-requires-clause-place c = rw c.in-Some.ensures.done.1.1 (live-in c.args.hand.now _ c.requires)
 
-pub retire_item-requires-clause-home : goal.retire_item-requires-clause-home
-retire_item-requires-clause-home c = rw c.in-Some.ensures.done.1.1 c.in-Some.ensures.done.0.1
+pub item_step_at-requires-clause-asked : goal.item_step_at-requires-clause-asked
+item_step_at-requires-clause-asked c = rw c.in-Some.ensures.done.1.1 c.in-Some.ensures.done.0.1
 
 pub returns-in-Some : goal.returns-in-Some
 returns-in-Some c =
     let h = c.args.hand.now in
     let p = index_of c.args.place.now in
     let done = c.in-Some.ensures.done in
-    let world : c.retire_item.new.world ≡ retired (with_standing h.world c.args.slot Owned) p c.args.slot =
-    c.retire_item.ensures.retired
+    let world : c.item_step_at.new.world ≡ retired (with_standing h.world c.args.slot Owned) p c.args.slot =
+    c.item_step_at.ensures.done.0
     ∙ ap (λ (k : ℕ). retired c.raw_step_at.new.world p k) done.0.0
     ∙ ap (λ (w : World Val). retired w p c.args.slot) done.1.1 in
     record {
-      goes = ends-raw h p c.requires c.is_whole.ensures c.retire_item.new.world c.args.slot done.1.0 world;
+      goes = ends-raw h p c.requires c.is_whole.ensures c.item_step_at.new.world c.args.slot done.1.0 world;
       gone = rw world (gone-raw h.world p c.args.slot done.1.0);
       others = λ k not. rw world (not-raw h.world p c.args.slot k not);
       rest = refl;

@@ -6,17 +6,17 @@ use Rattle.sdd_script.proofs.commands.leaving.spend_bags.Goals as goal
 pub loop-bag-init : goal.loop-bag-init
 loop-bag-init c = spends-none (goes-start _ _ c.requires.ending) refl
 
-pub close_at-requires-clause-place : goal.close_at-requires-clause-place
-close_at-requires-clause-place c = live-in c.loop-bag.hand _ c.loop-bag.invariant.goes.ending
+pub bag_closed_at-requires-clause-place : goal.bag_closed_at-requires-clause-place
+bag_closed_at-requires-clause-place c = live-in c.loop-bag.hand _ c.loop-bag.invariant.goes.ending
 
-pub close_at-requires-clause-home : goal.close_at-requires-clause-home
-close_at-requires-clause-home c = (bag-kept c.loop-bag.hand _ c.loop-bag.invariant.goes.ending c.loop-bag.bag _ c.in-Some.ensures.taken).home
+pub bag_closed_at-requires-clause-home : goal.bag_closed_at-requires-clause-home
+bag_closed_at-requires-clause-home c = (bag-kept c.loop-bag.hand _ c.loop-bag.invariant.goes.ending c.loop-bag.bag _ c.in-Some.ensures.taken).home
 
-pub close_at-requires-clause-bag : goal.close_at-requires-clause-bag
-close_at-requires-clause-bag c = (bag-kept c.loop-bag.hand _ c.loop-bag.invariant.goes.ending c.loop-bag.bag _ c.in-Some.ensures.taken).bag
+pub bag_closed_at-requires-clause-bag : goal.bag_closed_at-requires-clause-bag
+bag_closed_at-requires-clause-bag c = (bag-kept c.loop-bag.hand _ c.loop-bag.invariant.goes.ending c.loop-bag.bag _ c.in-Some.ensures.taken).bag
 
-pub close_at-requires-clause-reader : goal.close_at-requires-clause-reader
-close_at-requires-clause-reader c = reader-still c.loop-bag.invariant.goes _ c.requires.reader
+pub bag_closed_at-requires-clause-reader : goal.bag_closed_at-requires-clause-reader
+bag_closed_at-requires-clause-reader c = reader-still c.loop-bag.invariant.goes _ c.requires.reader
 
 pub loop-bag-preserved-in_default : goal.loop-bag-preserved-in_default
 loop-bag-preserved-in_default c =
@@ -27,5 +27,5 @@ loop-bag-preserved-in_default c =
 pub loop-bag-preserved : goal.loop-bag-preserved
 loop-bag-preserved c =
     let now = c.in-Some.ensures in
-    let gone = ends-bag c.loop-bag.hand _ c.loop-bag.invariant.goes.ending c.is_whole.ensures _ _ _ now.taken _ now.spent c.close_at.ensures.closed in
+    let gone = ends-bag c.loop-bag.hand _ c.loop-bag.invariant.goes.ending c.is_whole.ensures _ _ _ now.taken _ now.spent c.bag_closed_at.ensures.closed in
     spends-next (λ u v. refl) c.loop-bag.invariant _ (goes-then c.loop-bag.invariant.goes gone) now.spent refl

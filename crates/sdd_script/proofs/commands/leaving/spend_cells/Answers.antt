@@ -5,11 +5,11 @@ use Rattle.sdd_script.proofs.commands.leaving.spend_cells.Goals as goal
 pub loop-cell-init : goal.loop-cell-init
 loop-cell-init c = spends-none (goes-start _ _ c.requires) refl
 
-pub close_at-requires-clause-place : goal.close_at-requires-clause-place
-close_at-requires-clause-place c = live-in c.loop-cell.hand _ c.loop-cell.invariant.goes.ending
+pub item_step_at-requires-clause-place : goal.item_step_at-requires-clause-place
+item_step_at-requires-clause-place c = live-in c.loop-cell.hand _ c.loop-cell.invariant.goes.ending
 
-pub close_at-requires-clause-home : goal.close_at-requires-clause-home
-close_at-requires-clause-home c = cell-home c.loop-cell.hand _ c.loop-cell.invariant.goes.ending c.loop-cell.cell _ c.in-Some.ensures.taken
+pub item_step_at-requires-clause-asked : goal.item_step_at-requires-clause-asked
+item_step_at-requires-clause-asked c = cell-home c.loop-cell.hand _ c.loop-cell.invariant.goes.ending c.loop-cell.cell _ c.in-Some.ensures.taken
 
 pub loop-cell-preserved-in_default : goal.loop-cell-preserved-in_default
 loop-cell-preserved-in_default c =
@@ -20,5 +20,5 @@ loop-cell-preserved-in_default c =
 pub loop-cell-preserved : goal.loop-cell-preserved
 loop-cell-preserved c =
     let now = c.in-Some.ensures in
-    let gone = ends-cell c.loop-cell.hand _ c.loop-cell.invariant.goes.ending c.is_whole.ensures _ _ _ now.taken _ now.spent c.close_at.ensures in
+    let gone = ends-cell c.loop-cell.hand _ c.loop-cell.invariant.goes.ending c.is_whole.ensures _ _ _ now.taken _ now.spent c.item_step_at.ensures.done in
     spends-next (λ u v. refl) c.loop-cell.invariant _ (goes-then c.loop-cell.invariant.goes gone) now.spent refl

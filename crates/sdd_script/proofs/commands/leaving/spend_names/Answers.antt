@@ -15,45 +15,45 @@ some_place-place-requires c = record {
 pub unreachable-requires : goal.unreachable-requires
 unreachable-requires c =
     let at = c.some_place-place in
-    c.in_default.ensures.opened.1
+    c.in_default.ensures.done.1.1
     (nests-so c.args.hand.now c.requires.sound c.requires.shut (index_of at.result) at.new.world at.ensures.revived at.ensures.nests)
 
 pub spend_queues-requires-clause-ending : goal.spend_queues-requires-clause-ending
 spend_queues-requires-clause-ending c =
     let at = c.some_place-place in
-    (begins c.args.hand.now c.requires.sound c.requires.shut (index_of at.result) at.new.world c.open_at.new.world at.ensures.revived at.ensures.place
-    c.is_whole-2.ensures c.in-Ok.ensures.opened.1).ending
+    (begins c.args.hand.now c.requires.sound c.requires.shut (index_of at.result) at.new.world c.guard_step_at.new.world at.ensures.revived at.ensures.place
+    c.is_whole-2.ensures c.in-Ok.ensures.done.1.1).ending
 
 pub spend_queues-requires-clause-reader : goal.spend_queues-requires-clause-reader
-spend_queues-requires-clause-reader c = reader-opened c.some_place-place.new.world _ _ _ c.in-Ok.ensures.opened.1 c.in-Ok.ensures.reader
+spend_queues-requires-clause-reader c = reader-opened c.some_place-place.new.world _ _ _ c.in-Ok.ensures.done.1.1 c.in-Ok.ensures.done.0
 
 pub spend_stacks-requires-clause-reader : goal.spend_stacks-requires-clause-reader
 spend_stacks-requires-clause-reader c =
-    reader-still c.spend_queues.ensures.goes _ (reader-opened c.some_place-place.new.world _ _ _ c.in-Ok.ensures.opened.1 c.in-Ok.ensures.reader)
+    reader-still c.spend_queues.ensures.goes _ (reader-opened c.some_place-place.new.world _ _ _ c.in-Ok.ensures.done.1.1 c.in-Ok.ensures.done.0)
 
 pub spend_bags-requires-clause-reader : goal.spend_bags-requires-clause-reader
 spend_bags-requires-clause-reader c =
     reader-still (goes-then c.spend_queues.ensures.goes c.spend_stacks.ensures.goes) _
-    (reader-opened c.some_place-place.new.world _ _ _ c.in-Ok.ensures.opened.1 c.in-Ok.ensures.reader)
+    (reader-opened c.some_place-place.new.world _ _ _ c.in-Ok.ensures.done.1.1 c.in-Ok.ensures.done.0)
 
-pub close_at-requires-clause-place : goal.close_at-requires-clause-place
-close_at-requires-clause-place c = live-in c.give_up_raw_items.new.hand _ c.give_up_raw_items.ensures.goes.ending
+pub guard_step_at-in-Ok-requires-clause-place : goal.guard_step_at-in-Ok-requires-clause-place
+guard_step_at-in-Ok-requires-clause-place c = live-in c.give_up_raw_items.new.hand _ c.give_up_raw_items.ensures.goes.ending
 
-pub close_at-requires-clause-reader : goal.close_at-requires-clause-reader
-close_at-requires-clause-reader c =
+pub guard_step_at-in-Ok-requires-clause-asked : goal.guard_step_at-in-Ok-requires-clause-asked
+guard_step_at-in-Ok-requires-clause-asked c =
     reader-still
     (goes-then c.spend_queues.ensures.goes
     (goes-then c.spend_stacks.ensures.goes
     (goes-then c.spend_bags.ensures.goes
     (goes-then c.spend_owners.ensures.goes (goes-then c.spend_cells.ensures.goes c.give_up_raw_items.ensures.goes))))) _
-    (reader-opened c.some_place-place.new.world _ _ _ c.in-Ok.ensures.opened.1 c.in-Ok.ensures.reader)
+    (reader-opened c.some_place-place.new.world _ _ _ c.in-Ok.ensures.done.1.1 c.in-Ok.ensures.done.0)
 
 pub returns : goal.returns
 returns c =
     let at = c.some_place-place in
     let begun =
-    begins c.args.hand.now c.requires.sound c.requires.shut (index_of at.result) at.new.world c.open_at.new.world at.ensures.revived at.ensures.place
-    c.is_whole-2.ensures c.in-Ok.ensures.opened.1 in
+    begins c.args.hand.now c.requires.sound c.requires.shut (index_of at.result) at.new.world c.guard_step_at.new.world at.ensures.revived at.ensures.place
+    c.is_whole-2.ensures c.in-Ok.ensures.done.1.1 in
     let all =
     goes-then begun
     (goes-then c.spend_queues.ensures.goes
@@ -74,7 +74,7 @@ returns c =
         rw (e6, e5, e4, e3, e2) c.spend_queues.ensures.spent,
         rw (e6, e5, e4, e3) c.spend_stacks.ensures.spent,
         rw (e6, e5, e4) c.spend_bags.ensures.spent,
-      ) c.give_up_raw_items.ensures.gone c.close_at.new.world c.close_at.ensures c.is_whole-4.ensures;
+      ) c.give_up_raw_items.ensures.gone c.guard_step_at-in-Ok.new.world c.guard_step_at-in-Ok.ensures.done c.is_whole-4.ensures;
       shut = rw (e6, e5, e4, e3, e2, e1) c.requires.shut;
-      told = rw c.close_at.ensures all.told;
+      told = rw c.guard_step_at-in-Ok.ensures.done all.told;
     }

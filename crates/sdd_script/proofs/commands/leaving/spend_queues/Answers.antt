@@ -6,14 +6,14 @@ use Rattle.sdd_script.proofs.commands.leaving.spend_queues.Goals as goal
 pub loop-queue-init : goal.loop-queue-init
 loop-queue-init c = spends-none (goes-start _ _ c.requires.ending) refl
 
-pub close_at-requires-clause-place : goal.close_at-requires-clause-place
-close_at-requires-clause-place c = live-in c.loop-queue.hand _ c.loop-queue.invariant.goes.ending
+pub list_step_at-requires-clause-place : goal.list_step_at-requires-clause-place
+list_step_at-requires-clause-place c = live-in c.loop-queue.hand _ c.loop-queue.invariant.goes.ending
 
-pub close_at-requires-clause-queue : goal.close_at-requires-clause-queue
-close_at-requires-clause-queue c = queue-home c.loop-queue.hand _ c.loop-queue.invariant.goes.ending c.loop-queue.queue _ c.in-Some.ensures.taken
+pub list_step_at-requires-clause-asked : goal.list_step_at-requires-clause-asked
+list_step_at-requires-clause-asked c = queue-home c.loop-queue.hand _ c.loop-queue.invariant.goes.ending c.loop-queue.queue _ c.in-Some.ensures.taken
 
-pub close_at-requires-clause-reader : goal.close_at-requires-clause-reader
-close_at-requires-clause-reader c = reader-still c.loop-queue.invariant.goes _ c.requires.reader
+pub list_step_at-requires-clause-reader : goal.list_step_at-requires-clause-reader
+list_step_at-requires-clause-reader c = reader-still c.loop-queue.invariant.goes _ c.requires.reader
 
 pub loop-queue-preserved-in_default : goal.loop-queue-preserved-in_default
 loop-queue-preserved-in_default c =
@@ -25,5 +25,5 @@ loop-queue-preserved-in_default c =
 pub loop-queue-preserved : goal.loop-queue-preserved
 loop-queue-preserved c =
     let now = c.in-Some.ensures in
-    let gone = ends-queue c.loop-queue.hand _ c.loop-queue.invariant.goes.ending c.is_whole.ensures _ _ _ now.taken _ now.spent c.close_at.ensures.closed in
+    let gone = ends-queue c.loop-queue.hand _ c.loop-queue.invariant.goes.ending c.is_whole.ensures _ _ _ now.taken _ now.spent c.list_step_at.ensures.done in
     spends-next (λ u v. refl) c.loop-queue.invariant _ (goes-then c.loop-queue.invariant.goes gone) now.spent refl

@@ -6,14 +6,14 @@ use Rattle.sdd_script.proofs.commands.leaving.spend_stacks.Goals as goal
 pub loop-stack-init : goal.loop-stack-init
 loop-stack-init c = spends-none (goes-start _ _ c.requires.ending) refl
 
-pub close_at-requires-clause-place : goal.close_at-requires-clause-place
-close_at-requires-clause-place c = live-in c.loop-stack.hand _ c.loop-stack.invariant.goes.ending
+pub list_step_at-requires-clause-place : goal.list_step_at-requires-clause-place
+list_step_at-requires-clause-place c = live-in c.loop-stack.hand _ c.loop-stack.invariant.goes.ending
 
-pub close_at-requires-clause-stack : goal.close_at-requires-clause-stack
-close_at-requires-clause-stack c = stack-home c.loop-stack.hand _ c.loop-stack.invariant.goes.ending c.loop-stack.stack _ c.in-Some.ensures.taken
+pub list_step_at-requires-clause-asked : goal.list_step_at-requires-clause-asked
+list_step_at-requires-clause-asked c = stack-home c.loop-stack.hand _ c.loop-stack.invariant.goes.ending c.loop-stack.stack _ c.in-Some.ensures.taken
 
-pub close_at-requires-clause-reader : goal.close_at-requires-clause-reader
-close_at-requires-clause-reader c = reader-still c.loop-stack.invariant.goes _ c.requires.reader
+pub list_step_at-requires-clause-reader : goal.list_step_at-requires-clause-reader
+list_step_at-requires-clause-reader c = reader-still c.loop-stack.invariant.goes _ c.requires.reader
 
 pub loop-stack-preserved-in_default : goal.loop-stack-preserved-in_default
 loop-stack-preserved-in_default c =
@@ -25,5 +25,5 @@ loop-stack-preserved-in_default c =
 pub loop-stack-preserved : goal.loop-stack-preserved
 loop-stack-preserved c =
     let now = c.in-Some.ensures in
-    let gone = ends-stack c.loop-stack.hand _ c.loop-stack.invariant.goes.ending c.is_whole.ensures _ _ _ now.taken _ now.spent c.close_at.ensures.closed in
+    let gone = ends-stack c.loop-stack.hand _ c.loop-stack.invariant.goes.ending c.is_whole.ensures _ _ _ now.taken _ now.spent c.list_step_at.ensures.done in
     spends-next (λ u v. refl) c.loop-stack.invariant _ (goes-then c.loop-stack.invariant.goes gone) now.spent refl

@@ -4,13 +4,13 @@ use Rattle.sdd_script_text.specs.declared.answer.Reply.TheVariants as reply
 use Rattle.sdd_script.proofs.commands.owners.clone_owner.Goals as goal
 
 cloned : (c : goal.After-give-name) → Does (desk_of c.stage.inside.hand) (At c.args.name (call.Clone c.args.owner))
-    (reply.Owner (record { 0 = c.give-name.result })) (record c.stage.inside.hand { world = c.clone_held.new.world; owners = c.give-name.new.self })
+    (reply.Owner (record { 0 = c.give-name.result })) (record c.stage.inside.hand { world = c.item_step_at.new.world; owners = c.give-name.new.self })
 cloned c =
     let d = desk_of c.stage.inside.hand in
     let at = here c.args.name.0 c.stage.invariant c.is_whole.ensures c.in-Some.ensures in
     let kept = c.make_room.ensures.kept in
-    let owner = c.in-Ok.ensures.owner in
-    let out = c.in-Ok.ensures.shared in
+    let owner = c.in-Ok.ensures.done.0 in
+    let out = c.in-Ok.ensures.done.1 in
     let mine = named-as owner_holding c.stage.inside.hand.owners.entries.items c.args.owner.0 (rw kept at c.in-Some-shared_of.ensures) in
     let its = ap shared_slot mine in
     leaves at refl (simp (out.2.1, c.give-name.ensures.given, kept, map_push, owner.0, owner.1))
@@ -28,7 +28,7 @@ pub returns-in-Err : goal.returns-in-Err
 returns-in-Err c =
     let at = here c.args.name.0 c.stage.invariant c.is_whole.ensures c.in-Some.ensures in
     let kept = c.make_room.ensures.kept in
-    let full = c.in-Err.ensures.shared in
+    let full = c.in-Err.ensures.done.1 in
     let its = ap shared_slot (named-as owner_holding c.stage.inside.hand.owners.entries.items c.args.owner.0 (rw kept at c.in-Some-shared_of.ensures)) in
     record {
       acts = rw (← c.stage.view_is, kept, full.2.2, full.2.1)

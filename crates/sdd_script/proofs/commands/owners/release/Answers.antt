@@ -26,13 +26,13 @@ invariant_of-stage-then-was_last c =
     let now = c.stage.inside.hand.moment in
     (released c.args.name (here c.args.name.0 c.stage.invariant c.is_whole.ensures c.in-Some.ensures) c.args.owner _ _ _ _ c.take_shared.new.owners.entries
     (with_item c.stage.inside.hand.dates c.slot_of_share-slot.result now) c.in-Some-take_shared.ensures.0 c.in-Some-take_shared.ensures.1
-    (rw c.if-was_last.true refl) c.slot_of_share-slot.ensures c.release_owner-was_last.ensures.released).0
+    (rw c.if-was_last.true refl) c.slot_of_share-slot.ensures c.item_step_at-was_last.ensures.done).0
 
 pub invariant_of-stage-else-was_last : goal.invariant_of-stage-else-was_last
 invariant_of-stage-else-was_last c =
     (released c.args.name (here c.args.name.0 c.stage.invariant c.is_whole.ensures c.in-Some.ensures) c.args.owner _ _ _ _ c.take_shared.new.owners.entries
     c.stage.inside.hand.dates c.in-Some-take_shared.ensures.0 c.in-Some-take_shared.ensures.1
-    (rw c.if-was_last.false refl) c.slot_of_share-slot.ensures c.release_owner-was_last.ensures.released).0
+    (rw c.if-was_last.false refl) c.slot_of_share-slot.ensures c.item_step_at-was_last.ensures.done).0
 
 pub returns : goal.returns
 returns c =
@@ -42,9 +42,9 @@ returns c =
       acts = elim c.if-was_last.branch [
         | then-was_last w ↦ rw (← c.stage.view_is, w.stage-is) (released c.args.name at c.args.owner _ _ _ _ c.take_shared.new.owners.entries
             (with_item c.stage.inside.hand.dates c.slot_of_share-slot.result c.stage.inside.hand.moment) took.0 took.1 (rw w.if-was_last.true refl)
-            c.slot_of_share-slot.ensures c.release_owner-was_last.ensures.released).1
+            c.slot_of_share-slot.ensures c.item_step_at-was_last.ensures.done).1
         | else-was_last w ↦ rw (← c.stage.view_is, w.stage-is) (released c.args.name at c.args.owner _ _ _ _ c.take_shared.new.owners.entries
             c.stage.inside.hand.dates took.0 took.1 (rw w.if-was_last.false refl) c.slot_of_share-slot.ensures
-            c.release_owner-was_last.ensures.released).1
+            c.item_step_at-was_last.ensures.done).1
       ];
     }

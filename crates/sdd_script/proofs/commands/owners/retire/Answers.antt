@@ -6,7 +6,7 @@ use Rattle.sdd_script.proofs.commands.owners.retire.Goals as goal
 
 retired : (c : goal.After-stage-1) → Does (desk_of c.stage.inside.hand) (At c.args.name (call.Retire c.args.owner)) reply.Done
     (record c.stage.inside.hand {
-      world = c.retire_item.new.world;
+      world = c.item_step_at.new.world;
       owners = c.take_sole.new.owners;
       dates = with_item c.stage.inside.hand.dates c.slot_of_sole-slot.result c.stage.inside.hand.moment;
     })
@@ -14,8 +14,8 @@ retired c =
     let at = here c.args.name.0 c.stage.invariant c.is_whole.ensures c.in-Some.ensures in
     let took = c.in-Some-take_sole.ensures in
     let its = ap sole_slot (named-as owner_holding c.stage.inside.hand.owners.entries.items c.args.owner.0 took.0) in
-    leaves at refl (simp (c.retire_item.ensures.retired, took.1, c.slot_of_sole-slot.ensures, map-set))
-    (retired-leaves (desk_of c.stage.inside.hand) at.tied.sound at.whole _ _ c.args.owner.0 (sits at) its c.retire_item.ensures.owned)
+    leaves at refl (simp (c.item_step_at.ensures.done.0, took.1, c.slot_of_sole-slot.ensures, map-set))
+    (retired-leaves (desk_of c.stage.inside.hand) at.tied.sound at.whole _ _ c.args.owner.0 (sits at) its c.item_step_at.ensures.done.1)
     ((attends at, ap is_some its), rw (place-is at) (_, its, refl))
 
 pub invariant_of-stage-2 : goal.invariant_of-stage-2

@@ -9,7 +9,7 @@ returns-in_default c = record { acts = rw (← c.stage.view_is) (nobody c.stage.
 pub returns-in-Err : goal.returns-in-Err
 returns-in-Err c =
     let h = c.stage.inside.hand in
-    let refused = c.in-Err.ensures.made in
+    let refused = c.in-Err.ensures.done.1 in
     record {
       acts = rw (refused.1, refused.2, c.make_room.ensures.kept, ← c.stage.view_is)
           (acts-no_cells h c.stage.invariant c.is_whole.ensures c.args.name _ (got h.places c.args.name.0 _ c.in-Some.ensures) refused.0);
@@ -18,18 +18,18 @@ returns-in-Err c =
 pub invariant_of-stage-in-Ok : goal.invariant_of-stage-in-Ok
 invariant_of-stage-in-Ok c =
     let h = c.stage.inside.hand in
-    let made = c.in-Ok.ensures.made in
+    let made = c.in-Ok.ensures.done.1 in
     (acts-queue_begun h c.stage.invariant c.is_whole.ensures c.args.name _ (got h.places c.args.name.0 _ c.in-Some.ensures) _
-    c.give-name.new.self.entries _ (record { 0 = c.give-name.result }) made.0 made.1 made.2 made.3 c.in-Ok.ensures.home
+    c.give-name.new.self.entries _ (record { 0 = c.give-name.result }) made.0 made.1 made.2 made.3 c.in-Ok.ensures.done.0
     (rw c.make_room.ensures.kept at c.give-name.ensures.given) (c.give-name.ensures.name ∙ ap length c.make_room.ensures.kept)).0
 
 pub returns-in-Ok : goal.returns-in-Ok
 returns-in-Ok c =
     let h = c.stage.inside.hand in
-    let made = c.in-Ok.ensures.made in
+    let made = c.in-Ok.ensures.done.1 in
     record {
       acts = rw (← c.stage.view_is) (acts-queue_begun h c.stage.invariant c.is_whole.ensures c.args.name _
           (got h.places c.args.name.0 _ c.in-Some.ensures) _ c.give-name.new.self.entries _ (record { 0 = c.give-name.result }) made.0 made.1
-          made.2 made.3 c.in-Ok.ensures.home (rw c.make_room.ensures.kept at c.give-name.ensures.given)
+          made.2 made.3 c.in-Ok.ensures.done.0 (rw c.make_room.ensures.kept at c.give-name.ensures.given)
           (c.give-name.ensures.name ∙ ap length c.make_room.ensures.kept)).1;
     }

@@ -17,19 +17,19 @@ returns-in_default-get c = record {
 pub unreachable-requires : goal.unreachable-requires
 unreachable-requires c = absurd (let never = c.in_default-take.ensures.taken ∙ sym c.in-Some-get.ensures in cc)
 
-pub close_at-requires-clause-stack : goal.close_at-requires-clause-stack
-close_at-requires-clause-stack c = stack-home c.stage.inside.hand c.stage.invariant c.args.stack.0 _ c.in-Some-take.ensures.taken
+pub list_step_at-requires-clause-asked : goal.list_step_at-requires-clause-asked
+list_step_at-requires-clause-asked c = stack-home c.stage.inside.hand c.stage.invariant c.args.stack.0 _ c.in-Some-take.ensures.taken
 
 closed : (c : goal.After-drop-waited) → Does (desk_of c.stage.inside.hand) (At c.args.name (call.CloseStack c.args.stack)) reply.Done
-    (record c.stage.inside.hand { world = c.close_at.new.world; stacks = c.take.new.self; dates = c.date_new.new.dates })
+    (record c.stage.inside.hand { world = c.list_step_at.new.world; stacks = c.take.new.self; dates = c.date_new.new.dates })
 closed c =
     let h = c.stage.inside.hand in
     let found = c.in-Some.ensures in
     let long : c.len-slots.result ≡ length c.stage.inside.hand.names.items = search rules in
     let told_so : AreTold c.stage.inside.hand c.in_ok-waited.waited.items = λ s lt. c.in_ok-waited.ensures.each s (omega (arith, lt, long)) in
     acts-closed h c.stage.invariant c.is_whole.ensures c.args.name _ found.0 c.args.stack _ c.in-Some-take.ensures.taken
-    c.in_ok-waited.waited.items told_so c.close_at.new.world c.take.new.self.entries c.date_new.new.dates (found.2.0, found.2.2)
-    c.close_at.ensures.closed c.in-Some-take.ensures.spent (rw c.as_slice.ensures.value at c.date_new.ensures.dated, c.date_new.ensures.long)
+    c.in_ok-waited.waited.items told_so c.list_step_at.new.world c.take.new.self.entries c.date_new.new.dates (found.2.0, found.2.2)
+    c.list_step_at.ensures.done c.in-Some-take.ensures.spent (rw c.as_slice.ensures.value at c.date_new.ensures.dated, c.date_new.ensures.long)
 
 pub invariant_of-stage : goal.invariant_of-stage
 invariant_of-stage c = (closed c).0

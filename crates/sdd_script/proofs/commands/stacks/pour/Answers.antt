@@ -15,8 +15,8 @@ returns-in_default-get c =
       acts = rw (c.make_room.ensures.kept, ← c.stage.view_is) (invalid _ _ _ (λ valid. no-stack c.stage.inside.hand c.args.stack.0 none valid.1));
     }
 
-pub pour_at-requires-clause-stack : goal.pour_at-requires-clause-stack
-pour_at-requires-clause-stack c =
+pub list_step_at-requires-clause-asked : goal.list_step_at-requires-clause-asked
+list_step_at-requires-clause-asked c =
     let mine = rw c.make_room.ensures.kept at c.in-Some-get.ensures in stack-home c.stage.inside.hand c.stage.invariant c.args.stack.0 _ mine
 
 pub returns-in-Err : goal.returns-in-Err
@@ -24,7 +24,7 @@ returns-in-Err c =
     let h = c.stage.inside.hand in
     let mine = rw c.make_room.ensures.kept at c.in-Some-get.ensures in
     let its = stack-entries h c.stage.invariant c.args.stack.0 _ mine in
-    let refused = c.in-Err.ensures.all its.0 its.1.list in
+    let refused = c.in-Err.ensures.done.1 its.0 its.1.list in
     record {
       acts = rw (refused.1, refused.2, c.make_room.ensures.kept, ← c.stage.view_is)
           (acts-pour_refused h c.stage.invariant c.is_whole.ensures c.args.name _ c.in-Some.ensures.found.0 c.args.stack _ mine c.args.guard
@@ -32,12 +32,12 @@ returns-in-Err c =
     }
 
 refused : (c : goal.In-Err) → Does (desk_of c.stage.inside.hand) (At c.args.name (call.All c.args.stack c.args.guard)) (reply.Refused NoCell)
-    (record c.stage.inside.hand { world = c.pour_at.new.world; stacks = c.make_room.new.self })
+    (record c.stage.inside.hand { world = c.list_step_at.new.world; stacks = c.make_room.new.self })
 refused c =
     let h = c.stage.inside.hand in
     let mine = rw c.make_room.ensures.kept at c.in-Some-get.ensures in
     let its = stack-entries h c.stage.invariant c.args.stack.0 _ mine in
-    let full = c.in-Err.ensures.all its.0 its.1.list in
+    let full = c.in-Err.ensures.done.1 its.0 its.1.list in
     let world = full.2 in
     does (desk_of h) _ _ (goes (cc (world)) c.stage.invariant.sound c.stage.invariant.guards)
     (acts-pour_refused h c.stage.invariant c.is_whole.ensures c.args.name _ c.in-Some.ensures.found.0 c.args.stack _ mine c.args.guard
@@ -48,14 +48,14 @@ invariant_of-stage-in-Err c = (refused c).0
 
 poured : (c : goal.After-give-name) → Does (desk_of c.stage.inside.hand) (At c.args.name (call.All c.args.stack c.args.guard))
     (reply.Stack (record { 0 = c.give-name.result }))
-    (record c.stage.inside.hand { world = c.pour_at.new.world; stacks = c.give-name.new.self })
+    (record c.stage.inside.hand { world = c.list_step_at.new.world; stacks = c.give-name.new.self })
 poured c =
     let h = c.stage.inside.hand in
     let mine = rw c.make_room.ensures.kept at c.in-Some-get.ensures in
     let its = stack-entries h c.stage.invariant c.args.stack.0 _ mine in
-    let made = c.in-Ok.ensures.all its.0 its.1.list in
+    let made = c.in-Ok.ensures.done.1 its.0 its.1.list in
     acts-poured h c.stage.invariant c.is_whole.ensures c.args.name _ c.in-Some.ensures.found.0 c.args.stack _ mine c.args.guard c.in-Some.ensures.valid
-    c.pour_at.new.world c.give-name.new.self.entries _ (record { 0 = c.give-name.result }) made.0 made.1 c.in-Ok.ensures.home
+    c.list_step_at.new.world c.give-name.new.self.entries _ (record { 0 = c.give-name.result }) made.0 made.1 c.in-Ok.ensures.done.0
     (rw c.make_room.ensures.kept at c.give-name.ensures.given) (c.give-name.ensures.name ∙ ap length c.make_room.ensures.kept)
 
 pub invariant_of-stage-in-Ok : goal.invariant_of-stage-in-Ok
