@@ -1,8 +1,11 @@
-use Rattle.sdd_script.proofs.Words.{sym, At, desk_of, Does, here}
+use Rattle.sdd_script.proofs.Words.{sym, At, desk_of, Does, here, nobody}
 use Rattle.sdd_script_text.specs.declared.call.Action.TheVariants as call
 use Rattle.sdd_script_text.specs.declared.answer.Reply.TheVariants as reply
 use Rattle.sdd_script.proofs.CellActs.{acts-cell_closed, held-within}
 use Rattle.sdd_script.proofs.commands.cells.close_cell.Goals as goal
+
+pub returns-in_default : goal.returns-in_default
+returns-in_default c = record { acts = rw (← c.stage.view_is) (nobody c.stage.inside.hand c.args.name _ c.in_default.ensures (λ valid. valid.0)) }
 
 pub date_if_waiting-requires : goal.date_if_waiting-requires
 date_if_waiting-requires c =

@@ -1,6 +1,9 @@
-use Rattle.sdd_script.proofs.Words.{refl, sym, ap, is_some, desk_of, attends, here, still}
+use Rattle.sdd_script.proofs.Words.{refl, sym, ap, is_some, desk_of, attends, here, still, nobody}
 use Rattle.sdd_script.proofs.CellActs.{is-cell}
 use Rattle.sdd_script.proofs.commands.cells.tag.Goals as goal
+
+pub returns-in_default : goal.returns-in_default
+returns-in_default c = record { acts = rw (← c.stage.view_is) (nobody c.stage.inside.hand c.args.name _ c.in_default.ensures (λ valid. valid.0)) }
 
 pub returns : goal.returns
 returns c =

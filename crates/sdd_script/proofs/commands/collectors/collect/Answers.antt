@@ -3,6 +3,9 @@ use Rattle.sdd_script_text.specs.declared.call.Action.TheVariants as call
 use Rattle.sdd_script.proofs.CollectorActs.{acts-collected, no-collector, owner-dated}
 use Rattle.sdd_script.proofs.commands.collectors.collect.Goals as goal
 
+pub returns-in_default : goal.returns-in_default
+returns-in_default c = record { acts = rw (← c.stage.view_is) (invalid _ _ _ (λ valid. c.in_default.ensures.valid valid.0)) }
+
 pub returns-in_default-get : goal.returns-in_default-get
 returns-in_default-get c = record {
   acts = rw (← c.stage.view_is) (invalid (desk_of c.stage.inside.hand) _ _

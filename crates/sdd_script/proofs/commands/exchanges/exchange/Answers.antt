@@ -1,9 +1,12 @@
-use Rattle.sdd_script.proofs.Words.{◌≡◌, ℕ, List, None, Option, IsSome, slice_index_or, refl, sym, ◌∙◌, subst, IfSome, At, cell_kind, desk_of, Does, goes, still-as, under}
+use Rattle.sdd_script.proofs.Words.{◌≡◌, ℕ, List, None, Option, IsSome, slice_index_or, refl, sym, ◌∙◌, subst, IfSome, At, cell_kind, desk_of, Does, goes, still-as, under, invalid}
 use Rattle.sdd_script_text.specs.declared.call.Action.TheVariants as call
 use Rattle.sdd_script_text.specs.declared.answer.Reply.TheVariants as reply
 use Rattle.sdd_script.proofs.CellActs.{named-home}
 use Rattle.sdd_script.proofs.ExchangeActs.{room-kept, can-put-back, same-back, compares, slot-compared, compared-stays, seen-as, seen-named, acts-exchanged, differs}
 use Rattle.sdd_script.proofs.commands.exchanges.exchange.Goals as goal
+
+pub returns-in_default : goal.returns-in_default
+returns-in_default c = record { acts = rw (← c.stage.view_is) (invalid _ _ _ (λ valid. c.in_default.ensures.valid valid.0)) }
 
 pub exchange_at-requires-clause-stays : goal.exchange_at-requires-clause-stays
 exchange_at-requires-clause-stays c =

@@ -1,7 +1,10 @@
-use Rattle.sdd_script.proofs.Words.{sym, At, desk_of, given_back, Does, here}
+use Rattle.sdd_script.proofs.Words.{sym, At, desk_of, given_back, Does, here, nobody}
 use Rattle.sdd_script_text.specs.declared.call.Action.TheVariants as call
 use Rattle.sdd_script.proofs.ExchangeActs.{acts-taken}
 use Rattle.sdd_script.proofs.commands.exchanges.into_owner.Goals as goal
+
+pub returns-in_default : goal.returns-in_default
+returns-in_default c = record { acts = rw (← c.stage.view_is) (nobody c.stage.inside.hand c.args.name _ c.in_default.ensures (λ valid. valid.0)) }
 
 spent : (c : goal.After-told_back) → Does (desk_of c.stage.inside.hand) (At c.args.name (call.Into c.args.cell)) (given_back c.give_filling-name.result)
     (record c.stage.inside.hand { world = c.cell_step_at-held.new.world; owners = c.give_filling-name.new.owners; cells = c.take.new.self })

@@ -1,9 +1,12 @@
-use Rattle.sdd_script.proofs.Words.{refl, sym, At, desk_of, Does, here}
+use Rattle.sdd_script.proofs.Words.{refl, sym, At, desk_of, Does, here, nobody}
 use Rattle.sdd_script_text.specs.declared.call.Action.TheVariants as call
 use Rattle.sdd_script_text.specs.declared.answer.Reply.TheVariants as reply
 use Rattle.sdd_script.proofs.CellActs.{named-home}
 use Rattle.sdd_script.proofs.ExchangeActs.{acts-swapped, room-kept}
 use Rattle.sdd_script.proofs.commands.exchanges.swap.Goals as goal
+
+pub returns-in_default : goal.returns-in_default
+returns-in_default c = record { acts = rw (← c.stage.view_is) (nobody c.stage.inside.hand c.args.name _ c.in_default.ensures (λ valid. valid.0)) }
 
 pub cell_step_at-old-requires-clause-asked : goal.cell_step_at-old-requires-clause-asked
 cell_step_at-old-requires-clause-asked c =

@@ -1,7 +1,10 @@
-use Rattle.sdd_script.proofs.Words.{ap, is_some, refl, map_push, shared_slot, slot_of, At, desk_of, owner_holding, Does, attends, here, leaves, next, sits, starts, still, named as named-as, owned-apart, owner-outside, shared-leaves}
+use Rattle.sdd_script.proofs.Words.{ap, is_some, refl, map_push, shared_slot, slot_of, At, desk_of, owner_holding, Does, attends, here, leaves, next, sits, starts, still, named as named-as, owned-apart, owner-outside, shared-leaves, nobody}
 use Rattle.sdd_script_text.specs.declared.call.Action.TheVariants as call
 use Rattle.sdd_script_text.specs.declared.answer.Reply.TheVariants as reply
 use Rattle.sdd_script.proofs.commands.owners.clone_owner.Goals as goal
+
+pub returns-in_default : goal.returns-in_default
+returns-in_default c = record { acts = rw (← c.stage.view_is) (nobody c.stage.inside.hand c.args.name _ c.in_default.ensures (λ valid. valid.0)) }
 
 cloned : (c : goal.After-give-name) → Does (desk_of c.stage.inside.hand) (At c.args.name (call.Clone c.args.owner))
     (reply.Owner (record { 0 = c.give-name.result })) (record c.stage.inside.hand { world = c.item_step_at.new.world; owners = c.give-name.new.self })

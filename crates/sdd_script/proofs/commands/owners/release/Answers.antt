@@ -1,4 +1,4 @@
-use Rattle.sdd_script.proofs.Words.{◌≡◌, ℕ, Bool, Option, None, Some, IsTrue, ◌↔◌, if◌then◌else◌, ap, is_some, refl, slice_index_or, slice_set, map-set, Vec, IsSharedBy, owner_given, World, standing_at, shared_slot, index_of, OwnerName, PlaceName, At, Val, AnyOwner, Share, NamedParticipant, Environment, desk_of, owner_holding, Does, Here, attends, here, leaves, place-is, sits, named as named-as, released-leaves}
+use Rattle.sdd_script.proofs.Words.{◌≡◌, ℕ, Bool, Option, None, Some, IsTrue, ◌↔◌, if◌then◌else◌, ap, is_some, refl, slice_index_or, slice_set, map-set, Vec, IsSharedBy, owner_given, World, standing_at, shared_slot, index_of, OwnerName, PlaceName, At, Val, AnyOwner, Share, NamedParticipant, Environment, desk_of, owner_holding, Does, Here, attends, here, leaves, place-is, sits, named as named-as, released-leaves, nobody}
 use Rattle.sdd_space.specs.declared.shared.Shared.{Shared}
 use Rattle.std.specs.Vec.{with_item}
 use Rattle.sdd_participants.specs.declared.standing.Standing.TheVariants as standing
@@ -7,6 +7,9 @@ use Rattle.sdd_script_text.specs.declared.call.Action.TheVariants as call
 use Rattle.sdd_script_text.specs.declared.answer.Reply.TheVariants as reply
 use Rattle.sdd_script.proofs.commands.owners.release.Goals.{then-was_last, else-was_last}
 use Rattle.sdd_script.proofs.commands.owners.release.Goals as goal
+
+pub returns-in_default : goal.returns-in_default
+returns-in_default c = record { acts = rw (← c.stage.view_is) (nobody c.stage.inside.hand c.args.name _ c.in_default.ensures (λ valid. valid.0)) }
 
 -- whether it was the last or not
 released : {h : Environment} (name : PlaceName) {a : NamedParticipant} (at : Here h name.0 a) (o : OwnerName) (x : Shared Val) (k : ℕ) (b : Bool)

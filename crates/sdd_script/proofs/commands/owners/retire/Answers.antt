@@ -1,8 +1,11 @@
-use Rattle.sdd_script.proofs.Words.{ap, is_some, refl, map-set, sole_slot, At, desk_of, owner_holding, Does, attends, here, leaves, place-is, sits, named as named-as, retired-leaves}
+use Rattle.sdd_script.proofs.Words.{ap, is_some, refl, map-set, sole_slot, At, desk_of, owner_holding, Does, attends, here, leaves, place-is, sits, named as named-as, retired-leaves, nobody}
 use Rattle.std.specs.Vec.{with_item}
 use Rattle.sdd_script_text.specs.declared.call.Action.TheVariants as call
 use Rattle.sdd_script_text.specs.declared.answer.Reply.TheVariants as reply
 use Rattle.sdd_script.proofs.commands.owners.retire.Goals as goal
+
+pub returns-in_default : goal.returns-in_default
+returns-in_default c = record { acts = rw (← c.stage.view_is) (nobody c.stage.inside.hand c.args.name _ c.in_default.ensures (λ valid. valid.0)) }
 
 retired : (c : goal.After-stage-1) → Does (desk_of c.stage.inside.hand) (At c.args.name (call.Retire c.args.owner)) reply.Done
     (record c.stage.inside.hand {

@@ -1,7 +1,10 @@
-use Rattle.sdd_script.proofs.Words.{◌≡◌, sym, arith, At, owner_holding, desk_of, Does, goes, here, restored, still-as}
+use Rattle.sdd_script.proofs.Words.{◌≡◌, sym, arith, At, owner_holding, desk_of, Does, goes, here, restored, still-as, nobody}
 use Rattle.sdd_script_text.specs.declared.call.Action.TheVariants as call
 use Rattle.sdd_script.proofs.RawActs.{acts-dropped, drop-refused}
 use Rattle.sdd_script.proofs.commands.raw.drop_owner.Goals as goal
+
+pub returns-in_default : goal.returns-in_default
+returns-in_default c = record { acts = rw (← c.stage.view_is) (nobody c.stage.inside.hand c.args.name _ c.in_default.ensures (λ valid. valid.0)) }
 
 went : (c : goal.After-drop-waited-2) → Does (desk_of c.stage.inside.hand) (At c.args.name (call.Drop c.args.owner)) c.in-Ok.reply
     (record c.stage.inside.hand { world = c.in_place_step_at.new.world; owners = c.take.new.self; dates = c.date_new.new.dates })

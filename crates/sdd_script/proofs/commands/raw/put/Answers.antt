@@ -1,9 +1,12 @@
-use Rattle.sdd_script.proofs.Words.{◌≡◌, None, refl, sym, false≢true, length-set, At, at-default, inside, invalid, owner_holding, desk_of, Does, goes, here, restored, still-as}
+use Rattle.sdd_script.proofs.Words.{◌≡◌, None, refl, sym, false≢true, length-set, At, at-default, inside, invalid, owner_holding, desk_of, Does, goes, here, restored, still-as, nobody}
 use Rattle.sdd_script_text.specs.declared.call.Action.TheVariants as call
 use Rattle.sdd_script_text.specs.declared.answer.Reply.TheVariants as reply
 use Rattle.sdd_script_model.proofs.Entry.{is-there}
 use Rattle.sdd_script.proofs.RawActs.{acts-put, one-held, owns-none, put-refused, same-value}
 use Rattle.sdd_script.proofs.commands.raw.put.Goals as goal
+
+pub returns-in_default : goal.returns-in_default
+returns-in_default c = record { acts = rw (← c.stage.view_is) (nobody c.stage.inside.hand c.args.name _ c.in_default.ensures (λ valid. valid.0)) }
 
 pub returns-then-not-is_number : goal.returns-then-not-is_number
 returns-then-not-is_number c =

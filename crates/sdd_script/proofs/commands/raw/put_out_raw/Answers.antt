@@ -1,9 +1,12 @@
-use Rattle.sdd_script.proofs.Words.{◌≡◌, ℕ, None, Some, IsSome, is_some, slice_index_or, refl, sym, ap, ◌∙◌, map-set, standing_at, is_out, sole_slot, item_in, At, Environment, owner_holding, desk_of, IsTied, Does, attends, here, leaves, sits, Owned, name-some, named as named-as, off-standing, raw-leaves}
+use Rattle.sdd_script.proofs.Words.{◌≡◌, ℕ, None, Some, IsSome, is_some, slice_index_or, refl, sym, ap, ◌∙◌, map-set, standing_at, is_out, sole_slot, item_in, At, Environment, owner_holding, desk_of, IsTied, Does, attends, here, leaves, sits, Owned, name-some, named as named-as, off-standing, raw-leaves, nobody}
 use Rattle.sdd_script_model.specs.Sound.{named}
 use Rattle.sdd_participants.specs.declared.standing.Standing.TheVariants.{Shared}
 use Rattle.sdd_script_text.specs.declared.call.Action.TheVariants as call
 use Rattle.sdd_script_text.specs.declared.answer.Reply.TheVariants as reply
 use Rattle.sdd_script.proofs.commands.raw.put_out_raw.Goals as goal
+
+pub returns-in_default : goal.returns-in_default
+returns-in_default c = record { acts = rw (← c.stage.view_is) (nobody c.stage.inside.hand c.args.name _ c.in_default.ensures (λ valid. valid.0)) }
 
 -- the item has a name
 has-name : (h : Environment) → IsTied h → (k s : ℕ) → s ≡ k → standing_at h.world k ≡ Some Owned → IsSome (slice_index_or h.names.items s None)

@@ -1,8 +1,11 @@
-use Rattle.sdd_script.proofs.Words.{slice_index_or, ap, refl, ◌∙◌, map_push, At, owner_holding, desk_of, Does, attends, here, leaves, next, sits, back-leaves}
+use Rattle.sdd_script.proofs.Words.{slice_index_or, ap, refl, ◌∙◌, map_push, At, owner_holding, desk_of, Does, attends, here, leaves, next, sits, back-leaves, nobody}
 use Rattle.sdd_script_text.specs.declared.call.Action.TheVariants as call
 use Rattle.sdd_script_text.specs.declared.answer.Reply.TheVariants as reply
 use Rattle.sdd_script.proofs.RawActs.{there-from}
 use Rattle.sdd_script.proofs.commands.raw.take_back_raw.Goals as goal
+
+pub returns-in_default : goal.returns-in_default
+returns-in_default c = record { acts = rw (← c.stage.view_is) (nobody c.stage.inside.hand c.args.name _ c.in_default.ensures (λ valid. valid.0)) }
 
 back : (c : goal.After-give-name) → Does (desk_of c.stage.inside.hand) (At c.args.name (call.Unraw c.args.item))
     (reply.Owner (record { 0 = c.give-name.result })) (record c.stage.inside.hand { world = c.raw_step_at.new.world; owners = c.give-name.new.self })
