@@ -7,7 +7,10 @@ use crate::belongings::{Belongings, index_of};
 use crate::epochs::{Epochs, Scan};
 use crate::picture::{Event, Fate, GuardPhase, Picture};
 use sdd_core::Epoch;
-use sdd_script_text::{Action, Answer, Call, GuardName, JobName, OwnerName, Reply, Value};
+use sdd_script_text::{
+    Action, Answer, Call, CellAction, CollectorAction, GuardAction, GuardName, HeldAction,
+    ItemAction, JobName, OwnerName, RawAction, Reply, Value,
+};
 use std::alloc::{AllocError, Global};
 
 /// How many epochs are told apart.
@@ -70,8 +73,6 @@ impl Follower {
             Call::At(place, action) => {
                 let participant = place.0 as usize;
                 self.acts(participant, action, &answer.reply)?;
-                self.acts_on_items(participant, action, &answer.reply)?;
-                self.acts_on_cells(participant, action, &answer.reply)?;
                 self.reclaims(participant, answer)
             }
         }
@@ -82,7 +83,7 @@ impl Follower {
         self.note(Event::Registered { name })
     }
 
-    /// What a participant does with guards and jobs, and its end, where it was not refused.
+    /// What a participant does, where it was not refused.
     fn acts(
         &mut self,
         participant: usize,
@@ -91,14 +92,35 @@ impl Follower {
     ) -> Result<(), AllocError> {
         match (action, reply) {
             (Action::Open, Reply::Guard(guard, epoch)) => self.opens(participant, *guard, *epoch),
-            (Action::Close(guard), Reply::Done) => self.closes(participant, guard),
+            (Action::Guard(action), _) => self.acts_on_guards(participant, action, reply),
+            (Action::Item(action), _) => self.acts_on_items(participant, action, reply),
+            (Action::Raw(action), _) => self.acts_in_place(participant, action, reply),
+            (
+                Action::Collector(CollectorAction::Collect(owner, _, _)),
+                Reply::Done | Reply::Truth(_),
+            ) => self.gives_up(participant, owner),
+            (Action::Cell(action), _) => self.acts_on_cells(participant, action, reply),
+            (Action::Held(action), _) => self.acts_on_owners_in_cells(action, reply),
             (Action::End, Reply::Done) => self.ends(participant),
-            (Action::Defer(_), Reply::Job(_)) => self.defers(participant),
-            (Action::Set(_), Reply::Done) => {
+            _ => Ok(()),
+        }
+    }
+
+    /// What a participant does with guards and jobs.
+    fn acts_on_guards(
+        &mut self,
+        participant: usize,
+        action: GuardAction,
+        reply: &Reply,
+    ) -> Result<(), AllocError> {
+        match (action, reply) {
+            (GuardAction::Close(guard), Reply::Done) => self.closes(participant, guard),
+            (GuardAction::Defer(_), Reply::Job(_)) => self.defers(participant),
+            (GuardAction::Set(_), Reply::Done) => {
                 self.epochs.set_garbage(participant);
                 Ok(())
             }
-            (Action::Accelerate(_), Reply::Done) => {
+            (GuardAction::Accelerate(_), Reply::Done) => {
                 self.epochs.accelerate(participant);
                 Ok(())
             }
@@ -182,30 +204,42 @@ impl Follower {
     fn acts_on_items(
         &mut self,
         participant: usize,
-        action: Action,
+        action: ItemAction,
         reply: &Reply,
     ) -> Result<(), AllocError> {
         match (action, reply) {
-            (Action::Owned(value), Reply::Item(_, item)) => self.makes(item.0, value),
-            (Action::Shared(value), Reply::Item(_, item)) => self.makes(item.0, value),
-            (Action::Retire(owner), Reply::Done) => self.gives_up(participant, owner),
-            (Action::Release(owner), Reply::Truth(_)) => self.gives_up(participant, owner),
-            (Action::Collect(owner, _, _), Reply::Done) => self.gives_up(participant, owner),
-            (Action::Collect(owner, _, _), Reply::Truth(_)) => self.gives_up(participant, owner),
-            (Action::Drop(owner), Reply::Done) => self.drops(participant, owner),
-            (Action::Drop(owner), Reply::Truth(_)) => self.drops(participant, owner),
-            (Action::Clone(owner), Reply::Owner(_)) => {
+            (ItemAction::Owned(value) | ItemAction::Shared(value), Reply::Item(_, item)) => {
+                self.makes(item.0, value)
+            }
+            (ItemAction::Retire(owner), Reply::Done) => self.gives_up(participant, owner),
+            (ItemAction::Release(owner), Reply::Truth(_)) => self.gives_up(participant, owner),
+            (ItemAction::Clone(owner), Reply::Owner(_)) => {
                 let item = self.belongings.of_owner(owner);
                 self.belongings.add_owner(item)
             }
-            (Action::Upgrade(item, _), Reply::Owner(_)) => {
+            (ItemAction::Upgrade(item, _), Reply::Owner(_)) => {
                 self.belongings.add_owner(Some(index_of(item)))
             }
-            (Action::Raw(owner), Reply::Raw(_)) => {
+            _ => Ok(()),
+        }
+    }
+
+    /// What a participant does with items in their place, and with those out as raw.
+    fn acts_in_place(
+        &mut self,
+        participant: usize,
+        action: RawAction,
+        reply: &Reply,
+    ) -> Result<(), AllocError> {
+        match (action, reply) {
+            (RawAction::Drop(owner), Reply::Done | Reply::Truth(_)) => {
+                self.drops(participant, owner)
+            }
+            (RawAction::Raw(owner), Reply::Raw(_)) => {
                 self.belongings.spend(owner);
                 Ok(())
             }
-            (Action::Unraw(item), Reply::Owner(_)) => {
+            (RawAction::Unraw(item), Reply::Owner(_)) => {
                 self.belongings.name_owner(Some(index_of(item)))
             }
             _ => Ok(()),
@@ -263,38 +297,49 @@ impl Follower {
         }
     }
 
-    /// What a participant does with cells, and with the owners in them.
+    /// What a participant does with cells.
     fn acts_on_cells(
         &mut self,
         participant: usize,
-        action: Action,
+        action: CellAction,
         reply: &Reply,
     ) -> Result<(), AllocError> {
         match (action, reply) {
-            (Action::CellOwned(owner) | Action::CellShared(owner), Reply::Cell(_)) => {
+            (CellAction::Owned(owner) | CellAction::Shared(owner), Reply::Cell(_)) => {
                 let item = self.belongings.spend_if(owner);
                 self.belongings.make_cell(item)
             }
-            (Action::Swap(cell, owner, _), Reply::Swapped(out, _))
-            | (Action::Exchange(cell, _, _, _, owner, _), Reply::Exchanged(out)) => {
-                let item = self.belongings.spend_if(owner);
-                let before = self.belongings.put_in_cell(cell, item);
-                self.takes_out(before, out.is_some())
-            }
-            (Action::Copy(cell, _), Reply::Cell(_)) => self.belongings.copy_cell(cell),
-            (Action::Share(cell, _), Reply::Owner(_)) => {
-                let item = self.belongings.in_cell(cell);
-                self.belongings.add_owner(item)
-            }
-            (Action::Into(cell), Reply::Owner(_)) => {
-                let before = self.belongings.put_in_cell(cell, None);
-                self.takes_out(before, true)
-            }
-            (Action::CloseCell(cell), Reply::Done) => {
+            (CellAction::Close(cell), Reply::Done) => {
                 match self.belongings.put_in_cell(cell, None) {
                     Some(item) => self.gives_up_item(participant, item),
                     None => Ok(()),
                 }
+            }
+            _ => Ok(()),
+        }
+    }
+
+    /// What is done with the owners in cells.
+    fn acts_on_owners_in_cells(
+        &mut self,
+        action: HeldAction,
+        reply: &Reply,
+    ) -> Result<(), AllocError> {
+        match (action, reply) {
+            (HeldAction::Swap(cell, owner, _), Reply::Swapped(out, _))
+            | (HeldAction::Exchange(cell, _, _, _, owner, _), Reply::Exchanged(out)) => {
+                let item = self.belongings.spend_if(owner);
+                let before = self.belongings.put_in_cell(cell, item);
+                self.takes_out(before, out.is_some())
+            }
+            (HeldAction::Copy(cell, _), Reply::Cell(_)) => self.belongings.copy_cell(cell),
+            (HeldAction::Share(cell, _), Reply::Owner(_)) => {
+                let item = self.belongings.in_cell(cell);
+                self.belongings.add_owner(item)
+            }
+            (HeldAction::Into(cell), Reply::Owner(_)) => {
+                let before = self.belongings.put_in_cell(cell, None);
+                self.takes_out(before, true)
             }
             _ => Ok(()),
         }

@@ -1,7 +1,7 @@
 -- What each action on a bag leaves in hand: it is sound, and it is what the call means
 use Rattle.sdd_script.proofs.Words.{◌≡◌, ◌+◌, ℕ, Bool, true, false, List, [], ◌∷◌, ◌++◌, Option, Some, None, is_some, length, slice_index_or, slice_set, refl, sym, ap, ◌∙◌, subst, Vec, IsNonDecreasing, IsPermutation, set-get_or, set-set, Refused, NoCell, World, IsPlaceOf, IsWhole, Entry, HasOneAtMost, HasSameCells, IsBag, IsOfCells, ClosesBag, index_of, GuardName, PlaceName, Reply, Call, At, holds_nothing, StandsOn, LosesNames, BeginsLine, NumberBag, ScriptState, bag_at, bag_length, opening_at, place_of, Acts, HasOpen, IsParticipant, IsUnderGuard, Val, storage_in, bag_closed-leaves, NamedParticipant, attending, Environment, IsTied, desk_of, Does, does, goes, still, AreFull, BeginsBag, IsBagName, PushesInside, PutsNumber, RefusesStorage, TakesAll, TakesNumber, bag_begun-leaves, length-append, overflow_of, primary_of, values_of, with_bag_at}
 use Rattle.sdd_script_text.specs.declared.name.BagName.{BagName}
-use Rattle.sdd_script_text.specs.declared.call.Action.TheVariants as call
+use Rattle.sdd_script_text.specs.Actions as call
 use Rattle.sdd_script_text.specs.declared.answer.Reply.TheVariants as reply
 use Rattle.sdd_script_model.proofs.BagLeaving.{drain-leaves, inside-leaves, put-leaves, put-long, take-leaves}
 use Rattle.sdd_interpreter.proofs.Acts as acts

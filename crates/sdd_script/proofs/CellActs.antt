@@ -2,7 +2,7 @@
 use Rattle.sdd_script.proofs.Words.{◌≡◌, ℕ, Bool, true, false, if◌then◌else◌, [], ◌∷◌, ◌++◌, ◌<◌, Option, Some, None, is_some, map, length, slice_index_or, slice_set, refl, ap, ◌∙◌, IsTrue, ◌↔◌, IfSome, option_map, Vec, map-set, map_push, Tag, IsEmptyAt, entry_at, CellContents, OwnerOrCell, with_cell, cell_closed, held_in, World, index_of, PlaceName, OwnerName, CellName, At, Val, OwnerKind, AnyOwner, AnyCell, CellOwner, NamedParticipant, Environment, ScriptState, cell_of, in_world, slot_of, Meets, slot_put, IsCell, FitsIn, Fills, named_owner, dated_if_waiting, owner_holding, cell_holding, cell_number, filling_holding, desk_of, IsTied, Does, Here, attends, does, goes, leaves, place-is, sits, still, IsPut, after_celled, arith, cell-there, cell_as, cell_closed-leaves, celled-leaves, common_steps, dates_spilled, filling_kind, held-dated, holding_around, making_cell, named as named-as, tagged-leaves}
 use Rattle.sdd_core.specs.declared.tag.Tag.TheVariants.{None as no_tag}
 use Rattle.sdd_space.specs.OwnerOrCell as holding
-use Rattle.sdd_script_text.specs.declared.call.Action.TheVariants as call
+use Rattle.sdd_script_text.specs.Actions as call
 use Rattle.sdd_script_text.specs.declared.answer.Reply.TheVariants as reply
 use Rattle.sdd_script_model.specs.declared.owner_kind.OwnerKind.TheVariants as ownership
 use Rattle.sdd_interpreter.specs.declared.holding.AnyCell.TheVariants.{Sole, Share}

@@ -1,7 +1,7 @@
 -- What each action of a collector leaves in hand: it is sound, and it is what the call means
 use Rattle.sdd_script.proofs.Words.{◌≡◌, ℕ, ◌<◌, Bool, List, [], Option, Some, None, is_some, map, length, slice_index_or, slice_set, refl, sym, ap, ◌∙◌, subst, IsPermutation, IsNonDecreasingBy, option_map, Vec, map-set, entry_at, PrivateCollector, IsNullCell, held_in, IsWhole, World, AnyGuardOpen, index_of, PlaceName, GuardName, OwnerName, ItemName, At, Reply, Val, holdings_of, ScriptState, collector_of, holding_at, in_world, slot_of, Answers, HasOpen, IsOwnerName, Meets, names_in, AnyOwner, Sole, Share, owner_holding, NamedParticipant, dated_if_waiting, Environment, IsTied, desk_of, LeavesSound, number-is, collectors-spent, Does, Goes, Here, attends, goes, leaves, place-is, sits, CollectorName, Collects, IsCollector, after_given, arith, collector_closed, common_steps, named as named-as, owner-inside, slots_waiting_for, sound-given}
 use Rattle.sdd_space.specs.Collector as collector
-use Rattle.sdd_script_text.specs.declared.call.Action.TheVariants as call
+use Rattle.sdd_script_text.specs.Actions as call
 use Rattle.sdd_script_text.specs.declared.answer.Reply.TheVariants as reply
 use Rattle.sdd_script_model.specs.ScriptState.{without_collector}
 use Rattle.sdd_script.proofs.StackActs.{AreDatedNow, AreTold, dated-within}

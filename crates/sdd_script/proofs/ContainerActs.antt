@@ -1,7 +1,7 @@
 -- What each line that is told of a container's entries means
 use Rattle.sdd_script.proofs.Words.{◌≡◌, ℕ, List, Option, Some, None, length, map, slice_index_or, refl, ap, inl, inr, subst, ◌∙◌, reader_at, ReaderId, reader_of, Entry, first_value, left, cells_in, cell_in, shown_of, GuardName, ListName, PlaceName, At, Reply, IsContainer, AreNumbers, Acts, HasOpen, IsListName, Val, Number, list_cell, GuardsIn, IsTied, desk_of, NamedGuard, AnyList, Environment, still, no-queue, queue-home, no-stack, stack-home, same-list, IsListCell, HasEntries, IsGuardIn, IsListOf, IsOfNumbers, NamesNone, StandsFor, TellsNumber, content}
 use Rattle.sdd_script_text.specs.declared.name.ListName.TheVariants as list
-use Rattle.sdd_script_text.specs.declared.call.Action.TheVariants as call
+use Rattle.sdd_script_text.specs.Actions as call
 use Rattle.sdd_script_text.specs.declared.answer.Reply.TheVariants as reply
 use Rattle.sdd_interpreter.specs.declared.holding.AnyList.TheVariants as any
 use Rattle.sdd_script.proofs.QueueActs.{is-queue, queue-entries}

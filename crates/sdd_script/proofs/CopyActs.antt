@@ -2,7 +2,7 @@
 use Rattle.sdd_script.proofs.Words.{◌≡◌, ◌<◌, ◌≤◌, inl, inr, ℕ, Bool, true, false, List, [], ◌∷◌, ◌++◌, Option, Some, None, is_some, map, length, slice_index, slice_index_or, if◌then◌else◌, refl, sym, ap, ◌∙◌, subst, arith, Err, Ok, option_map, Vec, get_or_past, length-map, Refused, is_waiting, reader_at, ReaderId, OwnerOrCell, World, IsPlaceOf, standing_at, IsWhole, Entry, AreOfCells, IsQueue, cells_in, queue_closed, cell_in, home_in, shown_of, Queue, Stack, index_of, GuardName, PlaceName, QueueName, StackName, At, Body, LosesNames, entry_slots, AreNumbers, Begins, IsNamedQueue, BeginsLine, ScriptState, opening_at, place_of, HasOpen, IsStack, stack_closed, Val, link_of, newest_holding, oldest_holding, stack_holding, NamedParticipant, attending, Environment, IsTied, desk_of, Does, does, goes, still, both-long, queues-more, stacks-more, ArePlain, MakesQueueOf, MakesStackOf, cases_lt, ext_get_or, its-numbers, names_from, not, numbers as stack_numbers, ◌&&◌}
 use Rattle.sdd_space.specs.OwnerOrCell as holding
 use Rattle.sdd_script_text.specs.declared.name.ListName.TheVariants as list
-use Rattle.sdd_script_text.specs.declared.call.Action.TheVariants as call
+use Rattle.sdd_script_text.specs.Actions as call
 use Rattle.sdd_script_text.specs.declared.answer.Reply.TheVariants as reply
 use Rattle.sdd_script_model.proofs.Copying.{first-numbers, queue-copied, queue-few, queue-holds, queue-inside, queue-long, queue-placed, queue-plain, queue-refused, shown-numbers, stack-copied, stack-few, stack-holds, stack-inside, stack-long, stack-placed, stack-plain, stack-refused}
 use Rattle.sdd_script_model.proofs.Filling.{AreAllNumbers}

@@ -8,7 +8,7 @@ use Rattle.sdd_script_model.specs.Sound.{named}
 use Rattle.sdd_world.proofs.Sweeping.{all-uncounted}
 use Rattle.sdd_world.specs.Closing.{AllGo, cell_held, held_by}
 use Rattle.sdd_participants.specs.EpochState.{nobody}
-use Rattle.sdd_script_text.specs.declared.call.Action.TheVariants as call
+use Rattle.sdd_script_text.specs.Actions as call
 use Rattle.sdd_space.specs.Collector as collector
 use Rattle.sdd_script.proofs.Ranks.{link-falls, rank, value-falls}
 use Rattle.sdd_space.specs.Owned as owned

@@ -1,7 +1,7 @@
 -- What each action that takes an owner out of a cell, or puts one into it, leaves in hand: it is sound, and it is what the call means
 use Rattle.sdd_script.proofs.Words.{false, get_or-map, ◌≡◌, ◌≢◌, ℕ, ◌+◌, ◌^◌, ◌<◌, List, Option, Some, None, IsSome, is_some, map, length, slice_index_or, slice_set, refl, sym, ap, ◌∙◌, subst, IfSome, option_map, Vec, map-set, set-get_or, set-set, Tag, entry_at, CellContents, IsSharedBy, OwnerOrCell, with_cell, with_standing, without_cell, World, standing_at, index_of, PlaceName, GuardName, OwnerName, ItemName, CellName, Call, At, Reply, Val, AnyOwner, OwnerKind, AnyCell, CellOwner, NamedParticipant, NamedGuard, Environment, ScriptState, holding_at, slot_of, Meets, HasOpen, slot_put, IsCell, item_held, named_owner, Fills, FitsIn, given_back, owner_holding, cell_holding, cell_kind, cell_number, filling_holding, desk_of, held-named, Does, Here, attends, leaves, sits, stays-here, AtomicShared, CanCompare, CanCompareAt, CanPutBack, CannotGo, FitsCell, IsGiven, IsGivenBack, IsNameOf, IsShareFull, IsSharedCell, MatchOption, MayShare, arith, common_steps, held_as, named as named-as, owners_back, owners_put, owners_taken, put-fits, shared_once_more, slot_compared, swapped-leaves, taken-leaves}
 use Rattle.sdd_participants.specs.declared.standing.Standing.TheVariants as standing
-use Rattle.sdd_script_text.specs.declared.call.Action.TheVariants as call
+use Rattle.sdd_script_text.specs.Actions as call
 use Rattle.sdd_script_text.specs.declared.answer.Reply.TheVariants as reply
 use Rattle.sdd_interpreter.specs.declared.holding.AnyCell.TheVariants as cell
 use Rattle.sdd_script.proofs.CellActs.{is-cell, slot-of-put}

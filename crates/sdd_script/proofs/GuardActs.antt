@@ -4,7 +4,7 @@ use Rattle.sdd_rights.specs.Units as token
 use Rattle.sdd_participants.specs.EpochState as time
 use Rattle.sdd_space.specs.WorldStep.WorldStep.{opens}
 use Rattle.sdd_world.specs.declared.world.Place.{Place}
-use Rattle.sdd_script_text.specs.declared.call.Action.TheVariants as call
+use Rattle.sdd_script_text.specs.Actions as call
 use Rattle.sdd_script_text.specs.declared.answer.Reply.TheVariants as reply
 use Rattle.sdd_script_model.proofs.Dates.{dated-same}
 use Rattle.sdd_script.proofs.StackActs.{AreDatedNow, AreTold}

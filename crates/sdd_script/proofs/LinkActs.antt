@@ -4,7 +4,7 @@ use Rattle.sdd_script_model.specs.Sound.{named}
 use Rattle.sdd_space.specs.declared.shared.Shared.{Shared}
 use Rattle.sdd_core.specs.declared.tag.Tag.TheVariants.{None as no_tag}
 use Rattle.sdd_space.specs.Shared.{slot_of}
-use Rattle.sdd_script_text.specs.declared.call.Action.TheVariants as call
+use Rattle.sdd_script_text.specs.Actions as call
 use Rattle.sdd_script_text.specs.declared.answer.Reply.TheVariants as reply
 use Rattle.sdd_script_model.specs.declared.link_change.LinkChange.TheVariants.{Mark, Unmark, Delete}
 use Rattle.sdd_script_model.specs.Link.{retagged}

@@ -1,7 +1,7 @@
 -- What each action on a queue leaves in hand: it is sound, and it is what the call means
 use Rattle.sdd_script.proofs.Words.{◌≡◌, ◌≢◌, ℕ, Bool, List, [], ◌∷◌, ◌++◌, Option, Some, None, is_some, map, length, slice_index_or, slice_set, refl, sym, ap, ◌∙◌, subst, option_map, Vec, length-map, NoCell, IsEmptyAt, World, IsPlaceOf, nulled, IsWhole, Entry, AreOfCells, HasOneAtMost, IsQueue, QueueCells, cells_in, queue_closed, Queue, index_of, PlaceName, QueueName, At, Body, in_world, opening_at, place_of, without_queue, Acts, IsParticipant, IsUnderGuard, IsNamedQueue, Val, link_of, newest_holding, oldest_holding, NamedParticipant, attending, Environment, IsTied, desk_of, Does, still, both-long, newest-cell, oldest-cell, queues-more, queues-spent, IsQueueName, queue-there, queue_begun-leaves, queue_closed-leaves}
 use Rattle.sdd_space.specs.OwnerOrCell as holding
-use Rattle.sdd_script_text.specs.declared.call.Action.TheVariants as call
+use Rattle.sdd_script_text.specs.Actions as call
 use Rattle.sdd_script_text.specs.declared.answer.Reply.TheVariants as reply
 use Rattle.sdd_interpreter.proofs.Acts as acts
 use Rattle.sdd_script.proofs.StackActs.{AreDatedNow, AreTold, dated-within}

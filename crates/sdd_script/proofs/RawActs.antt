@@ -3,7 +3,7 @@ use Rattle.sdd_script.proofs.Words.{◌≡◌, ◌≢◌, ℕ, Bool, true, false
 use Rattle.sdd_space.specs.OwnerOrCell as holding
 use Rattle.sdd_space.specs.Owned as owned
 use Rattle.sdd_space.specs.Shared as shared
-use Rattle.sdd_script_text.specs.declared.call.Action.TheVariants as call
+use Rattle.sdd_script_text.specs.Actions as call
 use Rattle.sdd_script_text.specs.declared.answer.Reply.TheVariants as reply
 use Rattle.sdd_script_model.specs.declared.val.Body.TheVariants as body
 use Rattle.sdd_script.proofs.StackActs.{AreDatedNow, AreTold, dated-within}

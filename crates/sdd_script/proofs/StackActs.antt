@@ -1,7 +1,7 @@
 -- What each action on a stack leaves in hand: it is sound, and it is what the call means
 use Rattle.sdd_script.proofs.Words.{◌≡◌, ◌<◌, inr, ℕ, Bool, false, List, [], ◌∷◌, ◌++◌, Option, Some, None, is_some, map, length, slice_index, slice_index_or, slice_set, if◌then◌else◌, refl, sym, ap, ◌∙◌, subst, arith, option_map, Vec, length-map, NoCell, IsEmptyAt, IsFull, is_waiting, World, IsPlaceOf, standing_at, nulled, IsWhole, Entry, cell_in, home_in, Stack, index_of, PlaceName, GuardName, StackName, At, Body, Begins, ScriptState, in_world, opening_at, place_of, without_stack, Acts, HasOpen, IsParticipant, IsUnderGuard, IsStack, stack_closed, Val, stack_holding, NamedParticipant, attending, Environment, IsTied, desk_of, Does, still, stack-cell, stacks-more, stacks-spent, IsStackName, begun-leaves, date_now, poured, stack_closed-leaves}
 use Rattle.sdd_space.specs.OwnerOrCell as holding
-use Rattle.sdd_script_text.specs.declared.call.Action.TheVariants as call
+use Rattle.sdd_script_text.specs.Actions as call
 use Rattle.sdd_script_text.specs.declared.answer.Reply.TheVariants as reply
 use Rattle.sdd_script_model.proofs.StackPouring.{poured-leaves}
 use Rattle.sdd_interpreter.proofs.Acts as acts

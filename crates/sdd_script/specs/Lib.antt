@@ -5,5 +5,4 @@ pub mod SchedulePlay
 pub mod ScheduleReading
 pub mod Schedule
 pub mod ItemLines
-pub mod GuardLines
 pub mod Leaving

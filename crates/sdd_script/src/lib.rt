@@ -14,7 +14,8 @@ pub use scene::Scene;
 pub use schedules::play_steps;
 pub use sdd_script_model::Val;
 pub use sdd_script_text::{
-    Action, Answer, BagName, Call, CellName, CollectorName, Ended, Fault, GuardName, ItemName,
-    JobName, ListName, Names, Numbers, OwnerName, PlaceName, QueueName, Reader, Reply, Sink,
-    Source, StackName, Value, Writer,
+    Action, Answer, BagAction, BagName, Call, CellAction, CellName, CollectorAction, CollectorName,
+    ContainerAction, Ended, EntryAction, Fault, GuardAction, GuardName, HeldAction, ItemAction,
+    ItemName, JobName, LinkAction, ListName, Names, Numbers, OwnerName, PlaceName, QueueName,
+    RawAction, Reader, Reply, Sink, Source, StackName, Value, Writer,
 };

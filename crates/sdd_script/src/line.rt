@@ -1,14 +1,14 @@
 //! One line of a script.
-ghost use Rattle.std.specs.Prelude.{◌≡◌, ◌≢◌, ◌+◌, ◌^◌, ◌<◌, MatchResult};
+ghost use Rattle.std.specs.Prelude.{◌≡◌, ◌+◌, ◌^◌, ◌<◌, MatchResult};
 ghost use Rattle.sdd_space.specs.ReclaimBound.{GoesInTime};
 ghost use Rattle.sdd_script_model.specs.Val.{holdings_of};
 ghost use Rattle.sdd_script_model.specs.ScriptState.{BeginsLine, later};
-ghost use Rattle.sdd_script_model.specs.Script.{Acts, Answers, LineStep};
+ghost use Rattle.sdd_script_model.specs.Script.{Answers, LineStep};
 
-use crate::commands::{self, collectors, guards, participants};
+use crate::commands::{actions, guards, participants};
 use sdd_core::Refused;
 use sdd_interpreter::Interpreter;
-use sdd_script_text::{Action, Answer, Call, CollectorName, PlaceName, Reply};
+use sdd_script_text::{Action, Answer, Call, PlaceName, Reply};
 
 /// One line. `NoMemory` alone refuses it.
 pub fn step(stage: &mut Interpreter, call: &Call) -> Result<Answer, Refused>
@@ -29,72 +29,37 @@ fn answer_to(stage: &mut Interpreter, call: &Call) -> Result<Answer, Refused>
         (λ refused. (refused ≡ Refused.NoMemory) × (stage.new ≡ stage.old)) }
 {
     match *call {
-        Call::At(name, Action::Open) => Ok(guards::open(stage, name)?),
-        Call::At(name, Action::CloseCollector(collector)) => {
-            Ok(collectors::close_collector(stage, name, collector)?)
-        }
-        _ => {
-            let reply = reply_to(stage, call)?;
+        Call::Register => {
+            let reply = participants::register(stage)?;
             Ok(stage.answer(reply))
         }
-    }
-}
-
-/// The reply to a call that opens no guard and closes no collector.
-fn reply_to(stage: &mut Interpreter, call: &Call) -> Result<Reply, Refused>
-    requires line { BeginsLine stage.old }
-    requires other { (name : PlaceName) → call.now ≢ Call.At name Action.Open }
-    requires no_close { (name : PlaceName) (collector : CollectorName) → call.now ≢ Call.At name (Action.CloseCollector collector) }
-    ensures acts { MatchResult result (λ reply. Acts stage.old call.now reply stage.new)
-        (λ refused. (refused ≡ Refused.NoMemory) × (stage.new ≡ stage.old)) }
-{
-    match *call {
-        Call::Register => participants::register(stage),
-        Call::Tally => Ok(Reply::Tally(stage.world().tally())),
+        Call::Tally => {
+            let tally = stage.world().tally();
+            Ok(stage.answer(Reply::Tally(tally)))
+        }
         Call::At(name, action) => act(stage, name, action),
     }
 }
 
-/// The reply to an action that opens no guard and closes no collector.
-fn act(stage: &mut Interpreter, name: PlaceName, action: Action) -> Result<Reply, Refused>
+/// What an action answers: an opening and a collector's close may name what goes, and no other.
+fn act(stage: &mut Interpreter, name: PlaceName, action: Action) -> Result<Answer, Refused>
     requires line { BeginsLine stage.old }
-    requires other { action ≢ Action.Open }
-    requires no_close { (collector : CollectorName) → action ≢ Action.CloseCollector collector }
-    ensures acts { MatchResult result (λ reply. Acts stage.old (Call.At name action) reply stage.new)
+    ensures answers { MatchResult result (λ answer. Answers stage.old (Call.At name action) answer stage.new)
         (λ refused. (refused ≡ Refused.NoMemory) × (stage.new ≡ stage.old)) }
 {
-    if let Some(reply) = commands::act_on_guard(stage, name, action) {
-        return Ok(reply);
-    }
-    if let Some(reply) = commands::act_on_item(stage, name, action)? {
-        return Ok(reply);
-    }
-    if let Some(reply) = commands::act_on_raw(stage, name, action)? {
-        return Ok(reply);
-    }
-    if let Some(reply) = commands::act_on_cell(stage, name, action)? {
-        return Ok(reply);
-    }
-    if let Some(reply) = commands::act_on_link(stage, name, action)? {
-        return Ok(reply);
-    }
-    if let Some(reply) = commands::act_on_queue(stage, name, action)? {
-        return Ok(reply);
-    }
-    if let Some(reply) = commands::act_on_stack(stage, name, action)? {
-        return Ok(reply);
-    }
-    if let Some(reply) = commands::act_on_list(stage, name, action)? {
-        return Ok(reply);
-    }
-    if let Some(reply) = commands::act_on_copy(stage, name, action)? {
-        return Ok(reply);
-    }
-    if let Some(reply) = commands::act_on_bag(stage, name, action)? {
-        return Ok(reply);
-    }
-    let Some(reply) = commands::act_on_held(stage, name, action)? else {
-        unreachable!()
+    let reply = match action {
+        Action::Open => return Ok(guards::open(stage, name)?),
+        Action::Guard(action) => actions::act_on_guard(stage, name, action),
+        Action::Item(action) => actions::act_on_item(stage, name, action)?,
+        Action::Raw(action) => actions::act_on_raw(stage, name, action)?,
+        Action::Collector(action) => return actions::act_on_collector(stage, name, action),
+        Action::Cell(action) => actions::act_on_cell(stage, name, action)?,
+        Action::Held(action) => actions::act_on_held(stage, name, action)?,
+        Action::Link(action) => actions::act_on_link(stage, name, action)?,
+        Action::Container(action) => actions::act_on_container(stage, name, action)?,
+        Action::Entry(action) => actions::act_on_entry(stage, name, action)?,
+        Action::Bag(action) => actions::act_on_bag(stage, name, action)?,
+        Action::End => participants::end(stage, name),
     };
-    Ok(reply)
+    Ok(stage.answer(reply))
 }

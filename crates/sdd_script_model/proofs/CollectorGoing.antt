@@ -6,7 +6,7 @@ use Rattle.sdd_script_model.proofs.Lemmas.{LeavesSound, at_home-spent, finishes,
 use Rattle.sdd_script_model.proofs.Going.{open-guard}
 use Rattle.sdd_script_model.proofs.StackGoing.{IsDatedWithin, dated-all}
 use Rattle.sdd_script_model.proofs.WaitingFor.{names-waiting, slots_for}
-use Rattle.sdd_script_text.specs.declared.call.Action.TheVariants as call
+use Rattle.sdd_script_text.specs.Actions as call
 use Rattle.sdd_script_text.specs.declared.answer.Reply.TheVariants as reply
 
 -- ---- a collector is closed

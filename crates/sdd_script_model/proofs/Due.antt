@@ -9,7 +9,7 @@ use Rattle.sdd_script_model.proofs.Telling.{line, not-some, tells-calm, tells-co
 use Rattle.sdd_script_model.proofs.Turns.{Turn, turn}
 use Rattle.sdd_participants.specs.EpochState as time
 use Rattle.sdd_script_text.specs.declared.answer.Reply.TheVariants as reply
-use Rattle.sdd_script_text.specs.declared.call.Action.TheVariants as call
+use Rattle.sdd_script_text.specs.Actions as call
 use Rattle.sdd_script_model.proofs.Turns as turns
 
 -- ---- before the first line

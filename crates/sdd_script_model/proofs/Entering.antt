@@ -7,7 +7,7 @@ use Rattle.sdd_script_model.proofs.Turns.{some-is}
 use Rattle.sdd_script_model.proofs.Awaiting.{AwaitsAt, awaits-once, awaits-waits, awaits-young, change-awaits, due-from, due-there, nests-awaits}
 use Rattle.sdd_space.proofs.Own as own
 use Rattle.sdd_script_text.specs.declared.answer.Reply.TheVariants as reply
-use Rattle.sdd_script_text.specs.declared.call.Action.TheVariants as call
+use Rattle.sdd_script_text.specs.Actions as call
 use Rattle.sdd_script_model.specs.ScriptState as desk
 use Rattle.sdd_script_model.proofs.History as history
 

@@ -11,7 +11,7 @@ use Rattle.sdd_script_model.proofs.Telling.{home-is, line, held-on}
 use Rattle.sdd_script_model.proofs.Awaiting.{AwaitsAt}
 use Rattle.sdd_participants.specs.EpochState as time
 use Rattle.sdd_script_text.specs.declared.answer.Reply.TheVariants as reply
-use Rattle.sdd_script_text.specs.declared.call.Action.TheVariants as call
+use Rattle.sdd_script_text.specs.Actions as call
 use Rattle.sdd_script_model.proofs.History as history
 
 -- ---- a close scans, or leaves what waits and who has ended as it is

@@ -6,7 +6,7 @@ use Rattle.sdd_script_model.proofs.Turns.{CalmLine}
 use Rattle.sdd_script_model.proofs.Awaiting.{awaits-taken}
 use Rattle.sdd_participants.specs.EpochState as time
 use Rattle.sdd_script_text.specs.declared.answer.Reply.TheVariants as reply
-use Rattle.sdd_script_text.specs.declared.call.Action.TheVariants as call
+use Rattle.sdd_script_text.specs.Actions as call
 use Rattle.sdd_script_model.specs.ScriptState as desk
 use Rattle.sdd_script_model.proofs.History as history
 

@@ -10,7 +10,7 @@ use Rattle.sdd_script_model.proofs.Calm.{Calmly, calm-accelerated, calm-collecto
 use Rattle.sdd_space.specs.OwnerOrCell as holding
 use Rattle.sdd_space.specs.WorldChanges as steps
 use Rattle.sdd_script_text.specs.declared.name.ListName.TheVariants as list
-use Rattle.sdd_script_text.specs.declared.call.Action.TheVariants as call
+use Rattle.sdd_script_text.specs.Actions as call
 use Rattle.sdd_script_text.specs.declared.answer.Reply.TheVariants as reply
 use Rattle.sdd_script_model.specs.declared.link_change.LinkChange.TheVariants as change
 use Rattle.sdd_script_model.specs.ScriptState as desk

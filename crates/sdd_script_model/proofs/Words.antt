@@ -96,7 +96,7 @@ pub use Rattle.sdd_script_text.proofs.Plays.{reads_all}
 pub use Rattle.sdd_script_text.specs.Script.{lines, most_calls}
 pub use Rattle.sdd_script_text.specs.declared.answer.Answer.{Answer}
 pub use Rattle.sdd_script_text.specs.declared.answer.Reply.{Reply}
-pub use Rattle.sdd_script_text.specs.declared.call.Action.{Action}
+pub use Rattle.sdd_script_text.specs.declared.call.action.Action.{Action}
 pub use Rattle.sdd_script_text.specs.declared.call.Call.{Call}
 pub use Rattle.sdd_script_text.specs.declared.call.Call.TheVariants.{At, Register}
 pub use Rattle.sdd_script_text.specs.declared.call.Value.{Value}

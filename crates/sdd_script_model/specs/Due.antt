@@ -12,7 +12,7 @@ use Rattle.sdd_script_text.specs.declared.name.ItemName.{ItemName}
 use Rattle.sdd_script_text.specs.declared.name.JobName.{JobName}
 use Rattle.sdd_script_text.specs.declared.call.Call.{Call}
 use Rattle.sdd_script_text.specs.declared.call.Call.TheVariants.{Register, Tally, At}
-use Rattle.sdd_script_text.specs.declared.call.Action.TheVariants as call
+use Rattle.sdd_script_text.specs.Actions as call
 use Rattle.sdd_script_text.specs.declared.answer.Answer.{Answer}
 use Rattle.sdd_script_text.specs.declared.answer.Reply.{Reply}
 use Rattle.sdd_script_text.specs.declared.answer.Reply.TheVariants as reply

@@ -16,8 +16,8 @@ use Rattle.sdd_core.specs.declared.tag.Tag.TheVariants as tags
 use Rattle.sdd_script_text.specs.Name.{place}
 use Rattle.sdd_script_text.specs.declared.call.Call.TheVariants.{Register, Tally, At}
 use Rattle.sdd_script_text.specs.declared.name.ListName.TheVariants as list
-use Rattle.sdd_script_text.specs.declared.call.Action.{Action}
-use Rattle.sdd_script_text.specs.declared.call.Action.TheVariants as action
+use Rattle.sdd_script_text.specs.declared.call.action.Action.{Action}
+use Rattle.sdd_script_text.specs.Actions as action
 use Rattle.sdd_script_text.specs.declared.call.Value.TheVariants as value
 use Rattle.sdd_script_text.specs.declared.call.Argument.{Argument}
 use Rattle.sdd_script_text.specs.declared.call.Argument.TheVariants.{Number, Guard, Owner, Item, Cell, Collector, Queue, Stack, Bag, Tag, Word}
@@ -307,8 +307,13 @@ IsSaid action = IsWord 10 (spoken action).0 × (length (spoken action).1 ≤ mos
 
 said : (action : Action) → IsSaid action
 said action.Open = (written_word 10 _ refl refl, omega arith, omega arith, refl)
+said (action.Epoch g) = (written_word 10 _ refl refl, omega arith, omega arith, refl)
 said (action.Owned (value.Number n)) = (written_word 10 _ refl refl, omega arith, omega arith, refl)
 said (action.Shared (value.Number n)) = (written_word 10 _ refl refl, omega arith, omega arith, refl)
+said (action.Put o n) = (written_word 10 _ refl refl, omega arith, omega arith, refl)
+said action.Collector = (written_word 10 _ refl refl, omega arith, omega arith, refl)
+said (action.Load c g) = (written_word 10 _ refl refl, omega arith, omega arith, refl)
+said (action.Into c) = (written_word 10 _ refl refl, omega arith, omega arith, refl)
 said (action.Push (list.Queue q) n g) = (written_word 10 _ refl refl, omega arith, omega arith, refl)
 said (action.PushIf (list.Queue q) n m g) = (written_word 10 _ refl refl, omega arith, omega arith, refl)
 said (action.Pop (list.Queue q) g) = (written_word 10 _ refl refl, omega arith, omega arith, refl)
@@ -318,6 +323,7 @@ said (action.Len (list.Queue q) g) = (written_word 10 _ refl refl, omega arith, 
 said (action.List (list.Queue q) g) = (written_word 10 _ refl refl, omega arith, omega arith, refl)
 said (action.CloneList (list.Queue q) g) = (written_word 10 _ refl refl, omega arith, omega arith, refl)
 said (action.Append i o true g) = (written_word 10 _ refl refl, omega arith, omega arith, refl)
+said action.Bag = (written_word 10 _ refl refl, omega arith, omega arith, refl)
 said action = (written_word 10 _ refl refl, omega arith, omega arith, refl)
 
 -- ---- both

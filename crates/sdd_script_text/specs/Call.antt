@@ -5,8 +5,8 @@ use Rattle.std.specs.Fmt.{decimal}
 use Rattle.sdd_script_text.specs.Name.{place, guard, owner, item, cell, collector, queue, stack, bag, tag}
 use Rattle.sdd_script_text.specs.declared.name.ListName.{ListName}
 use Rattle.sdd_script_text.specs.declared.name.ListName.TheVariants as list
-use Rattle.sdd_script_text.specs.declared.call.Action.{Action}
-use Rattle.sdd_script_text.specs.declared.call.Action.TheVariants as action
+use Rattle.sdd_script_text.specs.declared.call.action.Action.{Action}
+use Rattle.sdd_script_text.specs.Actions as action
 use Rattle.sdd_script_text.specs.declared.call.Value.TheVariants as value
 use Rattle.sdd_script_text.specs.declared.call.Argument.{Argument}
 use Rattle.sdd_script_text.specs.declared.call.Argument.TheVariants.{Number, Guard, Owner, Item, Cell, Collector, Queue, Stack, Bag, Tag, Word}

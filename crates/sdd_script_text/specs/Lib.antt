@@ -1,3 +1,4 @@
+pub mod Actions
 pub mod Adapters
 pub mod Answer
 pub mod Call

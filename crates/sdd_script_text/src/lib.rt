@@ -18,7 +18,10 @@ pub mod script;
 
 pub use answer::{Answer, Reply, print_all, print_fault};
 pub use arguments::{Choice, USUAL_LIMITS, asked, chosen};
-pub use call::{Action, Call, Value};
+pub use call::{
+    Action, BagAction, Call, CellAction, CollectorAction, ContainerAction, EntryAction,
+    GuardAction, HeldAction, ItemAction, LinkAction, RawAction, Value,
+};
 pub use device::{Fault, ReadEnd, Reader, Sink, Source, Writer, read_to_end, write_all};
 pub use ended::Ended;
 pub use name::{

@@ -4,18 +4,19 @@
 ghost use Rattle.std.specs.Prelude.{◌≡◌, MatchResult};
 ghost use Rattle.sdd_script_model.specs.Script.{Acts};
 ghost use Rattle.sdd_script_model.specs.ScriptState.{BeginsLine};
+ghost use Rattle.sdd_script_text.specs.Actions as action;
 
 use sdd_interpreter::Interpreter;
 use sdd_interpreter::commands::bags::{AddNumber, DrainBag, MakeBag, TakeNumber};
 use sdd_interpreter::items::{date_new, forget_new, free_by_slot, waiting_by_slot};
 use sdd_interpreter::participants::{under, under_any};
 use sdd_interpreter::turns::{bag_closed_at, list_step_at};
-use sdd_script_text::{Action, BagName, Call, GuardName, Numbers, PlaceName, Reply};
+use sdd_script_text::{BagName, Call, GuardName, Numbers, PlaceName, Reply};
 use std::alloc::AllocError;
 
 /// `P bag`: an empty bag, named. `NoCell` is a reply. Refused where memory for the name is, and then nothing has changed.
 pub fn make_bag(stage: &mut Interpreter, name: PlaceName) -> Result<Reply, AllocError>
-    ensures acts { MatchResult result (λ reply. Acts stage.old (Call.At name Action.Bag) reply stage.new) (λ _. stage.new ≡ stage.old) }
+    ensures acts { MatchResult result (λ reply. Acts stage.old (Call.At name action.Bag) reply stage.new) (λ _. stage.new ≡ stage.old) }
 {
     let Some(attending) = stage.hand.places.get(name.0) else {
         return Ok(Reply::Invalid);
@@ -41,7 +42,7 @@ pub fn add(
     guard: GuardName,
 ) -> Result<Reply, AllocError>
     requires line { BeginsLine stage.old }
-    ensures acts { MatchResult result (λ reply. Acts stage.old (Call.At name (Action.Add bag number guard)) reply stage.new) (λ _. stage.new ≡ stage.old) }
+    ensures acts { MatchResult result (λ reply. Acts stage.old (Call.At name (action.Add bag number guard)) reply stage.new) (λ _. stage.new ≡ stage.old) }
 {
     let Some((attending, held)) = under(&stage.hand.places, &stage.hand.guards, name, guard) else {
         return Ok(Reply::Invalid);
@@ -77,7 +78,7 @@ pub fn add(
 
 /// `P try B n`: puts a number among those that lie in the bag itself, where there is room.
 pub fn try_add(stage: &mut Interpreter, name: PlaceName, bag: BagName, number: u64) -> Reply
-    ensures acts { Acts stage.old (Call.At name (Action.Try bag number)) result stage.new }
+    ensures acts { Acts stage.old (Call.At name (action.Try bag number)) result stage.new }
 {
     let Some(_) = stage.hand.places.get(name.0) else {
         return Reply::Invalid;
@@ -104,7 +105,7 @@ pub fn take(
     bag: BagName,
     guard: GuardName,
 ) -> Result<Reply, AllocError>
-    ensures acts { MatchResult result (λ reply. Acts stage.old (Call.At name (Action.Take bag guard)) reply stage.new) (λ _. stage.new ≡ stage.old) }
+    ensures acts { MatchResult result (λ reply. Acts stage.old (Call.At name (action.Take bag guard)) reply stage.new) (λ _. stage.new ≡ stage.old) }
 {
     let Some((attending, held)) = under(&stage.hand.places, &stage.hand.guards, name, guard) else {
         return Ok(Reply::Invalid);
@@ -149,7 +150,7 @@ pub fn drain(
     bag: BagName,
     guard: GuardName,
 ) -> Result<Reply, AllocError>
-    ensures acts { MatchResult result (λ reply. Acts stage.old (Call.At name (Action.Drain bag guard)) reply stage.new) (λ _. stage.new ≡ stage.old) }
+    ensures acts { MatchResult result (λ reply. Acts stage.old (Call.At name (action.Drain bag guard)) reply stage.new) (λ _. stage.new ≡ stage.old) }
 {
     let Some((attending, held)) = under(&stage.hand.places, &stage.hand.guards, name, guard) else {
         return Ok(Reply::Invalid);
@@ -191,7 +192,7 @@ pub fn drain(
 
 /// `P len B G`: how many numbers are in a bag.
 pub fn len(stage: &mut Interpreter, name: PlaceName, bag: BagName, guard: GuardName) -> Reply
-    ensures acts { Acts stage.old (Call.At name (Action.LenBag bag guard)) result stage.new }
+    ensures acts { Acts stage.old (Call.At name (action.LenBag bag guard)) result stage.new }
 {
     let Some(_) = under(&stage.hand.places, &stage.hand.guards, name, guard) else {
         return Reply::Invalid;
@@ -209,7 +210,7 @@ pub fn close_bag(
     name: PlaceName,
     bag: BagName,
 ) -> Result<Reply, AllocError>
-    ensures acts { MatchResult result (λ reply. Acts stage.old (Call.At name (Action.CloseBag bag)) reply stage.new) (λ _. stage.new ≡ stage.old) }
+    ensures acts { MatchResult result (λ reply. Acts stage.old (Call.At name (action.CloseBag bag)) reply stage.new) (λ _. stage.new ≡ stage.old) }
 {
     let Some((attending, held)) = under_any(&stage.hand.places, &stage.hand.guards, name) else {
         return Ok(Reply::Invalid);

@@ -5,6 +5,7 @@ ghost use Rattle.std.specs.Prelude.{◌≡◌, ◌<◌, MatchResult, Some};
 ghost use Rattle.sdd_participants.specs.declared.standing.CellContents.{CellContents};
 ghost use Rattle.sdd_script.specs.ItemLines.{making_cell};
 ghost use Rattle.sdd_script_model.specs.Script.{Acts};
+ghost use Rattle.sdd_script_text.specs.Actions as action;
 
 use sdd_core::{Refused, Tag};
 use sdd_interpreter::Interpreter;
@@ -15,7 +16,7 @@ use sdd_interpreter::participants::under;
 use sdd_interpreter::turns::{cell_step_at, item_step_at};
 use sdd_participants::CellContents;
 use sdd_script_model::OwnerKind;
-use sdd_script_text::{Action, Call, CellName, GuardName, ItemName, OwnerName, PlaceName, Reply};
+use sdd_script_text::{Call, CellName, GuardName, ItemName, OwnerName, PlaceName, Reply};
 use sdd_world::inner::has_no_cell;
 use std::alloc::AllocError;
 
@@ -52,7 +53,7 @@ pub fn make_cell(
 
 /// `P load C G`: the item that a cell points to, or null, and its tag.
 pub fn load(stage: &mut Interpreter, name: PlaceName, cell: CellName, guard: GuardName) -> Reply
-    ensures acts { Acts stage.old (Call.At name (Action.Load cell guard)) result stage.new }
+    ensures acts { Acts stage.old (Call.At name (action.Load cell guard)) result stage.new }
 {
     let Some((attending, held)) = under(&stage.hand.places, &stage.hand.guards, name, guard) else {
         return Reply::Invalid;
@@ -75,7 +76,7 @@ pub fn load(stage: &mut Interpreter, name: PlaceName, cell: CellName, guard: Gua
 
 /// `P tag C`: the tag of a cell.
 pub fn tag(stage: &mut Interpreter, name: PlaceName, cell: CellName) -> Reply
-    ensures acts { Acts stage.old (Call.At name (Action.Tag cell)) result stage.new }
+    ensures acts { Acts stage.old (Call.At name (action.Tag cell)) result stage.new }
 {
     let Some(attending) = stage.hand.places.get(name.0) else {
         return Reply::Invalid;
@@ -95,7 +96,7 @@ pub fn set_tag_if(
     tag: Tag,
     was: Tag,
 ) -> Reply
-    ensures acts { Acts stage.old (Call.At name (Action.TagIf cell tag was)) result stage.new }
+    ensures acts { Acts stage.old (Call.At name (action.TagIf cell tag was)) result stage.new }
 {
     let Some(attending) = stage.hand.places.get(name.0) else {
         return Reply::Invalid;
@@ -113,7 +114,7 @@ pub fn set_tag_if(
 
 /// `P close C`: the cell is closed, and the participant given what it held.
 pub fn close_cell(stage: &mut Interpreter, name: PlaceName, cell: CellName) -> Reply
-    ensures acts { Acts stage.old (Call.At name (Action.CloseCell cell)) result stage.new }
+    ensures acts { Acts stage.old (Call.At name (action.CloseCell cell)) result stage.new }
 {
     let Some(attending) = stage.hand.places.get(name.0) else {
         return Reply::Invalid;

@@ -7,6 +7,7 @@ ghost use Rattle.sdd_script_text.specs.declared.name.ItemName.{ItemName as Named
 ghost use Rattle.sdd_script_model.specs.Held.{slots_waiting_for};
 ghost use Rattle.sdd_script_model.specs.Shown.{names_in};
 ghost use Rattle.sdd_script_model.specs.Script.{Acts, Answers};
+ghost use Rattle.sdd_script_text.specs.Actions as action;
 
 use sdd_core::Refused;
 use sdd_interpreter::Interpreter;
@@ -16,7 +17,7 @@ use sdd_interpreter::participants::under;
 use sdd_interpreter::turns::collector_step_at;
 use sdd_script_model::Val;
 use sdd_script_text::{
-    Action, Answer, Call, CollectorName, GuardName, ItemName, Names, OwnerName, PlaceName, Reply,
+    Answer, Call, CollectorName, GuardName, ItemName, Names, OwnerName, PlaceName, Reply,
 };
 use sdd_space::inner::number_of_collector;
 use sdd_world::World;
@@ -24,7 +25,7 @@ use std::alloc::{AllocError, Global};
 
 /// `P collector`: a collector, named. `NoCell` is a reply. Refused where memory for the name is, and then nothing has changed.
 pub fn make_collector(stage: &mut Interpreter, name: PlaceName) -> Result<Reply, AllocError>
-    ensures acts { MatchResult result (λ reply. Acts stage.old (Call.At name Action.Collector) reply stage.new) (λ _. stage.new ≡ stage.old) }
+    ensures acts { MatchResult result (λ reply. Acts stage.old (Call.At name action.Collector) reply stage.new) (λ _. stage.new ≡ stage.old) }
 {
     let Some(attending) = stage.hand.places.get(name.0) else {
         return Ok(Reply::Invalid);
@@ -48,7 +49,7 @@ pub fn collect(
     guard: GuardName,
     collector: CollectorName,
 ) -> Reply
-    ensures acts { Acts stage.old (Call.At name (Action.Collect owner guard collector)) result stage.new }
+    ensures acts { Acts stage.old (Call.At name (action.Collect owner guard collector)) result stage.new }
 {
     let Some((attending, held)) = under(&stage.hand.places, &stage.hand.guards, name, guard) else {
         return Reply::Invalid;
@@ -81,7 +82,7 @@ pub fn close_collector(
     name: PlaceName,
     collector: CollectorName,
 ) -> Result<Answer, AllocError>
-    ensures answers { MatchResult result (λ answer. Answers stage.old (Call.At name (Action.CloseCollector collector)) answer stage.new)
+    ensures answers { MatchResult result (λ answer. Answers stage.old (Call.At name (action.CloseCollector collector)) answer stage.new)
         (λ _. stage.new ≡ stage.old) }
 {
     let Some(attending) = stage.hand.places.get(name.0) else {

@@ -3,18 +3,19 @@
 
 ghost use Rattle.std.specs.Prelude.{◌≡◌, MatchResult};
 ghost use Rattle.sdd_script_model.specs.Script.{Acts};
+ghost use Rattle.sdd_script_text.specs.Actions as action;
 
 use sdd_interpreter::Interpreter;
 use sdd_interpreter::commands::containers::{CountEntries, ListNumbers, PeekFirst};
 use sdd_interpreter::containers::list_named;
 use sdd_interpreter::participants::under;
 use sdd_interpreter::turns::list_step_at;
-use sdd_script_text::{Action, Call, GuardName, ListName, PlaceName, Reply};
+use sdd_script_text::{Call, GuardName, ListName, PlaceName, Reply};
 use std::alloc::AllocError;
 
 /// `P peek L G`: a container's first number that isn't deleted.
 pub fn peek(stage: &mut Interpreter, name: PlaceName, list: ListName, guard: GuardName) -> Reply
-    ensures acts { Acts stage.old (Call.At name (Action.Peek list guard)) result stage.new }
+    ensures acts { Acts stage.old (Call.At name (action.Peek list guard)) result stage.new }
 {
     let Some((attending, held)) = under(&stage.hand.places, &stage.hand.guards, name, guard) else {
         return Reply::Invalid;
@@ -30,7 +31,7 @@ pub fn peek(stage: &mut Interpreter, name: PlaceName, list: ListName, guard: Gua
 
 /// `P len L G`: how many of a container's numbers aren't deleted.
 pub fn len(stage: &mut Interpreter, name: PlaceName, list: ListName, guard: GuardName) -> Reply
-    ensures acts { Acts stage.old (Call.At name (Action.Len list guard)) result stage.new }
+    ensures acts { Acts stage.old (Call.At name (action.Len list guard)) result stage.new }
 {
     let Some((attending, held)) = under(&stage.hand.places, &stage.hand.guards, name, guard) else {
         return Reply::Invalid;
@@ -51,7 +52,7 @@ pub fn list(
     list: ListName,
     guard: GuardName,
 ) -> Result<Reply, AllocError>
-    ensures acts { MatchResult result (λ reply. Acts stage.old (Call.At name (Action.List list guard)) reply stage.new) (λ _. stage.new ≡ stage.old) }
+    ensures acts { MatchResult result (λ reply. Acts stage.old (Call.At name (action.List list guard)) reply stage.new) (λ _. stage.new ≡ stage.old) }
 {
     let Some((attending, held)) = under(&stage.hand.places, &stage.hand.guards, name, guard) else {
         return Ok(Reply::Invalid);

@@ -4,13 +4,14 @@
 ghost use Rattle.std.specs.Prelude.{◌≡◌, MatchResult};
 ghost use Rattle.sdd_script_model.specs.Script.{Acts};
 ghost use Rattle.sdd_script_model.specs.ScriptState.{BeginsLine};
+ghost use Rattle.sdd_script_text.specs.Actions as action;
 
 use sdd_interpreter::Interpreter;
 use sdd_interpreter::holding::AnyList;
 use sdd_interpreter::items::{date_new, forget_new, free_by_slot, name_all, waiting_by_slot};
 use sdd_interpreter::participants::under;
 use sdd_interpreter::turns::{copy_queue_at, copy_stack_at, slots_at};
-use sdd_script_text::{Action, Call, GuardName, ListName, PlaceName, QueueName, Reply, StackName};
+use sdd_script_text::{Call, GuardName, ListName, PlaceName, QueueName, Reply, StackName};
 use std::alloc::AllocError;
 
 /// `P clonelist Q G`: another queue with the numbers of this one that aren't deleted, in order, named as its items are. `NoSlot` and `NoCell` are replies: what
@@ -23,7 +24,7 @@ pub fn copy_queue(
 ) -> Result<Reply, AllocError>
     requires line { BeginsLine stage.old }
     ensures acts { MatchResult result
-        (λ reply. Acts stage.old (Call.At name (Action.CloneList (ListName.Queue queue) guard)) reply stage.new)
+        (λ reply. Acts stage.old (Call.At name (action.CloneList (ListName.Queue queue) guard)) reply stage.new)
         (λ _. stage.new ≡ stage.old) }
 {
     let Some((attending, held)) = under(&stage.hand.places, &stage.hand.guards, name, guard) else {
@@ -79,7 +80,7 @@ pub fn copy_stack(
 ) -> Result<Reply, AllocError>
     requires line { BeginsLine stage.old }
     ensures acts { MatchResult result
-        (λ reply. Acts stage.old (Call.At name (Action.CloneList (ListName.Stack stack) guard)) reply stage.new)
+        (λ reply. Acts stage.old (Call.At name (action.CloneList (ListName.Stack stack) guard)) reply stage.new)
         (λ _. stage.new ≡ stage.old) }
 {
     let Some((attending, held)) = under(&stage.hand.places, &stage.hand.guards, name, guard) else {

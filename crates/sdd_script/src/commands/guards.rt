@@ -8,6 +8,7 @@ ghost use Rattle.sdd_script_model.specs.Held.{slots_among};
 ghost use Rattle.sdd_script_model.specs.Shown.{names_in};
 ghost use Rattle.sdd_script_model.specs.ScriptState.{BeginsLine};
 ghost use Rattle.sdd_script_model.specs.Script.{Acts, Answers};
+ghost use Rattle.sdd_script_text.specs.Actions as action;
 
 use sdd_interpreter::Interpreter;
 use sdd_interpreter::commands::guards::{
@@ -18,9 +19,7 @@ use sdd_interpreter::jobs::jobs_among;
 use sdd_interpreter::participants::{NamedGuard, note_opening, under};
 use sdd_interpreter::turns::{defer_at, guard_step_at};
 use sdd_participants::LimboEntry;
-use sdd_script_text::{
-    Action, Answer, Call, GuardName, ItemName, JobName, Names, PlaceName, Reply,
-};
+use sdd_script_text::{Answer, Call, GuardName, ItemName, JobName, Names, PlaceName, Reply};
 use sdd_world::inner::{is_open, reclaims_next};
 use std::alloc::{AllocError, Global};
 
@@ -28,7 +27,7 @@ use std::alloc::{AllocError, Global};
 /// Refused where memory for names is, and then nothing has changed.
 pub fn open(stage: &mut Interpreter, name: PlaceName) -> Result<Answer, AllocError>
     requires line { BeginsLine stage.old }
-    ensures answers { MatchResult result (λ answer. Answers stage.old (Call.At name Action.Open) answer stage.new) (λ _. stage.new ≡ stage.old) }
+    ensures answers { MatchResult result (λ answer. Answers stage.old (Call.At name action.Open) answer stage.new) (λ _. stage.new ≡ stage.old) }
 {
     let Some(attending) = stage.hand.places.get(name.0) else {
         return Ok(stage.answer(Reply::Invalid));
@@ -71,7 +70,7 @@ pub fn open(stage: &mut Interpreter, name: PlaceName) -> Result<Answer, AllocErr
 
 /// `P epoch G`: the epoch that a guard of the participant shows.
 pub fn epoch(stage: &mut Interpreter, name: PlaceName, guard: GuardName) -> Reply
-    ensures acts { Acts stage.old (Call.At name (Action.Epoch guard)) result stage.new }
+    ensures acts { Acts stage.old (Call.At name (action.Epoch guard)) result stage.new }
 {
     let Some((attending, held)) = under(&stage.hand.places, &stage.hand.guards, name, guard) else {
         return Reply::Invalid;
@@ -86,7 +85,7 @@ pub fn epoch(stage: &mut Interpreter, name: PlaceName, guard: GuardName) -> Repl
 
 /// `P garbage G`: whether something may wait with the participant.
 pub fn garbage(stage: &mut Interpreter, name: PlaceName, guard: GuardName) -> Reply
-    ensures acts { Acts stage.old (Call.At name (Action.Garbage guard)) result stage.new }
+    ensures acts { Acts stage.old (Call.At name (action.Garbage guard)) result stage.new }
 {
     let Some((attending, held)) = under(&stage.hand.places, &stage.hand.guards, name, guard) else {
         return Reply::Invalid;
@@ -101,7 +100,7 @@ pub fn garbage(stage: &mut Interpreter, name: PlaceName, guard: GuardName) -> Re
 
 /// `P set G`: the participant has garbage from now on.
 pub fn set(stage: &mut Interpreter, name: PlaceName, guard: GuardName) -> Reply
-    ensures acts { Acts stage.old (Call.At name (Action.Set guard)) result stage.new }
+    ensures acts { Acts stage.old (Call.At name (action.Set guard)) result stage.new }
 {
     let Some((attending, held)) = under(&stage.hand.places, &stage.hand.guards, name, guard) else {
         return Reply::Invalid;
@@ -117,7 +116,7 @@ pub fn set(stage: &mut Interpreter, name: PlaceName, guard: GuardName) -> Reply
 
 /// `P accelerate G`: the participant's next outermost close scans.
 pub fn accelerate(stage: &mut Interpreter, name: PlaceName, guard: GuardName) -> Reply
-    ensures acts { Acts stage.old (Call.At name (Action.Accelerate guard)) result stage.new }
+    ensures acts { Acts stage.old (Call.At name (action.Accelerate guard)) result stage.new }
 {
     let Some((attending, held)) = under(&stage.hand.places, &stage.hand.guards, name, guard) else {
         return Reply::Invalid;
@@ -134,7 +133,7 @@ pub fn accelerate(stage: &mut Interpreter, name: PlaceName, guard: GuardName) ->
 /// `P defer G`: a job that does nothing waits, and is named. `NoJob` is a reply.
 pub fn defer(stage: &mut Interpreter, name: PlaceName, guard: GuardName) -> Reply
     requires line { BeginsLine stage.old }
-    ensures acts { Acts stage.old (Call.At name (Action.Defer guard)) result stage.new }
+    ensures acts { Acts stage.old (Call.At name (action.Defer guard)) result stage.new }
 {
     let Some((attending, _)) = under(&stage.hand.places, &stage.hand.guards, name, guard) else {
         return Reply::Invalid;
@@ -154,7 +153,7 @@ pub fn defer(stage: &mut Interpreter, name: PlaceName, guard: GuardName) -> Repl
 
 /// `P close G`: the guard is closed, and its name spent.
 pub fn close_guard(stage: &mut Interpreter, name: PlaceName, guard: GuardName) -> Reply
-    ensures acts { Acts stage.old (Call.At name (Action.Close guard)) result stage.new }
+    ensures acts { Acts stage.old (Call.At name (action.Close guard)) result stage.new }
 {
     let Some((attending, _)) = under(&stage.hand.places, &stage.hand.guards, name, guard) else {
         return Reply::Invalid;

@@ -6,6 +6,7 @@ ghost use Rattle.sdd_participants.specs.Slab.{IsFull};
 ghost use Rattle.sdd_script_model.specs.Made.{RefusesItem};
 ghost use Rattle.sdd_script.specs.ItemLines.{making};
 ghost use Rattle.sdd_script_model.specs.Script.{Acts};
+ghost use Rattle.sdd_script_text.specs.Actions as action;
 
 use sdd_core::Refused;
 use sdd_interpreter::Interpreter;
@@ -15,7 +16,7 @@ use sdd_interpreter::owners::{body_from, is_missing, value_of};
 use sdd_interpreter::participants::under;
 use sdd_interpreter::turns::{item_step_at, value_shown};
 use sdd_script_model::{OwnerKind, Val};
-use sdd_script_text::{Action, Call, GuardName, ItemName, OwnerName, PlaceName, Reply, Value};
+use sdd_script_text::{Call, GuardName, ItemName, OwnerName, PlaceName, Reply, Value};
 use sdd_world::World;
 use sdd_world::inner::{has_no_cell, has_no_slot};
 use std::alloc::AllocError;
@@ -60,7 +61,7 @@ pub fn make(
 
 /// `P read O`: the value of an owner's item.
 pub fn read(stage: &mut Interpreter, name: PlaceName, owner: OwnerName) -> Reply
-    ensures acts { Acts stage.old (Call.At name (Action.Read owner)) result stage.new }
+    ensures acts { Acts stage.old (Call.At name (action.Read owner)) result stage.new }
 {
     let Some(_) = stage.hand.places.get(name.0) else {
         return Reply::Invalid;
@@ -77,7 +78,7 @@ pub fn read(stage: &mut Interpreter, name: PlaceName, owner: OwnerName) -> Reply
 
 /// `P look I G`: the value of an item that the participant can point to.
 pub fn look(stage: &mut Interpreter, name: PlaceName, item: ItemName, guard: GuardName) -> Reply
-    ensures acts { Acts stage.old (Call.At name (Action.Look item guard)) result stage.new }
+    ensures acts { Acts stage.old (Call.At name (action.Look item guard)) result stage.new }
 {
     let Some((attending, held)) = under(&stage.hand.places, &stage.hand.guards, name, guard) else {
         return Reply::Invalid;

@@ -4,6 +4,7 @@
 ghost use Rattle.std.specs.Prelude.{◌≡◌, MatchResult};
 ghost use Rattle.sdd_script.specs.ItemLines.{changing};
 ghost use Rattle.sdd_script_model.specs.Script.{Acts};
+ghost use Rattle.sdd_script_text.specs.Actions as action;
 
 use sdd_core::Tag;
 use sdd_interpreter::Interpreter;
@@ -14,7 +15,7 @@ use sdd_interpreter::owners::{shared_of, take_shared};
 use sdd_interpreter::participants::{under, under_any};
 use sdd_interpreter::turns::{cell_step_at, is_loose_beside, list_step_at, value_shown};
 use sdd_script_model::LinkChange;
-use sdd_script_text::{Action, Call, GuardName, ItemName, OwnerName, PlaceName, Reply};
+use sdd_script_text::{Call, GuardName, ItemName, OwnerName, PlaceName, Reply};
 use std::alloc::AllocError;
 
 /// `P mark I`, `P unmark I`, `P delete I`: an entry's link changes its tag, if it may, and whether it did is told.
@@ -50,7 +51,7 @@ pub fn change_link(
 
 /// `P linktag I`: the tag of an entry's link.
 pub fn link_tag(stage: &mut Interpreter, name: PlaceName, item: ItemName) -> Reply
-    ensures acts { Acts stage.old (Call.At name (Action.LinkTag item)) result stage.new }
+    ensures acts { Acts stage.old (Call.At name (action.LinkTag item)) result stage.new }
 {
     let Some((attending, held)) = under_any(&stage.hand.places, &stage.hand.guards, name) else {
         return Reply::Invalid;
@@ -84,7 +85,7 @@ pub fn append(
     mark: bool,
     guard: GuardName,
 ) -> Reply
-    ensures acts { Acts stage.old (Call.At name (Action.Append item owner mark guard)) result stage.new }
+    ensures acts { Acts stage.old (Call.At name (action.Append item owner mark guard)) result stage.new }
 {
     let Some((attending, held)) = under(&stage.hand.places, &stage.hand.guards, name, guard) else {
         return Reply::Invalid;
@@ -144,7 +145,7 @@ pub fn next(
     item: ItemName,
     guard: GuardName,
 ) -> Result<Reply, AllocError>
-    ensures acts { MatchResult result (λ reply. Acts stage.old (Call.At name (Action.Next item guard)) reply stage.new) (λ _. stage.new ≡ stage.old) }
+    ensures acts { MatchResult result (λ reply. Acts stage.old (Call.At name (action.Next item guard)) reply stage.new) (λ _. stage.new ≡ stage.old) }
 {
     let Some((attending, held)) = under(&stage.hand.places, &stage.hand.guards, name, guard) else {
         return Ok(Reply::Invalid);

@@ -3,6 +3,7 @@
 
 ghost use Rattle.std.specs.Prelude.{◌≡◌, ◌<◌, None, Some, MatchResult};
 ghost use Rattle.sdd_script_model.specs.Script.{Acts};
+ghost use Rattle.sdd_script_text.specs.Actions as action;
 
 use sdd_core::Refused;
 use sdd_interpreter::Interpreter;
@@ -12,12 +13,12 @@ use sdd_interpreter::items::slot_since;
 use sdd_interpreter::owners::{shared_of, take_shared, take_sole};
 use sdd_interpreter::participants::under;
 use sdd_interpreter::turns::{item_step_at, share_item};
-use sdd_script_text::{Action, Call, GuardName, ItemName, OwnerName, PlaceName, Reply};
+use sdd_script_text::{Call, GuardName, ItemName, OwnerName, PlaceName, Reply};
 use std::alloc::AllocError;
 
 /// `P retire O`: the item of its one owner waits, and the owner's name is spent.
 pub fn retire(stage: &mut Interpreter, name: PlaceName, owner: OwnerName) -> Reply
-    ensures acts { Acts stage.old (Call.At name (Action.Retire owner)) result stage.new }
+    ensures acts { Acts stage.old (Call.At name (action.Retire owner)) result stage.new }
 {
     let Some(attending) = stage.hand.places.get(name.0) else {
         return Reply::Invalid;
@@ -38,7 +39,7 @@ pub fn retire(stage: &mut Interpreter, name: PlaceName, owner: OwnerName) -> Rep
 
 /// `P release O`: one of the counted owners goes, and tells whether it was the last, whose item waits.
 pub fn release(stage: &mut Interpreter, name: PlaceName, owner: OwnerName) -> Reply
-    ensures acts { Acts stage.old (Call.At name (Action.Release owner)) result stage.new }
+    ensures acts { Acts stage.old (Call.At name (action.Release owner)) result stage.new }
 {
     let Some(attending) = stage.hand.places.get(name.0) else {
         return Reply::Invalid;
@@ -65,7 +66,7 @@ pub fn clone_owner(
     name: PlaceName,
     owner: OwnerName,
 ) -> Result<Reply, AllocError>
-    ensures acts { MatchResult result (λ reply. Acts stage.old (Call.At name (Action.Clone owner)) reply stage.new) (λ _. stage.new ≡ stage.old) }
+    ensures acts { MatchResult result (λ reply. Acts stage.old (Call.At name (action.Clone owner)) reply stage.new) (λ _. stage.new ≡ stage.old) }
 {
     let Some(attending) = stage.hand.places.get(name.0) else {
         return Ok(Reply::Invalid);
@@ -96,7 +97,7 @@ pub fn upgrade(
     item: ItemName,
     guard: GuardName,
 ) -> Result<Reply, AllocError>
-    ensures acts { MatchResult result (λ reply. Acts stage.old (Call.At name (Action.Upgrade item guard)) reply stage.new) (λ _. stage.new ≡ stage.old) }
+    ensures acts { MatchResult result (λ reply. Acts stage.old (Call.At name (action.Upgrade item guard)) reply stage.new) (λ _. stage.new ≡ stage.old) }
 {
     let Some((attending, held)) = under(&stage.hand.places, &stage.hand.guards, name, guard) else {
         return Ok(Reply::Invalid);

@@ -3,11 +3,12 @@
 
 ghost use Rattle.std.specs.Prelude.{◌≡◌, MatchResult};
 ghost use Rattle.sdd_script_model.specs.Script.{Acts};
+ghost use Rattle.sdd_script_text.specs.Actions as action;
 
 use sdd_core::Refused;
 use sdd_interpreter::Interpreter;
 use sdd_interpreter::participants::NamedParticipant;
-use sdd_script_text::{Action, Call, PlaceName, Reply};
+use sdd_script_text::{Call, PlaceName, Reply};
 use sdd_world::inner::is_open;
 
 /// `register`: a participant at a place that was vacant. `NoPlace` is a reply; `NoMemory` where memory is refused, and then nobody is registered.
@@ -29,7 +30,7 @@ pub fn register(stage: &mut Interpreter) -> Result<Reply, Refused>
 
 /// `P end`: the participant takes part no more, and its name is spent. `GuardOpen` is a reply, and then it takes part still.
 pub fn end(stage: &mut Interpreter, name: PlaceName) -> Reply
-    ensures acts { Acts stage.old (Call.At name Action.End) result stage.new }
+    ensures acts { Acts stage.old (Call.At name action.End) result stage.new }
 {
     let Some(attending) = stage.hand.places.get(name.0) else {
         return Reply::Invalid;

@@ -3,18 +3,19 @@
 
 ghost use Rattle.std.specs.Prelude.{◌≡◌, MatchResult};
 ghost use Rattle.sdd_script_model.specs.Script.{Acts};
+ghost use Rattle.sdd_script_text.specs.Actions as action;
 
 use sdd_interpreter::Interpreter;
 use sdd_interpreter::commands::queues::{CloseQueue, MakeQueue};
 use sdd_interpreter::items::{date_new, waiting_by_slot};
 use sdd_interpreter::participants::under_any;
 use sdd_interpreter::turns::list_step_at;
-use sdd_script_text::{Action, Call, PlaceName, QueueName, Reply};
+use sdd_script_text::{Call, PlaceName, QueueName, Reply};
 use std::alloc::AllocError;
 
 /// `P queue`: an empty queue, named. `NoCell` is a reply. Refused where memory for the name is, and then nothing has changed.
 pub fn make_queue(stage: &mut Interpreter, name: PlaceName) -> Result<Reply, AllocError>
-    ensures acts { MatchResult result (λ reply. Acts stage.old (Call.At name Action.Queue) reply stage.new) (λ _. stage.new ≡ stage.old) }
+    ensures acts { MatchResult result (λ reply. Acts stage.old (Call.At name action.Queue) reply stage.new) (λ _. stage.new ≡ stage.old) }
 {
     let Some(attending) = stage.hand.places.get(name.0) else {
         return Ok(Reply::Invalid);
@@ -37,7 +38,7 @@ pub fn close_queue(
     name: PlaceName,
     queue: QueueName,
 ) -> Result<Reply, AllocError>
-    ensures acts { MatchResult result (λ reply. Acts stage.old (Call.At name (Action.CloseQueue queue)) reply stage.new) (λ _. stage.new ≡ stage.old) }
+    ensures acts { MatchResult result (λ reply. Acts stage.old (Call.At name (action.CloseQueue queue)) reply stage.new) (λ _. stage.new ≡ stage.old) }
 {
     let Some((attending, held)) = under_any(&stage.hand.places, &stage.hand.guards, name) else {
         return Ok(Reply::Invalid);

@@ -3,6 +3,7 @@
 
 ghost use Rattle.std.specs.Prelude.{◌≡◌, Some, MatchResult};
 ghost use Rattle.sdd_script_model.specs.Script.{Acts};
+ghost use Rattle.sdd_script_text.specs.Actions as action;
 
 use sdd_core::Refused;
 use sdd_interpreter::Interpreter;
@@ -12,12 +13,12 @@ use sdd_interpreter::items::{date_new, is_number, item_at, slot_since, told, wai
 use sdd_interpreter::owners::{take_sole, value_of};
 use sdd_interpreter::participants::under;
 use sdd_interpreter::turns::{in_place_step_at, raw_step_at};
-use sdd_script_text::{Action, Call, GuardName, ItemName, OwnerName, PlaceName, Reply};
+use sdd_script_text::{Call, GuardName, ItemName, OwnerName, PlaceName, Reply};
 use std::alloc::AllocError;
 
 /// `P put O n`: the number that an owner's item holds becomes this one, in its place. `NotAlone` and `GuardOpen` are replies.
 pub fn put(stage: &mut Interpreter, name: PlaceName, owner: OwnerName, number: u64) -> Reply
-    ensures acts { Acts stage.old (Call.At name (Action.Put owner number)) result stage.new }
+    ensures acts { Acts stage.old (Call.At name (action.Put owner number)) result stage.new }
 {
     let Some(attending) = stage.hand.places.get(name.0) else {
         return Reply::Invalid;
@@ -54,7 +55,7 @@ pub fn drop_owner(
     name: PlaceName,
     owner: OwnerName,
 ) -> Result<Reply, AllocError>
-    ensures acts { MatchResult result (λ reply. Acts stage.old (Call.At name (Action.Drop owner)) reply stage.new) (λ _. stage.new ≡ stage.old) }
+    ensures acts { MatchResult result (λ reply. Acts stage.old (Call.At name (action.Drop owner)) reply stage.new) (λ _. stage.new ≡ stage.old) }
 {
     let Some(attending) = stage.hand.places.get(name.0) else {
         return Ok(Reply::Invalid);
@@ -85,7 +86,7 @@ pub fn drop_owner(
 
 /// `P raw O`: the item of its one owner is out as raw, and the owner's name spent.
 pub fn put_out_raw(stage: &mut Interpreter, name: PlaceName, owner: OwnerName) -> Reply
-    ensures acts { Acts stage.old (Call.At name (Action.Raw owner)) result stage.new }
+    ensures acts { Acts stage.old (Call.At name (action.Raw owner)) result stage.new }
 {
     let Some(attending) = stage.hand.places.get(name.0) else {
         return Reply::Invalid;
@@ -105,7 +106,7 @@ pub fn take_back_raw(
     name: PlaceName,
     item: ItemName,
 ) -> Result<Reply, AllocError>
-    ensures acts { MatchResult result (λ reply. Acts stage.old (Call.At name (Action.Unraw item)) reply stage.new) (λ _. stage.new ≡ stage.old) }
+    ensures acts { MatchResult result (λ reply. Acts stage.old (Call.At name (action.Unraw item)) reply stage.new) (λ _. stage.new ≡ stage.old) }
 {
     let Some(attending) = stage.hand.places.get(name.0) else {
         return Ok(Reply::Invalid);
@@ -129,7 +130,7 @@ pub fn take_back_raw(
 
 /// `P see I G`: the value of an item that is out as raw, or none.
 pub fn see(stage: &mut Interpreter, name: PlaceName, item: ItemName, guard: GuardName) -> Reply
-    ensures acts { Acts stage.old (Call.At name (Action.See item guard)) result stage.new }
+    ensures acts { Acts stage.old (Call.At name (action.See item guard)) result stage.new }
 {
     let Some((attending, held)) = under(&stage.hand.places, &stage.hand.guards, name, guard) else {
         return Reply::Invalid;

@@ -3,18 +3,19 @@
 
 ghost use Rattle.std.specs.Prelude.{◌≡◌, MatchResult};
 ghost use Rattle.sdd_script_model.specs.Script.{Acts};
+ghost use Rattle.sdd_script_text.specs.Actions as action;
 
 use sdd_interpreter::Interpreter;
 use sdd_interpreter::commands::stacks::{CloseStack, MakeStack, PourStack};
 use sdd_interpreter::items::{date_new, waiting_by_slot};
 use sdd_interpreter::participants::{under, under_any};
 use sdd_interpreter::turns::{cell_step_at, list_step_at};
-use sdd_script_text::{Action, Call, GuardName, PlaceName, Reply, StackName};
+use sdd_script_text::{Call, GuardName, PlaceName, Reply, StackName};
 use std::alloc::AllocError;
 
 /// `P stack`: an empty stack, named. `NoCell` is a reply. Refused where memory for the name is, and then nothing has changed.
 pub fn make_stack(stage: &mut Interpreter, name: PlaceName) -> Result<Reply, AllocError>
-    ensures acts { MatchResult result (λ reply. Acts stage.old (Call.At name Action.Stack) reply stage.new) (λ _. stage.new ≡ stage.old) }
+    ensures acts { MatchResult result (λ reply. Acts stage.old (Call.At name action.Stack) reply stage.new) (λ _. stage.new ≡ stage.old) }
 {
     let Some(attending) = stage.hand.places.get(name.0) else {
         return Ok(Reply::Invalid);
@@ -37,7 +38,7 @@ pub fn pour(
     stack: StackName,
     guard: GuardName,
 ) -> Result<Reply, AllocError>
-    ensures acts { MatchResult result (λ reply. Acts stage.old (Call.At name (Action.All stack guard)) reply stage.new) (λ _. stage.new ≡ stage.old) }
+    ensures acts { MatchResult result (λ reply. Acts stage.old (Call.At name (action.All stack guard)) reply stage.new) (λ _. stage.new ≡ stage.old) }
 {
     let Some((attending, held)) = under(&stage.hand.places, &stage.hand.guards, name, guard) else {
         return Ok(Reply::Invalid);
@@ -70,7 +71,7 @@ pub fn close_stack(
     name: PlaceName,
     stack: StackName,
 ) -> Result<Reply, AllocError>
-    ensures acts { MatchResult result (λ reply. Acts stage.old (Call.At name (Action.CloseStack stack)) reply stage.new) (λ _. stage.new ≡ stage.old) }
+    ensures acts { MatchResult result (λ reply. Acts stage.old (Call.At name (action.CloseStack stack)) reply stage.new) (λ _. stage.new ≡ stage.old) }
 {
     let Some((attending, held)) = under_any(&stage.hand.places, &stage.hand.guards, name) else {
         return Ok(Reply::Invalid);

@@ -2,8 +2,8 @@
 
 use sdd_core::Tag;
 use sdd_script_text::{
-    Action, Call, CellName, CollectorName, GuardName, OwnerName, PlaceName, Script, Value,
-    parse_all,
+    Action, Call, CellName, CollectorAction, CollectorName, GuardName, HeldAction, ItemAction,
+    OwnerName, PlaceName, Script, Value, parse_all,
 };
 use std::alloc::Global;
 use std::test::Fail;
@@ -22,22 +22,31 @@ fn lines_are_calls(rt: HostRuntime) {
         ),
         (
             "p0 owned 18446744073709551615",
-            Call::At(place, Action::Owned(Value::Number(u64::MAX))),
+            Call::At(
+                place,
+                Action::Item(ItemAction::Owned(Value::Number(u64::MAX))),
+            ),
         ),
         (
             "p0 swap c3 o2 First",
-            Call::At(place, Action::Swap(cell, Some(owner), Tag::First)),
+            Call::At(
+                place,
+                Action::Held(HeldAction::Swap(cell, Some(owner), Tag::First)),
+            ),
         ),
         (
             "p0 cas c3 g1 was null Second now none Both",
             Call::At(
                 place,
-                Action::Exchange(cell, guard, None, Tag::Second, None, Tag::Both),
+                Action::Held(HeldAction::Exchange(cell, guard, None, Tag::Second, None, Tag::Both)),
             ),
         ),
         (
             "p0 collect o2 g1 k4",
-            Call::At(place, Action::Collect(owner, guard, CollectorName(4))),
+            Call::At(
+                place,
+                Action::Collector(CollectorAction::Collect(owner, guard, CollectorName(4))),
+            ),
         ),
     ] {
         assert_eq!(rt; Call::parse(line.as_bytes()), Some(call), "{line:?}");

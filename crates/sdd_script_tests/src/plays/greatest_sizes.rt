@@ -2,8 +2,8 @@
 
 use sdd_core::Limits;
 use sdd_script::{
-    Action, Answer, BagName, Call, Ended, GuardName, ItemName, OwnerName, PlaceName, Reader, Reply,
-    Value, Writer, play, run,
+    Action, Answer, BagAction, BagName, Call, Ended, GuardName, ItemAction, ItemName, OwnerName,
+    PlaceName, Reader, Reply, Value, Writer, play, run,
 };
 use sdd_script_text::USUAL_LIMITS;
 use std::alloc::{AllocError, Global};
@@ -40,13 +40,13 @@ fn most_lines(alloc: Global, first: &str, line: &str) -> Result<String, AllocErr
 fn many_numbers(alloc: Global) -> Result<Vec<Call>, AllocError> {
     let mut calls = Vec::new(alloc);
     calls.push(Call::Register)?;
-    calls.push(Call::At(PlaceName(0), Action::Bag))?;
+    calls.push(Call::At(PlaceName(0), Action::Bag(BagAction::Make)))?;
     calls.push(Call::At(PlaceName(0), Action::Open))?;
     for number in 0..4_128 {
-        let add = Action::Add(BagName(0), number, GuardName(0));
+        let add = Action::Bag(BagAction::Add(BagName(0), number, GuardName(0)));
         calls.push(Call::At(PlaceName(0), add))?;
     }
-    let drain = Action::Drain(BagName(0), GuardName(0));
+    let drain = Action::Bag(BagAction::Drain(BagName(0), GuardName(0)));
     calls.push(Call::At(PlaceName(0), drain))?;
     Ok(calls)
 }
@@ -56,7 +56,10 @@ fn most_calls(alloc: Global) -> Result<Vec<Call>, AllocError> {
     let mut calls = Vec::new(alloc);
     calls.push(Call::Register)?;
     for number in 1..65_536 {
-        calls.push(Call::At(PlaceName(0), Action::Owned(Value::Number(number))))?;
+        calls.push(Call::At(
+            PlaceName(0),
+            Action::Item(ItemAction::Owned(Value::Number(number))),
+        ))?;
     }
     Ok(calls)
 }

@@ -4,8 +4,8 @@ use crate::devices::Page;
 use sdd_core::Refused;
 use sdd_participants::Tally;
 use sdd_script::{
-    Action, Answer, Call, Ended, OwnerName, PlaceName, Reader, Reply, Scene, Value, Writer, play,
-    run,
+    Action, Answer, Call, Ended, ItemAction, OwnerName, PlaceName, Reader, Reply, Scene, Value,
+    Writer, play, run,
 };
 use sdd_script_text::USUAL_LIMITS;
 use std::alloc::Global;
@@ -14,8 +14,11 @@ use std::process::Abort;
 /// One that registers, makes an item and retires it.
 const CALLS: [Call; 4] = [
     Call::Register,
-    Call::At(PlaceName(0), Action::Owned(Value::Number(7))),
-    Call::At(PlaceName(0), Action::Retire(OwnerName(0))),
+    Call::At(
+        PlaceName(0),
+        Action::Item(ItemAction::Owned(Value::Number(7))),
+    ),
+    Call::At(PlaceName(0), Action::Item(ItemAction::Retire(OwnerName(0)))),
     Call::Tally,
 ];
 

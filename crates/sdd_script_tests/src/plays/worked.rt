@@ -3,7 +3,7 @@
 use crate::devices::{Page, Trickle};
 use sdd_core::{Limits, Refused};
 use sdd_participants::Tally;
-use sdd_script::{Action, Call, Ended, PlaceName, Reader, Value, Writer, play, run};
+use sdd_script::{Action, Call, Ended, ItemAction, PlaceName, Reader, Value, Writer, play, run};
 use sdd_script_text::USUAL_LIMITS;
 use std::alloc::{AllocError, Global};
 
@@ -58,7 +58,10 @@ fn each_script_is_answered(rt: HostRuntime) {
 fn a_scene_shows_its_world_until_it_is_closed(rt: HostRuntime) -> Result<(), Refused> {
     let calls = [
         Call::Register,
-        Call::At(PlaceName(0), Action::Owned(Value::Number(7))),
+        Call::At(
+            PlaceName(0),
+            Action::Item(ItemAction::Owned(Value::Number(7))),
+        ),
     ];
     let (answers, scene) = run(rt.alloc(), USUAL_LIMITS, &calls)?;
     let shown = scene.world().tally();

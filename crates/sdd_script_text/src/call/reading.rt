@@ -7,7 +7,10 @@ ghost use Rattle.sdd_script_text.specs.Call.{IsNumber, HasNumber, word_of, spoke
 ghost use Rattle.sdd_script_text.specs.Reading.{IsNumberOf, numbered_at, argument_at, numbered_argument_at, few_arguments_at, with_arguments, with_four, with_list, with_list_number, with_one, with_three, with_two, called, action_at, call_at};
 
 use super::arguments::Arguments;
-use super::{Action, Argument, Call, Value, Word};
+use super::{
+    Action, Argument, BagAction, Call, CellAction, CollectorAction, ContainerAction, EntryAction,
+    GuardAction, HeldAction, ItemAction, LinkAction, RawAction, Value, Word,
+};
 use crate::first::split_word;
 use crate::name::{
     BagName, CellName, CollectorName, GuardName, ItemName, ListName, OwnerName, PlaceName,
@@ -100,10 +103,10 @@ fn spoken(verb: &str, arguments: &[Argument]) -> Option<Action>
     match *arguments {
         [] => match verb {
             "open" => Some(Action::Open),
-            "collector" => Some(Action::Collector),
-            "queue" => Some(Action::Queue),
-            "stack" => Some(Action::Stack),
-            "bag" => Some(Action::Bag),
+            "collector" => Some(Action::Collector(CollectorAction::Make)),
+            "queue" => Some(Action::Container(ContainerAction::Queue)),
+            "stack" => Some(Action::Container(ContainerAction::Stack)),
+            "bag" => Some(Action::Bag(BagAction::Make)),
             "end" => Some(Action::End),
             _ => None,
         },
@@ -121,7 +124,7 @@ fn spoken(verb: &str, arguments: &[Argument]) -> Option<Action>
             Argument::Owner(held),
             Argument::Tag(tag),
         ] => match verb {
-            "cas" => Some(Action::Exchange(cell, guard, item, old, held, tag)),
+            "cas" => Some(Action::Held(HeldAction::Exchange(cell, guard, item, old, held, tag))),
             _ => None,
         },
         _ => None,
@@ -133,8 +136,8 @@ fn with_number(verb: &str, number: u64) -> Option<Action>
     ensures { result ≡ called verb.now (with_one (Argument.Number number)) }
 {
     match verb {
-        "owned" => Some(Action::Owned(Value::Number(number))),
-        "shared" => Some(Action::Shared(Value::Number(number))),
+        "owned" => Some(Action::Item(ItemAction::Owned(Value::Number(number)))),
+        "shared" => Some(Action::Item(ItemAction::Shared(Value::Number(number)))),
         _ => None,
     }
 }
@@ -144,12 +147,12 @@ fn with_guard(verb: &str, guard: GuardName) -> Option<Action>
     ensures { result ≡ called verb.now (with_one (Argument.Guard guard)) }
 {
     match verb {
-        "epoch" => Some(Action::Epoch(guard)),
-        "garbage" => Some(Action::Garbage(guard)),
-        "set" => Some(Action::Set(guard)),
-        "accelerate" => Some(Action::Accelerate(guard)),
-        "defer" => Some(Action::Defer(guard)),
-        "close" => Some(Action::Close(guard)),
+        "epoch" => Some(Action::Guard(GuardAction::Epoch(guard))),
+        "garbage" => Some(Action::Guard(GuardAction::Garbage(guard))),
+        "set" => Some(Action::Guard(GuardAction::Set(guard))),
+        "accelerate" => Some(Action::Guard(GuardAction::Accelerate(guard))),
+        "defer" => Some(Action::Guard(GuardAction::Defer(guard))),
+        "close" => Some(Action::Guard(GuardAction::Close(guard))),
         _ => None,
     }
 }
@@ -159,12 +162,12 @@ fn with_owner(verb: &str, owner: OwnerName) -> Option<Action>
     ensures { result ≡ called verb.now (with_one (Argument.Owner (Some owner))) }
 {
     match verb {
-        "read" => Some(Action::Read(owner)),
-        "retire" => Some(Action::Retire(owner)),
-        "release" => Some(Action::Release(owner)),
-        "clone" => Some(Action::Clone(owner)),
-        "drop" => Some(Action::Drop(owner)),
-        "raw" => Some(Action::Raw(owner)),
+        "read" => Some(Action::Item(ItemAction::Read(owner))),
+        "retire" => Some(Action::Item(ItemAction::Retire(owner))),
+        "release" => Some(Action::Item(ItemAction::Release(owner))),
+        "clone" => Some(Action::Item(ItemAction::Clone(owner))),
+        "drop" => Some(Action::Raw(RawAction::Drop(owner))),
+        "raw" => Some(Action::Raw(RawAction::Raw(owner))),
         _ => None,
     }
 }
@@ -174,9 +177,9 @@ fn with_cell(verb: &str, cell: CellName) -> Option<Action>
     ensures { result ≡ called verb.now (with_one (Argument.Cell cell)) }
 {
     match verb {
-        "tag" => Some(Action::Tag(cell)),
-        "into" => Some(Action::Into(cell)),
-        "close" => Some(Action::CloseCell(cell)),
+        "tag" => Some(Action::Cell(CellAction::Tag(cell))),
+        "into" => Some(Action::Held(HeldAction::Into(cell))),
+        "close" => Some(Action::Cell(CellAction::Close(cell))),
         _ => None,
     }
 }
@@ -186,11 +189,11 @@ fn with_item(verb: &str, item: ItemName) -> Option<Action>
     ensures { result ≡ called verb.now (with_one (Argument.Item (Some item))) }
 {
     match verb {
-        "unraw" => Some(Action::Unraw(item)),
-        "mark" => Some(Action::Mark(item)),
-        "unmark" => Some(Action::Unmark(item)),
-        "delete" => Some(Action::Delete(item)),
-        "linktag" => Some(Action::LinkTag(item)),
+        "unraw" => Some(Action::Raw(RawAction::Unraw(item))),
+        "mark" => Some(Action::Link(LinkAction::Mark(item))),
+        "unmark" => Some(Action::Link(LinkAction::Unmark(item))),
+        "delete" => Some(Action::Link(LinkAction::Delete(item))),
+        "linktag" => Some(Action::Link(LinkAction::Tag(item))),
         _ => None,
     }
 }
@@ -206,19 +209,19 @@ fn with_one(verb: &str, argument: Argument) -> Option<Action>
         Argument::Cell(cell) => with_cell(verb, cell),
         Argument::Item(Some(item)) => with_item(verb, item),
         Argument::Queue(queue) => match verb {
-            "close" => Some(Action::CloseQueue(queue)),
+            "close" => Some(Action::Container(ContainerAction::CloseQueue(queue))),
             _ => None,
         },
         Argument::Stack(stack) => match verb {
-            "close" => Some(Action::CloseStack(stack)),
+            "close" => Some(Action::Container(ContainerAction::CloseStack(stack))),
             _ => None,
         },
         Argument::Bag(bag) => match verb {
-            "close" => Some(Action::CloseBag(bag)),
+            "close" => Some(Action::Bag(BagAction::Close(bag))),
             _ => None,
         },
         Argument::Collector(collector) => match verb {
-            "close" => Some(Action::CloseCollector(collector)),
+            "close" => Some(Action::Collector(CollectorAction::Close(collector))),
             _ => None,
         },
         _ => None,
@@ -230,11 +233,11 @@ fn with_list(verb: &str, list: ListName, guard: GuardName) -> Option<Action>
     ensures { result ≡ called verb.now (with_list list guard) }
 {
     match verb {
-        "pop" => Some(Action::Pop(list, guard)),
-        "peek" => Some(Action::Peek(list, guard)),
-        "len" => Some(Action::Len(list, guard)),
-        "list" => Some(Action::List(list, guard)),
-        "clonelist" => Some(Action::CloneList(list, guard)),
+        "pop" => Some(Action::Entry(EntryAction::Pop(list, guard))),
+        "peek" => Some(Action::Entry(EntryAction::Peek(list, guard))),
+        "len" => Some(Action::Entry(EntryAction::Len(list, guard))),
+        "list" => Some(Action::Entry(EntryAction::List(list, guard))),
+        "clonelist" => Some(Action::Container(ContainerAction::Clone(list, guard))),
         _ => None,
     }
 }
@@ -244,8 +247,8 @@ fn with_list_number(verb: &str, list: ListName, number: u64, guard: GuardName) -
     ensures { result ≡ called verb.now (with_list_number list number guard) }
 {
     match verb {
-        "push" => Some(Action::Push(list, number, guard)),
-        "popif" => Some(Action::PopIf(list, number, guard)),
+        "push" => Some(Action::Entry(EntryAction::Push(list, number, guard))),
+        "popif" => Some(Action::Entry(EntryAction::PopIf(list, number, guard))),
         _ => None,
     }
 }
@@ -255,9 +258,9 @@ fn with_bag(verb: &str, bag: BagName, guard: GuardName) -> Option<Action>
     ensures { result ≡ called verb.now (with_two (Argument.Bag bag) (Argument.Guard guard)) }
 {
     match verb {
-        "take" => Some(Action::Take(bag, guard)),
-        "drain" => Some(Action::Drain(bag, guard)),
-        "len" => Some(Action::LenBag(bag, guard)),
+        "take" => Some(Action::Bag(BagAction::Take(bag, guard))),
+        "drain" => Some(Action::Bag(BagAction::Drain(bag, guard))),
+        "len" => Some(Action::Bag(BagAction::Len(bag, guard))),
         _ => None,
     }
 }
@@ -268,22 +271,22 @@ fn with_guard_behind(verb: &str, first: Argument, guard: GuardName) -> Option<Ac
 {
     match first {
         Argument::Item(Some(item)) => match verb {
-            "look" => Some(Action::Look(item, guard)),
-            "upgrade" => Some(Action::Upgrade(item, guard)),
-            "see" => Some(Action::See(item, guard)),
-            "next" => Some(Action::Next(item, guard)),
+            "look" => Some(Action::Item(ItemAction::Look(item, guard))),
+            "upgrade" => Some(Action::Item(ItemAction::Upgrade(item, guard))),
+            "see" => Some(Action::Raw(RawAction::See(item, guard))),
+            "next" => Some(Action::Link(LinkAction::Next(item, guard))),
             _ => None,
         },
         Argument::Queue(queue) => with_list(verb, ListName::Queue(queue), guard),
         Argument::Stack(stack) => match verb {
-            "all" => Some(Action::All(stack, guard)),
+            "all" => Some(Action::Container(ContainerAction::All(stack, guard))),
             _ => with_list(verb, ListName::Stack(stack), guard),
         },
         Argument::Bag(bag) => with_bag(verb, bag, guard),
         Argument::Cell(cell) => match verb {
-            "load" => Some(Action::Load(cell, guard)),
-            "copy" => Some(Action::Copy(cell, guard)),
-            "share" => Some(Action::Share(cell, guard)),
+            "load" => Some(Action::Cell(CellAction::Load(cell, guard))),
+            "copy" => Some(Action::Held(HeldAction::Copy(cell, guard))),
+            "share" => Some(Action::Held(HeldAction::Share(cell, guard))),
             _ => None,
         },
         _ => None,
@@ -298,17 +301,17 @@ fn with_owner_behind(verb: &str, word: Word, held: Option<OwnerName>) -> Option<
         Word::Of => {
             let owner = held?;
             match verb {
-                "owned" => Some(Action::Owned(Value::Of(owner))),
-                "shared" => Some(Action::Shared(Value::Of(owner))),
+                "owned" => Some(Action::Item(ItemAction::Owned(Value::Of(owner)))),
+                "shared" => Some(Action::Item(ItemAction::Shared(Value::Of(owner)))),
                 _ => None,
             }
         }
         Word::Owned => match verb {
-            "cell" => Some(Action::CellOwned(held)),
+            "cell" => Some(Action::Cell(CellAction::Owned(held))),
             _ => None,
         },
         Word::Shared => match verb {
-            "cell" => Some(Action::CellShared(held)),
+            "cell" => Some(Action::Cell(CellAction::Shared(held))),
             _ => None,
         },
         _ => None,
@@ -327,11 +330,11 @@ fn with_two(verb: &str, first: Argument, second: Argument) -> Option<Action>
         },
         Argument::Number(number) => match first {
             Argument::Owner(Some(owner)) => match verb {
-                "put" => Some(Action::Put(owner, number)),
+                "put" => Some(Action::Raw(RawAction::Put(owner, number))),
                 _ => None,
             },
             Argument::Bag(bag) => match verb {
-                "try" => Some(Action::Try(bag, number)),
+                "try" => Some(Action::Bag(BagAction::Try(bag, number))),
                 _ => None,
             },
             _ => None,
@@ -346,7 +349,7 @@ fn with_three(verb: &str, first: Argument, second: Argument, third: Argument) ->
 {
     match (first, second, third) {
         (Argument::Cell(cell), Argument::Owner(held), Argument::Tag(tag)) => match verb {
-            "swap" => Some(Action::Swap(cell, held, tag)),
+            "swap" => Some(Action::Held(HeldAction::Swap(cell, held, tag))),
             _ => None,
         },
         (Argument::Queue(queue), Argument::Number(number), Argument::Guard(guard)) => {
@@ -356,12 +359,14 @@ fn with_three(verb: &str, first: Argument, second: Argument, third: Argument) ->
             with_list_number(verb, ListName::Stack(stack), number, guard)
         }
         (Argument::Bag(bag), Argument::Number(number), Argument::Guard(guard)) => match verb {
-            "add" => Some(Action::Add(bag, number, guard)),
+            "add" => Some(Action::Bag(BagAction::Add(bag, number, guard))),
             _ => None,
         },
         (Argument::Owner(Some(owner)), Argument::Guard(guard), Argument::Collector(collector)) =>
             match verb {
-                "collect" => Some(Action::Collect(owner, guard, collector)),
+                "collect" => Some(Action::Collector(CollectorAction::Collect(
+                    owner, guard, collector,
+                ))),
                 _ => None,
             },
         _ => None,
@@ -380,11 +385,11 @@ fn with_entry(
 {
     match word {
         Word::Mark => match verb {
-            "append" => Some(Action::Append(item, owner, true, guard)),
+            "append" => Some(Action::Link(LinkAction::Append(item, owner, true, guard))),
             _ => None,
         },
         Word::Plain => match verb {
-            "append" => Some(Action::Append(item, owner, false, guard)),
+            "append" => Some(Action::Link(LinkAction::Append(item, owner, false, guard))),
             _ => None,
         },
         _ => None,
@@ -404,7 +409,7 @@ fn with_four(
     match (first, second, third, fourth) {
         (Argument::Cell(cell), Argument::Tag(tag), Argument::Word(Word::If), Argument::Tag(old)) =>
             match verb {
-                "tagif" => Some(Action::TagIf(cell, tag, old)),
+                "tagif" => Some(Action::Cell(CellAction::TagIf(cell, tag, old))),
                 _ => None,
             },
         (
@@ -413,7 +418,12 @@ fn with_four(
             Argument::Number(newest),
             Argument::Guard(guard),
         ) => match verb {
-            "pushif" => Some(Action::PushIf(ListName::Queue(queue), number, newest, guard)),
+            "pushif" => Some(Action::Entry(EntryAction::PushIf(
+                ListName::Queue(queue),
+                number,
+                newest,
+                guard,
+            ))),
             _ => None,
         },
         (
@@ -422,7 +432,12 @@ fn with_four(
             Argument::Number(newest),
             Argument::Guard(guard),
         ) => match verb {
-            "pushif" => Some(Action::PushIf(ListName::Stack(stack), number, newest, guard)),
+            "pushif" => Some(Action::Entry(EntryAction::PushIf(
+                ListName::Stack(stack),
+                number,
+                newest,
+                guard,
+            ))),
             _ => None,
         },
         (

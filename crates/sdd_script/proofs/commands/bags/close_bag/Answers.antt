@@ -1,5 +1,5 @@
 use Rattle.sdd_script.proofs.Words.{◌≡◌, length, arith, rules, At, desk_of, Does, invalid}
-use Rattle.sdd_script_text.specs.declared.call.Action.TheVariants as call
+use Rattle.sdd_script_text.specs.Actions as call
 use Rattle.sdd_script_text.specs.declared.answer.Reply.TheVariants as reply
 use Rattle.sdd_script.proofs.BagActs.{acts-closed, no-bag}
 use Rattle.sdd_script.proofs.StackActs.{AreTold}

@@ -1,5 +1,5 @@
 use Rattle.sdd_script.proofs.Words.{◌≡◌, length, arith, rules, List, ℕ, subst, sym, At, desk_of, Does, invalid, IsNonDecreasing, IsPermutation, IsNonDecreasingBy-from_sort}
-use Rattle.sdd_script_text.specs.declared.call.Action.TheVariants as call
+use Rattle.sdd_script_text.specs.Actions as call
 use Rattle.sdd_script_text.specs.declared.answer.Reply.TheVariants as reply
 use Rattle.sdd_script.proofs.BagActs.{acts-drained, no-bag, put-so}
 use Rattle.sdd_script.proofs.StackActs.{AreTold}

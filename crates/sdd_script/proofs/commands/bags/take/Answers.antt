@@ -1,5 +1,5 @@
 use Rattle.sdd_script.proofs.Words.{◌≡◌, Some, length, slice_set, ap, ◌∙◌, arith, rules, At, NumberBag, desk_of, Does, invalid}
-use Rattle.sdd_script_text.specs.declared.call.Action.TheVariants as call
+use Rattle.sdd_script_text.specs.Actions as call
 use Rattle.sdd_script_text.specs.declared.answer.Reply.TheVariants as reply
 use Rattle.sdd_script.proofs.BagActs.{acts-dated-as-before, acts-empty, acts-took, no-bag, put-so}
 use Rattle.sdd_script.proofs.StackActs.{AreTold}

@@ -1,5 +1,5 @@
 use Rattle.sdd_script.proofs.Words.{Some, slice_set, refl, ap, ◌∙◌, HasSameCells, At, NumberBag, desk_of, Does, got, invalid, nobody}
-use Rattle.sdd_script_text.specs.declared.call.Action.TheVariants as call
+use Rattle.sdd_script_text.specs.Actions as call
 use Rattle.sdd_script_text.specs.declared.answer.Reply.TheVariants as reply
 use Rattle.sdd_script.proofs.BagActs.{acts-as-before, acts-kept, acts-tried, no-bag, put-so}
 use Rattle.sdd_script.proofs.commands.bags.try_add.Goals as goal

@@ -1,5 +1,5 @@
 use Rattle.sdd_script.proofs.Words.{sym, At, desk_of, Does, here, nobody}
-use Rattle.sdd_script_text.specs.declared.call.Action.TheVariants as call
+use Rattle.sdd_script_text.specs.Actions as call
 use Rattle.sdd_script_text.specs.declared.answer.Reply.TheVariants as reply
 use Rattle.sdd_script.proofs.CellActs.{acts-tagged}
 use Rattle.sdd_script.proofs.commands.cells.set_tag_if.Goals as goal

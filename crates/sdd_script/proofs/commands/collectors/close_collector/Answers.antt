@@ -1,7 +1,7 @@
 use Rattle.sdd_script.proofs.Words.{◌≡◌, ℕ, Option, None, Some, [], Vec, World, slice_index_or, slice_set, is_some, refl, length, sym, ap, ◌∙◌, arith, PrivateCollector, Val, At, Answers, Environment, IsTied, collector_holding, desk_of, number-is, answers-plain, attends, goes, invalid, here, restored, still-as}
 use Rattle.sdd_space.specs.Collector.{collector_of}
 use Rattle.sdd_script_model.proofs.WaitingFor.{found-inside}
-use Rattle.sdd_script_text.specs.declared.call.Action.TheVariants as call
+use Rattle.sdd_script_text.specs.Actions as call
 use Rattle.sdd_script_text.specs.declared.answer.Reply.TheVariants as reply
 use Rattle.sdd_script.proofs.CollectorActs.{answers-closed, no-collector}
 use Rattle.sdd_script.proofs.commands.collectors.close_collector.Goals as goal

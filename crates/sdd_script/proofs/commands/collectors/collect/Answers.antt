@@ -1,5 +1,5 @@
 use Rattle.sdd_script.proofs.Words.{At, desk_of, Does, invalid, under}
-use Rattle.sdd_script_text.specs.declared.call.Action.TheVariants as call
+use Rattle.sdd_script_text.specs.Actions as call
 use Rattle.sdd_script.proofs.CollectorActs.{acts-collected, no-collector, owner-dated}
 use Rattle.sdd_script.proofs.commands.collectors.collect.Goals as goal
 

@@ -1,5 +1,5 @@
 use Rattle.sdd_script.proofs.Words.{refl, map_push, At, collector_holding, desk_of, Does, attends, here, leaves, next, sits, collecting-leaves, nobody}
-use Rattle.sdd_script_text.specs.declared.call.Action.TheVariants as call
+use Rattle.sdd_script_text.specs.Actions as call
 use Rattle.sdd_script_text.specs.declared.answer.Reply.TheVariants as reply
 use Rattle.sdd_script.proofs.commands.collectors.make_collector.Goals as goal
 

@@ -1,5 +1,5 @@
 use Rattle.sdd_script.proofs.Words.{◌≡◌, ◌+◌, ◌≤◌, None, length, sym, ap, ◌∙◌, arith, rules, vec_capacity, length-map, Entry, At, entry_slots, Val, desk_of, Does, invalid, no-stack, stack-home}
-use Rattle.sdd_script_text.specs.declared.call.Action.TheVariants as call
+use Rattle.sdd_script_text.specs.Actions as call
 use Rattle.sdd_script_text.specs.declared.name.ListName.TheVariants as list
 use Rattle.sdd_script_text.specs.declared.answer.Reply.TheVariants as reply
 use Rattle.sdd_script.proofs.ContainerActs.{reader-is}

@@ -1,5 +1,5 @@
 use Rattle.sdd_script.proofs.Words.{inl, inr, refl, ap, is_some, map_push, cell_of, shared_cell, IsCell, At, cell_holding, desk_of, Does, invalid, leaves, next, sits, still, under, copied-leaves, named as named-as}
-use Rattle.sdd_script_text.specs.declared.call.Action.TheVariants as call
+use Rattle.sdd_script_text.specs.Actions as call
 use Rattle.sdd_script_text.specs.declared.answer.Reply.TheVariants as reply
 use Rattle.sdd_script.proofs.ExchangeActs.{copied-may, none-found, not-shared, share-full}
 use Rattle.sdd_script.proofs.commands.exchanges.copy.Goals as goal

@@ -1,5 +1,5 @@
 use Rattle.sdd_script.proofs.Words.{◌≡◌, ℕ, List, None, Option, IsSome, slice_index_or, refl, sym, ◌∙◌, subst, IfSome, At, cell_kind, desk_of, Does, goes, still-as, under, invalid}
-use Rattle.sdd_script_text.specs.declared.call.Action.TheVariants as call
+use Rattle.sdd_script_text.specs.Actions as call
 use Rattle.sdd_script_text.specs.declared.answer.Reply.TheVariants as reply
 use Rattle.sdd_script.proofs.CellActs.{named-home}
 use Rattle.sdd_script.proofs.ExchangeActs.{room-kept, can-put-back, same-back, compares, slot-compared, compared-stays, seen-as, seen-named, acts-exchanged, differs}

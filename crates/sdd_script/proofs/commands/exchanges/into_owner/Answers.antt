@@ -1,5 +1,5 @@
 use Rattle.sdd_script.proofs.Words.{sym, At, desk_of, given_back, Does, here, nobody}
-use Rattle.sdd_script_text.specs.declared.call.Action.TheVariants as call
+use Rattle.sdd_script_text.specs.Actions as call
 use Rattle.sdd_script.proofs.ExchangeActs.{acts-taken}
 use Rattle.sdd_script.proofs.commands.exchanges.into_owner.Goals as goal
 

@@ -1,5 +1,5 @@
 use Rattle.sdd_script.proofs.Words.{refl, sym, ap, is_some, map_push, cell_of, shared_cell, IsCell, At, cell_holding, owner_holding, desk_of, Does, invalid, leaves, next, sits, still, under, held-apart, named as named-as, shared-leaves}
-use Rattle.sdd_script_text.specs.declared.call.Action.TheVariants as call
+use Rattle.sdd_script_text.specs.Actions as call
 use Rattle.sdd_script_text.specs.declared.answer.Reply.TheVariants as reply
 use Rattle.sdd_script.proofs.ExchangeActs.{crowded, not-shared}
 use Rattle.sdd_script.proofs.commands.exchanges.share.Goals as goal

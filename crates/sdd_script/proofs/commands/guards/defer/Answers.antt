@@ -1,6 +1,6 @@
 use Rattle.sdd_script.proofs.Words.{◌+◌, refl, arith, At, desk_of, Does, leaves, place-is, sits, under, deferred-leaves, invalid}
 use Rattle.std.specs.Vec.{with_item}
-use Rattle.sdd_script_text.specs.declared.call.Action.TheVariants as call
+use Rattle.sdd_script_text.specs.Actions as call
 use Rattle.sdd_script_text.specs.declared.answer.Reply.TheVariants as reply
 use Rattle.sdd_script.proofs.commands.guards.defer.Goals as goal
 

@@ -1,5 +1,5 @@
 use Rattle.sdd_script.proofs.Words.{length, refl, ap, ◌∙◌, arith, At, Answers, Environment, IsTied, desk_of, slots_among, answers-plain, attends, here, place-is, sits, still, places-inside}
-use Rattle.sdd_script_text.specs.declared.call.Action.TheVariants as call
+use Rattle.sdd_script_text.specs.Actions as call
 use Rattle.sdd_script_text.specs.declared.answer.Reply.TheVariants as reply
 use Rattle.sdd_script_model.proofs.Gone.{slots-inside}
 use Rattle.sdd_script.proofs.GuardActs.{noted-is, answers-opened}

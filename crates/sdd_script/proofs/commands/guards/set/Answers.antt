@@ -1,5 +1,5 @@
 use Rattle.sdd_script.proofs.Words.{refl, At, desk_of, Does, leaves, place-is, sits, under, stirred-leaves, invalid}
-use Rattle.sdd_script_text.specs.declared.call.Action.TheVariants as call
+use Rattle.sdd_script_text.specs.Actions as call
 use Rattle.sdd_script_text.specs.declared.answer.Reply.TheVariants as reply
 use Rattle.sdd_script.proofs.commands.guards.set.Goals as goal
 

@@ -1,5 +1,5 @@
 use Rattle.sdd_script.proofs.Words.{◌≢◌, inl, is_some, slice_index_or, ap, ◌∙◌, At, IsTrue, IsLooseEntry, slot_at, desk_of, Share, Does, stays-here, invalid, no-shared, points, points-not, name-given, under}
-use Rattle.sdd_script_text.specs.declared.call.Action.TheVariants as call
+use Rattle.sdd_script_text.specs.Actions as call
 use Rattle.sdd_script_text.specs.declared.answer.Reply.TheVariants as reply
 use Rattle.sdd_space.specs.Shared.{slot_of}
 use Rattle.sdd_script.proofs.ContainerActs.{reader-is}

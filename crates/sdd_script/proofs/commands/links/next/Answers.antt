@@ -1,6 +1,6 @@
 use Rattle.sdd_script.proofs.Words.{length, slice_index_or, ap, ◌∙◌, arith, At, desk_of, Does, stays-here, invalid, points, points-not, name-given, under}
 use Rattle.sdd_core.specs.declared.tag.Tag.TheVariants.{None as no_tag}
-use Rattle.sdd_script_text.specs.declared.call.Action.TheVariants as call
+use Rattle.sdd_script_text.specs.Actions as call
 use Rattle.sdd_script_text.specs.declared.answer.Reply.TheVariants as reply
 use Rattle.sdd_script.proofs.ContainerActs.{reader-is}
 use Rattle.sdd_script.proofs.LinkActs.{acts-next, behind, next-named}

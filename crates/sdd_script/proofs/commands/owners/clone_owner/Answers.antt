@@ -1,5 +1,5 @@
 use Rattle.sdd_script.proofs.Words.{ap, is_some, refl, map_push, shared_slot, slot_of, At, desk_of, owner_holding, Does, attends, here, leaves, next, sits, starts, still, named as named-as, owned-apart, owner-outside, shared-leaves, nobody}
-use Rattle.sdd_script_text.specs.declared.call.Action.TheVariants as call
+use Rattle.sdd_script_text.specs.Actions as call
 use Rattle.sdd_script_text.specs.declared.answer.Reply.TheVariants as reply
 use Rattle.sdd_script.proofs.commands.owners.clone_owner.Goals as goal
 

@@ -3,7 +3,7 @@ use Rattle.sdd_space.specs.declared.shared.Shared.{Shared}
 use Rattle.std.specs.Vec.{with_item}
 use Rattle.sdd_participants.specs.declared.standing.Standing.TheVariants as standing
 use Rattle.sdd_space.specs.Shared as shared
-use Rattle.sdd_script_text.specs.declared.call.Action.TheVariants as call
+use Rattle.sdd_script_text.specs.Actions as call
 use Rattle.sdd_script_text.specs.declared.answer.Reply.TheVariants as reply
 use Rattle.sdd_script.proofs.commands.owners.release.Goals.{then-was_last, else-was_last}
 use Rattle.sdd_script.proofs.commands.owners.release.Goals as goal

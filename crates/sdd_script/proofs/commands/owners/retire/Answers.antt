@@ -1,6 +1,6 @@
 use Rattle.sdd_script.proofs.Words.{ap, is_some, refl, map-set, sole_slot, At, desk_of, owner_holding, Does, attends, here, leaves, place-is, sits, named as named-as, retired-leaves, nobody}
 use Rattle.std.specs.Vec.{with_item}
-use Rattle.sdd_script_text.specs.declared.call.Action.TheVariants as call
+use Rattle.sdd_script_text.specs.Actions as call
 use Rattle.sdd_script_text.specs.declared.answer.Reply.TheVariants as reply
 use Rattle.sdd_script.proofs.commands.owners.retire.Goals as goal
 

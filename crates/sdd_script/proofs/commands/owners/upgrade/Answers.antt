@@ -1,5 +1,5 @@
 use Rattle.sdd_script.proofs.Words.{slice_index_or, ap, refl, ◌∙◌, At, desk_of, owner_holding, Does, leaves, next, points, sits, stays-here, there-apart, under, shared-leaves, invalid}
-use Rattle.sdd_script_text.specs.declared.call.Action.TheVariants as call
+use Rattle.sdd_script_text.specs.Actions as call
 use Rattle.sdd_script_text.specs.declared.answer.Reply.TheVariants as reply
 use Rattle.sdd_script.proofs.Making.{shared-more}
 use Rattle.sdd_script.proofs.commands.owners.upgrade.Goals as goal

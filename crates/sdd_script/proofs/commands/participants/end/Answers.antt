@@ -1,5 +1,5 @@
 use Rattle.sdd_script.proofs.Words.{At, desk_of, Does, here, nobody}
-use Rattle.sdd_script_text.specs.declared.call.Action.TheVariants as call
+use Rattle.sdd_script_text.specs.Actions as call
 use Rattle.sdd_script_text.specs.declared.answer.Reply.TheVariants as reply
 use Rattle.sdd_script.proofs.GuardActs.{acts-ended}
 use Rattle.sdd_script.proofs.commands.participants.end.Goals as goal

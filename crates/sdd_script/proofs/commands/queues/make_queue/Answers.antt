@@ -1,5 +1,5 @@
 use Rattle.sdd_script.proofs.Words.{length, ap, ◌∙◌, got, nobody}
-use Rattle.sdd_script_text.specs.declared.call.Action.TheVariants as call
+use Rattle.sdd_script_text.specs.Actions as call
 use Rattle.sdd_script.proofs.QueueActs.{acts-no_cells, acts-queue_begun}
 use Rattle.sdd_script.proofs.commands.queues.make_queue.Goals as goal
 

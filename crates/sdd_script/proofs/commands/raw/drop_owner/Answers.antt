@@ -1,5 +1,5 @@
 use Rattle.sdd_script.proofs.Words.{◌≡◌, sym, arith, At, owner_holding, desk_of, Does, goes, here, restored, still-as, nobody}
-use Rattle.sdd_script_text.specs.declared.call.Action.TheVariants as call
+use Rattle.sdd_script_text.specs.Actions as call
 use Rattle.sdd_script.proofs.RawActs.{acts-dropped, drop-refused}
 use Rattle.sdd_script.proofs.commands.raw.drop_owner.Goals as goal
 

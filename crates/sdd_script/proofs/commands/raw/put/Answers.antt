@@ -1,5 +1,5 @@
 use Rattle.sdd_script.proofs.Words.{◌≡◌, None, refl, sym, false≢true, length-set, At, at-default, inside, invalid, owner_holding, desk_of, Does, goes, here, restored, still-as, nobody}
-use Rattle.sdd_script_text.specs.declared.call.Action.TheVariants as call
+use Rattle.sdd_script_text.specs.Actions as call
 use Rattle.sdd_script_text.specs.declared.answer.Reply.TheVariants as reply
 use Rattle.sdd_script_model.proofs.Entry.{is-there}
 use Rattle.sdd_script.proofs.RawActs.{acts-put, one-held, owns-none, put-refused, same-value}

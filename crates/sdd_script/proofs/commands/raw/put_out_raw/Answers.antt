@@ -1,7 +1,7 @@
 use Rattle.sdd_script.proofs.Words.{◌≡◌, ℕ, None, Some, IsSome, is_some, slice_index_or, refl, sym, ap, ◌∙◌, map-set, standing_at, is_out, sole_slot, item_in, At, Environment, owner_holding, desk_of, IsTied, Does, attends, here, leaves, sits, Owned, name-some, named as named-as, off-standing, raw-leaves, nobody}
 use Rattle.sdd_script_model.specs.Sound.{named}
 use Rattle.sdd_participants.specs.declared.standing.Standing.TheVariants.{Shared}
-use Rattle.sdd_script_text.specs.declared.call.Action.TheVariants as call
+use Rattle.sdd_script_text.specs.Actions as call
 use Rattle.sdd_script_text.specs.declared.answer.Reply.TheVariants as reply
 use Rattle.sdd_script.proofs.commands.raw.put_out_raw.Goals as goal
 

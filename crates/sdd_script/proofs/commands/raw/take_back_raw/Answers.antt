@@ -1,5 +1,5 @@
 use Rattle.sdd_script.proofs.Words.{slice_index_or, ap, refl, ◌∙◌, map_push, At, owner_holding, desk_of, Does, attends, here, leaves, next, sits, back-leaves, nobody}
-use Rattle.sdd_script_text.specs.declared.call.Action.TheVariants as call
+use Rattle.sdd_script_text.specs.Actions as call
 use Rattle.sdd_script_text.specs.declared.answer.Reply.TheVariants as reply
 use Rattle.sdd_script.proofs.RawActs.{there-from}
 use Rattle.sdd_script.proofs.commands.raw.take_back_raw.Goals as goal

@@ -1,5 +1,5 @@
 use Rattle.sdd_script.proofs.Words.{◌≡◌, length, sym, ◌∙◌, arith, rules, At, desk_of, Does, invalid, no-stack, stack-home}
-use Rattle.sdd_script_text.specs.declared.call.Action.TheVariants as call
+use Rattle.sdd_script_text.specs.Actions as call
 use Rattle.sdd_script_text.specs.declared.answer.Reply.TheVariants as reply
 use Rattle.sdd_script.proofs.StackActs.{AreTold, acts-closed}
 use Rattle.sdd_script.proofs.commands.stacks.close_stack.Goals as goal

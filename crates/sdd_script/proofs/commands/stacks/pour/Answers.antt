@@ -1,5 +1,5 @@
 use Rattle.sdd_script.proofs.Words.{length, ap, ◌∙◌, NoCell, At, desk_of, Does, does, goes, invalid, no-stack, stack-home}
-use Rattle.sdd_script_text.specs.declared.call.Action.TheVariants as call
+use Rattle.sdd_script_text.specs.Actions as call
 use Rattle.sdd_script_text.specs.declared.answer.Reply.TheVariants as reply
 use Rattle.sdd_script.proofs.StackActs.{acts-pour_refused, acts-poured, stack-entries}
 use Rattle.sdd_script.proofs.commands.stacks.pour.Goals as goal
