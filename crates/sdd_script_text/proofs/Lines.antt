@@ -21,7 +21,7 @@ use Rattle.sdd_script_text.specs.Actions as action
 use Rattle.sdd_script_text.specs.declared.call.Value.TheVariants as value
 use Rattle.sdd_script_text.specs.declared.call.Argument.{Argument}
 use Rattle.sdd_script_text.specs.declared.call.Argument.TheVariants.{Number, Guard, Owner, Item, Cell, Collector, Queue, Stack, Bag, Tag, Word}
-use Rattle.sdd_script_text.specs.declared.call.Word.TheVariants.{Owned, Of, If, Was, Now, Mark}
+use Rattle.sdd_script_text.specs.declared.call.Word.TheVariants.{Owned, Of, If, Was, Now, Mark, Plain}
 use Rattle.sdd_script_text.specs.Reading.{IsNumberOf, number_at, numbered_at, numbered_argument_at, plain_arguments, argument_among, argument_at, place_call_at, call_at, most_arguments, arguments_at, few_arguments_at, with_arguments, called, ◌>>=◌}
 
 -- ---- words
@@ -266,18 +266,18 @@ all_joined n w (a ∷ xs) h k =
 
 -- the actions with some arguments have these arguments
 with_said : (xs : List Argument) → AllByRecursion (λ action. (spoken action).1 ≡ xs) (with_arguments xs)
-with_said (Cell c ∷ Guard g ∷ Word Was ∷ Item y ∷ Tag t ∷ Word Now ∷ Owner x ∷ Tag u ∷ []) = search rules
-with_said (Cell c ∷ Tag t ∷ Word If ∷ Tag u ∷ []) = search rules
-with_said (Cell c ∷ Owner x ∷ Tag t ∷ []) = search rules
-with_said (Item (Some i) ∷ Owner (Some o) ∷ Word Mark ∷ Guard g ∷ []) = search rules
-with_said (Item (Some i) ∷ Owner (Some o) ∷ Word w ∷ Guard g ∷ []) = search rules
-with_said (Queue q ∷ Number n ∷ Number m ∷ Guard g ∷ []) = search rules
-with_said (Stack s ∷ Number n ∷ Number m ∷ Guard g ∷ []) = search rules
-with_said (Bag b ∷ Number n ∷ Guard g ∷ []) = search rules
-with_said (Owner (Some o) ∷ Guard g ∷ Collector k ∷ []) = search rules
-with_said (Word Of ∷ Owner (Some o) ∷ []) = search rules
-with_said (Word w ∷ Owner x ∷ []) = search rules
-with_said (a ∷ b ∷ c ∷ d ∷ []) = search rules
+with_said (Cell c ∷ Guard g ∷ Word Was ∷ Item y ∷ Tag t ∷ Word Now ∷ Owner x ∷ Tag u ∷ []) = (refl, tt)
+with_said (a ∷ b ∷ c ∷ d ∷ e ∷ f ∷ g ∷ h ∷ []) = tt
+with_said (a ∷ b ∷ c ∷ d ∷ e ∷ xs) = tt
+with_said (Cell c ∷ Tag t ∷ Word If ∷ Tag u ∷ []) = (refl, tt)
+with_said (Item (Some i) ∷ Owner (Some o) ∷ Word Mark ∷ Guard g ∷ []) = (refl, tt)
+with_said (Item (Some i) ∷ Owner (Some o) ∷ Word Plain ∷ Guard g ∷ []) = (refl, tt)
+with_said (Queue q ∷ Number n ∷ Number m ∷ Guard g ∷ []) = (refl, tt)
+with_said (Stack s ∷ Number n ∷ Number m ∷ Guard g ∷ []) = (refl, tt)
+with_said (a ∷ b ∷ c ∷ d ∷ []) = tt
+with_said (Cell c ∷ Owner x ∷ Tag t ∷ []) = (refl, tt)
+with_said (Bag b ∷ Number n ∷ Guard g ∷ []) = (refl, tt)
+with_said (Owner (Some o) ∷ Guard g ∷ Collector k ∷ []) = (refl, tt)
 with_said arguments = search rules
 
 called_said : (verb : List ℕ) (xs : List Argument) (actions : List Action) (action : Action) → AllByRecursion (λ a. (spoken a).1 ≡ xs) actions →

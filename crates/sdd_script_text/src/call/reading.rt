@@ -4,7 +4,7 @@ ghost use Rattle.std.specs.Prelude.{◌≡◌, [], ◌∷◌, ◌<◌, Some, IfS
 ghost use Rattle.std.specs.List.{AllByRecursion};
 ghost use Rattle.std.specs.Fmt.{decimal};
 ghost use Rattle.sdd_script_text.specs.Call.{IsNumber, HasNumber, word_of, spoken, HasNumbers, words, words_of};
-ghost use Rattle.sdd_script_text.specs.Reading.{IsNumberOf, numbered_at, argument_at, numbered_argument_at, few_arguments_at, with_arguments, with_four, with_list, with_list_number, with_one, with_three, with_two, called, action_at, call_at};
+ghost use Rattle.sdd_script_text.specs.Reading.{IsNumberOf, numbered_at, argument_at, numbered_argument_at, few_arguments_at, with_arguments, with_eight, with_four, with_list, with_list_number, with_one, with_three, with_two, called, action_at, call_at};
 
 use super::arguments::Arguments;
 use super::{
@@ -96,37 +96,62 @@ fn arguments(text: &str) -> Option<Arguments>
     Some(found)
 }
 
-/// The verbs, each with its arguments. Its own are those with none or with eight.
+/// The verbs, each with its arguments.
 fn spoken(verb: &str, arguments: &[Argument]) -> Option<Action>
     ensures { result ≡ called verb.now (with_arguments arguments.now) }
 {
     match *arguments {
-        [] => match verb {
-            "open" => Some(Action::Open),
-            "collector" => Some(Action::Collector(CollectorAction::Make)),
-            "queue" => Some(Action::Container(ContainerAction::Queue)),
-            "stack" => Some(Action::Container(ContainerAction::Stack)),
-            "bag" => Some(Action::Bag(BagAction::Make)),
-            "end" => Some(Action::End),
-            _ => None,
-        },
+        [] => with_none(verb),
         [argument] => with_one(verb, argument),
         [first, second] => with_two(verb, first, second),
         [first, second, third] => with_three(verb, first, second, third),
         [first, second, third, fourth] => with_four(verb, first, second, third, fourth),
-        [
-            Argument::Cell(cell),
-            Argument::Guard(guard),
-            Argument::Word(Word::Was),
-            Argument::Item(item),
-            Argument::Tag(old),
-            Argument::Word(Word::Now),
-            Argument::Owner(held),
-            Argument::Tag(tag),
-        ] => match verb {
-            "cas" => Some(Action::Held(HeldAction::Exchange(cell, guard, item, old, held, tag))),
-            _ => None,
-        },
+        [cell, guard, was, item, old, now, held, tag] => {
+            with_eight(verb, (cell, guard, was, item), (old, now, held, tag))
+        }
+        _ => None,
+    }
+}
+
+/// The verbs with no argument.
+fn with_none(verb: &str) -> Option<Action>
+    ensures { result ≡ called verb.now (with_arguments []) }
+{
+    match verb {
+        "open" => Some(Action::Open),
+        "collector" => Some(Action::Collector(CollectorAction::Make)),
+        "queue" => Some(Action::Container(ContainerAction::Queue)),
+        "stack" => Some(Action::Container(ContainerAction::Stack)),
+        "bag" => Some(Action::Bag(BagAction::Make)),
+        "end" => Some(Action::End),
+        _ => None,
+    }
+}
+
+/// The verb with eight arguments: the first four say what is looked for, and the last four what is put in its place.
+fn with_eight(
+    verb: &str,
+    sought: (Argument, Argument, Argument, Argument),
+    put: (Argument, Argument, Argument, Argument),
+) -> Option<Action>
+    ensures { result ≡ called verb.now (with_eight sought.0 sought.1 sought.2 sought.3 put.0 put.1 put.2 put.3) }
+{
+    let (
+        Argument::Cell(cell),
+        Argument::Guard(guard),
+        Argument::Word(Word::Was),
+        Argument::Item(item),
+    ) = sought
+    else {
+        return None;
+    };
+    let (Argument::Tag(old), Argument::Word(Word::Now), Argument::Owner(held), Argument::Tag(tag)) =
+        put
+    else {
+        return None;
+    };
+    match verb {
+        "cas" => Some(Action::Held(HeldAction::Exchange(cell, guard, item, old, held, tag))),
         _ => None,
     }
 }
