@@ -21,7 +21,7 @@ use Rattle.sdd_script_text.specs.Actions as action
 use Rattle.sdd_script_text.specs.declared.call.Value.TheVariants as value
 use Rattle.sdd_script_text.specs.declared.call.Argument.{Argument}
 use Rattle.sdd_script_text.specs.declared.call.Argument.TheVariants.{Number, Guard, Owner, Item, Cell, Collector, Queue, Stack, Bag, Tag, Word}
-use Rattle.sdd_script_text.specs.declared.call.Word.TheVariants.{Owned, Of, If, Was, Now, Mark, Plain}
+use Rattle.sdd_script_text.specs.declared.call.Word.TheVariants.{Owned, If, Was, Now, Mark, Plain}
 use Rattle.sdd_script_text.specs.Reading.{IsNumberOf, number_at, numbered_at, numbered_argument_at, plain_arguments, argument_among, argument_at, place_call_at, call_at, most_arguments, arguments_at, few_arguments_at, with_arguments, called, ◌>>=◌}
 
 -- ---- words

@@ -1,8 +1,11 @@
 //! The answers of a script, each of which is a line.
 
-ghost use Rattle.std.specs.Prelude.{◌≡◌, ℕ, List, [], ◌∷◌, ◌++◌, map, Some, OnOk, IfOk, IfErr, string_bytes};
+ghost use Rattle.std.specs.Prelude.{◌≡◌, ℕ, List, [], ◌∷◌, ◌++◌, codes, map, Some, OnOk, IfOk, IfErr, string_bytes};
+ghost use Rattle.std.specs.Fmt.{◌++?◌, DisplaysOnOk, WritesOnOk};
+ghost use Rattle.sdd_script_text.specs.Call.{joined};
+ghost use Rattle.sdd_script_text.specs.declared.answer.Reply.TheVariants as Reply;
 ghost use Rattle.sdd_script_text.specs.Name.{tag as word_of_tag};
-ghost use Rattle.sdd_script_text.specs.Answer.{refusal, ending, text_of, text_of_all, text_of_fault};
+ghost use Rattle.sdd_script_text.specs.Answer.{refusal, ending, words_of_reply, text_of, text_of_all, text_of_fault};
 
 use crate::name::{
     BagName, CellName, CollectorName, GuardName, ItemName, JobName, Names, OwnerName, PlaceName,
@@ -13,7 +16,7 @@ use sdd_core::inner::number_of_refusal;
 use sdd_core::{Epoch, Refused, Tag};
 use sdd_participants::Tally;
 use std::alloc::{AllocError, Global};
-use std::fmt;
+use std::fmt::{self, Display};
 
 /// What a call answered.
 #[derive(Debug, Drop)]
@@ -89,57 +92,126 @@ impl fmt::Display for Reply {
     ghost output = { λ reply. Some (joined (words_of_reply reply)) };
 
     fn fmt<W: fmt::Write>(&self, f: &mut fmt::Formatter<W>) -> fmt::Result {
-        match *self {
-            Reply::Place(place) => write!(f, "{place}"),
-            Reply::Tally(
-                Tally {
-                    made,
-                    reclaimed,
-                    in_place,
-                },
-            ) => write!(f, "made {made} reclaimed {reclaimed} in place {in_place}"),
-            Reply::Guard(guard, epoch) => write!(f, "{guard} epoch {}", u8::from(epoch)),
-            Reply::Epoch(epoch) => write!(f, "{}", u8::from(epoch)),
-            Reply::Truth(truth) => write!(f, "{truth}"),
-            Reply::Done => write!(f, "ok"),
-            Reply::Deleted => write!(f, "deleted"),
-            Reply::Job(job) => write!(f, "{job}"),
-            Reply::Collector(collector) => write!(f, "{collector}"),
-            Reply::Queue(queue) => write!(f, "{queue}"),
-            Reply::Stack(stack) => write!(f, "{stack}"),
-            Reply::Bag(bag) => write!(f, "{bag}"),
-            Reply::Popped(owner, number) => write!(f, "{owner} {number}"),
-            Reply::Many(many) => write!(f, "{many}"),
-            Reply::Kept(number) => write!(f, "kept {number}"),
-            Reply::KeptEntry(owner, number) => write!(f, "kept {owner} {number}"),
-            Reply::Numbers(ref numbers) => write!(f, "{numbers}"),
-            Reply::Item(owner, item) => write!(f, "{owner} {item}"),
-            Reply::Owner(owner) => write!(f, "{owner}"),
-            Reply::Nothing => write!(f, "none"),
-            Reply::Raw(item) => write!(f, "{item}"),
-            Reply::Value(value) => write!(f, "{value}"),
-            Reply::Holding(item) => write!(f, "of {item}"),
-            Reply::Cell(cell) => write!(f, "{cell}"),
-            Reply::Pointer(Some(item), tag) => write!(f, "{item} {}", name_of_tag(tag)),
-            Reply::Pointer(None, tag) => write!(f, "null {}", name_of_tag(tag)),
-            Reply::Tag(tag) => write!(f, "{}", name_of_tag(tag)),
-            Reply::Swapped(Some(owner), tag) => write!(f, "{owner} {}", name_of_tag(tag)),
-            Reply::Swapped(None, tag) => write!(f, "none {}", name_of_tag(tag)),
-            Reply::Exchanged(Some(owner)) => write!(f, "ok {owner}"),
-            Reply::Exchanged(None) => write!(f, "ok none"),
-            Reply::Differs(Some(item), tag) => write!(f, "differs {item} {}", name_of_tag(tag)),
-            Reply::Differs(None, tag) => write!(f, "differs null {}", name_of_tag(tag)),
-            Reply::Refused(refused) => {
-                write!(
-                    f,
-                    "refused {} {}",
-                    number_of_refusal(refused),
-                    name_of(refused)
-                )
-            }
-            Reply::Invalid => write!(f, "invalid"),
+        match self {
+            Reply::Place(place) => place.fmt(f),
+            Reply::Tally(tally) => write_tally(f, tally),
+            Reply::Guard(guard, epoch) => write_three(f, *guard, "epoch", u8::from(*epoch)),
+            Reply::Epoch(epoch) => u8::from(*epoch).fmt(f),
+            Reply::Truth(truth) => truth.fmt(f),
+            Reply::Done => f.write_str("ok"),
+            Reply::Deleted => f.write_str("deleted"),
+            Reply::Job(job) => job.fmt(f),
+            Reply::Collector(collector) => collector.fmt(f),
+            Reply::Queue(queue) => queue.fmt(f),
+            Reply::Stack(stack) => stack.fmt(f),
+            Reply::Bag(bag) => bag.fmt(f),
+            Reply::Popped(owner, number) => write_two(f, *owner, *number),
+            Reply::Many(many) => many.fmt(f),
+            Reply::Kept(number) => write_two(f, "kept", *number),
+            Reply::KeptEntry(owner, number) => write_three(f, "kept", *owner, *number),
+            Reply::Numbers(numbers) => numbers.fmt(f),
+            Reply::Item(owner, item) => write_two(f, *owner, *item),
+            Reply::Owner(owner) => owner.fmt(f),
+            Reply::Nothing => f.write_str("none"),
+            Reply::Raw(item) => item.fmt(f),
+            Reply::Value(value) => value.fmt(f),
+            Reply::Holding(item) => write_two(f, "of", *item),
+            Reply::Cell(cell) => cell.fmt(f),
+            Reply::Pointer(item, tag) => write_two(f, Target(*item), name_of_tag(*tag)),
+            Reply::Tag(tag) => f.write_str(name_of_tag(*tag)),
+            Reply::Swapped(owner, tag) => write_two(f, Held(*owner), name_of_tag(*tag)),
+            Reply::Exchanged(owner) => write_two(f, "ok", Held(*owner)),
+            Reply::Differs(item, tag) => write_three(
+                f,
+                "differs",
+                Target(*item),
+                name_of_tag(*tag),
+            ),
+            Reply::Refused(refused) => write_refusal(f, *refused),
+            Reply::Invalid => f.write_str("invalid"),
         }
     }
+}
+
+/// An owner, or `none`.
+#[derive(Clone, Copy)]
+struct Held(Option<OwnerName>);
+
+impl fmt::Display for Held {
+    ghost use Rattle.std.specs.Prelude.{Some};
+    ghost use Rattle.sdd_script_text.specs.Answer.{held};
+
+    ghost output = { λ owner. Some (held owner.0) };
+
+    fn fmt<W: fmt::Write>(&self, f: &mut fmt::Formatter<W>) -> fmt::Result {
+        match self.0 {
+            Some(owner) => owner.fmt(f),
+            None => f.write_str("none"),
+        }
+    }
+}
+
+/// An item, or `null`.
+#[derive(Clone, Copy)]
+struct Target(Option<ItemName>);
+
+impl fmt::Display for Target {
+    ghost use Rattle.std.specs.Prelude.{Some};
+    ghost use Rattle.sdd_script_text.specs.Answer.{target};
+
+    ghost output = { λ item. Some (target item.0) };
+
+    fn fmt<W: fmt::Write>(&self, f: &mut fmt::Formatter<W>) -> fmt::Result {
+        match self.0 {
+            Some(item) => item.fmt(f),
+            None => f.write_str("null"),
+        }
+    }
+}
+
+/// Writes two words, with a space between them.
+fn write_two<W: fmt::Write, A: Display + Copy, B: Display + Copy>(
+    f: &mut fmt::Formatter<W>,
+    first: A,
+    second: B,
+) -> fmt::Result
+    ensures { DisplaysOnOk W.write_str_gives f.old result (A.output first ++? Some (codes " ") ++? B.output second) f.new }
+{
+    write!(f, "{first} {second}")
+}
+
+/// Writes three words, with a space between two of them.
+fn write_three<W: fmt::Write, A: Display + Copy, B: Display + Copy, C: Display + Copy>(
+    f: &mut fmt::Formatter<W>,
+    first: A,
+    second: B,
+    third: C,
+) -> fmt::Result
+    ensures { DisplaysOnOk W.write_str_gives f.old result (A.output first ++? Some (codes " ") ++? B.output second ++? Some (codes " ") ++? C.output third) f.new }
+{
+    write!(f, "{first} {second} {third}")
+}
+
+fn write_tally<W: fmt::Write>(f: &mut fmt::Formatter<W>, tally: &Tally) -> fmt::Result
+    ensures { WritesOnOk W.write_str_gives f.old result (joined (words_of_reply (Reply.Tally tally.now))) f.new }
+{
+    let Tally {
+        made,
+        reclaimed,
+        in_place,
+    } = *tally;
+    write!(f, "made {made} reclaimed {reclaimed} in place {in_place}")
+}
+
+fn write_refusal<W: fmt::Write>(f: &mut fmt::Formatter<W>, refused: Refused) -> fmt::Result
+    ensures { WritesOnOk W.write_str_gives f.old result (joined (words_of_reply (Reply.Refused refused))) f.new }
+{
+    write!(
+        f,
+        "refused {} {}",
+        number_of_refusal(refused),
+        name_of(refused)
+    )
 }
 
 /// An answer: the reply, and the items reclaimed and the jobs run during the call, as they are to be printed.

@@ -290,23 +290,37 @@ fn with_bag(verb: &str, bag: BagName, guard: GuardName) -> Option<Action>
     }
 }
 
+/// The verbs with a stack and a guard.
+fn with_stack(verb: &str, stack: StackName, guard: GuardName) -> Option<Action>
+    ensures { result ≡ called verb.now (with_two (Argument.Stack stack) (Argument.Guard guard)) }
+{
+    match verb {
+        "all" => Some(Action::Container(ContainerAction::All(stack, guard))),
+        _ => with_list(verb, ListName::Stack(stack), guard),
+    }
+}
+
+/// The verbs with an item and a guard.
+fn with_item_and_guard(verb: &str, item: ItemName, guard: GuardName) -> Option<Action>
+    ensures { result ≡ called verb.now (with_two (Argument.Item (Some item)) (Argument.Guard guard)) }
+{
+    match verb {
+        "look" => Some(Action::Item(ItemAction::Look(item, guard))),
+        "upgrade" => Some(Action::Item(ItemAction::Upgrade(item, guard))),
+        "see" => Some(Action::Raw(RawAction::See(item, guard))),
+        "next" => Some(Action::Link(LinkAction::Next(item, guard))),
+        _ => None,
+    }
+}
+
 /// The verbs with a guard behind another argument.
 fn with_guard_behind(verb: &str, first: Argument, guard: GuardName) -> Option<Action>
     ensures { result ≡ called verb.now (with_two first (Argument.Guard guard)) }
 {
     match first {
-        Argument::Item(Some(item)) => match verb {
-            "look" => Some(Action::Item(ItemAction::Look(item, guard))),
-            "upgrade" => Some(Action::Item(ItemAction::Upgrade(item, guard))),
-            "see" => Some(Action::Raw(RawAction::See(item, guard))),
-            "next" => Some(Action::Link(LinkAction::Next(item, guard))),
-            _ => None,
-        },
+        Argument::Item(Some(item)) => with_item_and_guard(verb, item, guard),
         Argument::Queue(queue) => with_list(verb, ListName::Queue(queue), guard),
-        Argument::Stack(stack) => match verb {
-            "all" => Some(Action::Container(ContainerAction::All(stack, guard))),
-            _ => with_list(verb, ListName::Stack(stack), guard),
-        },
+        Argument::Stack(stack) => with_stack(verb, stack, guard),
         Argument::Bag(bag) => with_bag(verb, bag, guard),
         Argument::Cell(cell) => match verb {
             "load" => Some(Action::Cell(CellAction::Load(cell, guard))),
