@@ -1,24 +1,18 @@
 //! Bags, in a turn at a world.
-ghost use Rattle.std.specs.Prelude.{◌≡◌, ◌≤◌, List, MatchOption, MatchResult, [], length, vec_capacity};
+ghost use Rattle.std.specs.Prelude.{◌≡◌, List};
 ghost use Rattle.sdd_space.specs.CallerId.{reader_at};
 ghost use Rattle.sdd_space.specs.Guard.{reader_of};
 ghost use Rattle.sdd_space.specs.World.{World, IsPlaceOf};
 ghost use Rattle.sdd_lists.specs.Lists.{Entry};
-ghost use Rattle.sdd_lists.specs.Queue.{HasOneAtMost};
-ghost use Rattle.sdd_bag.specs.Bag.{IsBag, IsOfCells, primary_of, values_of};
+ghost use Rattle.sdd_bag.specs.Bag.{IsBag, IsOfCells};
 ghost use Rattle.sdd_bag.specs.Closing.{ClosesBag};
-ghost use Rattle.sdd_bag.specs.Overflow.{RefusesStorage};
-ghost use Rattle.sdd_bag.specs.Storage.{AreFull};
 ghost use Rattle.sdd_world.specs.Place.{index_of};
-ghost use Rattle.sdd_script_model.specs.BagLines.{BeginsBag, PutsNumber, TakesAll, TakesNumber, holds_nothing};
+ghost use Rattle.sdd_script_model.specs.BagLines.{holds_nothing};
 ghost use Rattle.sdd_script_model.specs.Bags.{StandsOn};
 ghost use Rattle.sdd_script_model.specs.ScriptState.{bag_length};
 ghost use Rattle.sdd_script_model.specs.Val.{Val, storage_in};
 
-use crate::commands::bags::{AddNumber, DrainBag, MakeBag, TakeNumber};
-use crate::turns::turn::list_step_at;
 use sdd_bag::Bag;
-use sdd_core::Refused;
 use sdd_script_model::{Body, Val};
 use sdd_space::Guard;
 use sdd_world::{Place, World};

@@ -1,30 +1,27 @@
 //! The owners that cells hold, in a turn at a world.
-ghost use Rattle.std.specs.Prelude.{◌≡◌, ◌≢◌, ◌⊎◌, ◌+◌, ◌^◌, ◌<◌, ℕ, IfOk, IfSome, IsSome, Some, MatchOption, MatchResult, option_map};
-ghost use Rattle.sdd_participants.specs.Slab.{IsEmptyAt, IsFull, entry_at};
-ghost use Rattle.sdd_participants.specs.declared.standing.Standing.TheVariants.{Shared as shared_by};
+ghost use Rattle.std.specs.Prelude.{◌≡◌, ◌≢◌, ◌<◌, IfSome, Some, MatchResult};
+ghost use Rattle.sdd_participants.specs.Slab.{entry_at};
 ghost use Rattle.sdd_participants.specs.declared.standing.CellContents.{CellContents};
-ghost use Rattle.sdd_standings.specs.Slots.{IsSharedBy};
 ghost use Rattle.sdd_space.specs.OwnerOrCell.{IsOf};
 ghost use Rattle.sdd_space.specs.Ptr.{cell_seen, slot_named};
-ghost use Rattle.sdd_space.specs.WorldChanges.{with_cell, with_standing, without_cell};
+ghost use Rattle.sdd_space.specs.WorldChanges.{with_cell};
 ghost use Rattle.sdd_space.specs.UnderGuards.{CannotGo};
-ghost use Rattle.sdd_space.specs.World.{World, IsPlaceOf, standing_at};
+ghost use Rattle.sdd_space.specs.World.{World, IsPlaceOf};
 ghost use Rattle.sdd_space.specs.Guard.{reader_of};
 ghost use Rattle.sdd_space.specs.CallerId.{reader_at};
 ghost use Rattle.sdd_world.specs.Place.{index_of};
 ghost use Rattle.sdd_script_model.specs.Val.{Val};
 ghost use Rattle.sdd_script_model.specs.ScriptState.{slot_of};
 ghost use Rattle.sdd_interpreter.specs.Owners.{cell_holding, cell_kind, cell_number, filling_holding, filling_kind, held_as};
-ghost use Rattle.sdd_space.specs.Shared as shared;
 
-use crate::commands::exchanges::{CopyCell, ExchangeIn, ShareHeld, SwapIn, TakeOut};
+use crate::commands::exchanges::ExchangeIn;
 use crate::holding::{AnyCell, CellOwner};
 use crate::turns::turn::cell_step_at;
-use sdd_core::{Refused, SlotName, Tag};
+use sdd_core::{SlotName, Tag};
 use sdd_participants::CellContents;
 use sdd_script_model::Val;
 use sdd_space::inner::null_with;
-use sdd_space::{AtomicShared, Guard, Ptr, Shared};
+use sdd_space::{Guard, Ptr};
 use sdd_world::inner::ptr_at;
 use sdd_world::{Place, World};
 

@@ -1,23 +1,15 @@
 //! Guards, in a turn at a world.
-ghost use Rattle.std.specs.Prelude.{◌≡◌, ◌<◌, IfOk, MatchResult};
-ghost use Rattle.sdd_core.specs.Epoch.{epoch_of};
-ghost use Rattle.sdd_participants.specs.EpochState.{CanNest, has_garbage};
+ghost use Rattle.std.specs.Prelude.{◌≡◌, ◌<◌, MatchResult};
 ghost use Rattle.sdd_participants.specs.Slab.{IsEmptyAt, IsFull};
-ghost use Rattle.sdd_space.specs.Guard.{reader_of};
-ghost use Rattle.sdd_space.specs.CallerId.{reader_at};
-ghost use Rattle.sdd_space.specs.World.{World, IsPlaceOf, place_at};
-ghost use Rattle.sdd_space.specs.WorldChanges.{opened, closed, stirred, accelerated, deferred};
+ghost use Rattle.sdd_space.specs.World.{World, IsPlaceOf};
+ghost use Rattle.sdd_space.specs.WorldChanges.{deferred};
 ghost use Rattle.sdd_world.specs.Place.{index_of};
-ghost use Rattle.sdd_script_model.specs.Val.{Val, holdings_of};
+ghost use Rattle.sdd_script_model.specs.Val.{Val};
 
-use crate::commands::guards::{
-    Accelerate, CloseGuard, OpenGuard, SetGarbage, ShowEpoch, ShowGarbage,
-};
-use crate::turns::turn::guard_step_at;
-use sdd_core::{Epoch, Refused};
+use sdd_core::Refused;
 use sdd_participants::Idle;
 use sdd_script_model::Val;
-use sdd_space::{Deferrals, Guard};
+use sdd_space::Deferrals;
 use sdd_world::{Place, World};
 
 /// A job that does nothing waits with the participant, in the place of the table of jobs that is told.

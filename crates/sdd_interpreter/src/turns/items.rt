@@ -1,21 +1,13 @@
 //! Items, in a turn at a world.
-ghost use Rattle.std.specs.Prelude.{◌≡◌, ◌<◌, ℕ, Some};
-ghost use Rattle.sdd_participants.specs.Slab.{IsEmptyAt, IsFull};
-ghost use Rattle.sdd_space.specs.WorldChanges.{made_as, nulled};
+ghost use Rattle.std.specs.Prelude.{◌≡◌, ◌<◌, Some};
 ghost use Rattle.sdd_space.specs.World.{World, IsPlaceOf, value_at};
-ghost use Rattle.sdd_space.specs.OwnerOrCell.{AreOf};
 ghost use Rattle.sdd_space.specs.Guard.{reader_of};
 ghost use Rattle.sdd_space.specs.CallerId.{reader_at};
 ghost use Rattle.sdd_space.specs.UnderGuards.{CannotGo};
 ghost use Rattle.sdd_world.specs.Place.{index_of};
-ghost use Rattle.sdd_script_model.specs.Val.{Val, body_of, owner_in, link_of, link_home};
-ghost use Rattle.sdd_interpreter.specs.Owners.{owner_holding};
-ghost use Rattle.sdd_script_model.specs.Held.{standing_first, holding_first};
+ghost use Rattle.sdd_script_model.specs.Val.{Val, link_home};
 
-use crate::commands::items::MakeItem;
-use crate::holding::AnyOwner;
-use crate::turns::turn::item_step_at;
-use sdd_script_model::{Body, OwnerKind, Val};
+use sdd_script_model::Val;
 use sdd_space::{Guard, Shows};
 use sdd_world::inner::ptr_at;
 use sdd_world::{Place, World};

@@ -1,8 +1,8 @@
 //! Owners of items, in a turn at a world.
-ghost use Rattle.std.specs.Prelude.{◌≡◌, ◌≢◌, ◌+◌, ◌^◌, ◌<◌, ℕ, IfOk, IsTrue, ◌↔◌, Some, MatchOption, MatchResult};
+ghost use Rattle.std.specs.Prelude.{◌≡◌, ◌≢◌, ◌+◌, ◌^◌, ◌<◌, ℕ, IfOk, Some, MatchOption, MatchResult};
 ghost use Rattle.sdd_participants.specs.declared.standing.Standing.TheVariants.{Shared as shared_by};
 ghost use Rattle.sdd_standings.specs.Slots.{IsSharedBy};
-ghost use Rattle.sdd_space.specs.WorldChanges.{retired, owner_given, with_standing};
+ghost use Rattle.sdd_space.specs.WorldChanges.{with_standing};
 ghost use Rattle.sdd_space.specs.World.{World, IsPlaceOf, standing_at};
 ghost use Rattle.sdd_space.specs.Owned.{slot_of, slots_home};
 ghost use Rattle.sdd_space.specs.Guard.{reader_of};
@@ -11,13 +11,12 @@ ghost use Rattle.sdd_space.specs.UnderGuards.{CannotGo};
 ghost use Rattle.sdd_world.specs.Place.{index_of};
 ghost use Rattle.sdd_script_model.specs.Val.{Val};
 ghost use Rattle.sdd_space.specs.Shared as shared_owner;
-ghost use Rattle.sdd_participants.specs.declared.standing.Standing.TheVariants as standing;
 
-use crate::commands::owners::{CloneOwner, ReleaseOwner, RetireItem, ShareItem};
+use crate::commands::owners::ShareItem;
 use crate::turns::turn::item_step_at;
 use sdd_core::Refused;
 use sdd_script_model::Val;
-use sdd_space::{Guard, Owned, Shared};
+use sdd_space::{Guard, Shared};
 use sdd_world::inner::ptr_at;
 use sdd_world::{Place, World};
 
