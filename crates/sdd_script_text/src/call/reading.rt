@@ -382,32 +382,50 @@ fn with_two(verb: &str, first: Argument, second: Argument) -> Option<Action>
     }
 }
 
+/// The verbs with a number and a guard behind another argument.
+fn with_number_and_guard(
+    verb: &str,
+    first: Argument,
+    number: u64,
+    guard: GuardName,
+) -> Option<Action>
+    ensures { result ≡ called verb.now (with_three first (Argument.Number number) (Argument.Guard guard)) }
+{
+    match first {
+        Argument::Queue(queue) => with_list_number(verb, ListName::Queue(queue), number, guard),
+        Argument::Stack(stack) => with_list_number(verb, ListName::Stack(stack), number, guard),
+        Argument::Bag(bag) => match verb {
+            "add" => Some(Action::Bag(BagAction::Add(bag, number, guard))),
+            _ => None,
+        },
+        _ => None,
+    }
+}
+
 /// The verbs with three arguments.
 fn with_three(verb: &str, first: Argument, second: Argument, third: Argument) -> Option<Action>
     ensures { result ≡ called verb.now (with_three first second third) }
 {
-    match (first, second, third) {
-        (Argument::Cell(cell), Argument::Owner(held), Argument::Tag(tag)) => match verb {
-            "swap" => Some(Action::Held(HeldAction::Swap(cell, held, tag))),
+    match (second, third) {
+        (Argument::Number(number), Argument::Guard(guard)) => {
+            with_number_and_guard(verb, first, number, guard)
+        }
+        (Argument::Owner(held), Argument::Tag(tag)) => match first {
+            Argument::Cell(cell) => match verb {
+                "swap" => Some(Action::Held(HeldAction::Swap(cell, held, tag))),
+                _ => None,
+            },
             _ => None,
         },
-        (Argument::Queue(queue), Argument::Number(number), Argument::Guard(guard)) => {
-            with_list_number(verb, ListName::Queue(queue), number, guard)
-        }
-        (Argument::Stack(stack), Argument::Number(number), Argument::Guard(guard)) => {
-            with_list_number(verb, ListName::Stack(stack), number, guard)
-        }
-        (Argument::Bag(bag), Argument::Number(number), Argument::Guard(guard)) => match verb {
-            "add" => Some(Action::Bag(BagAction::Add(bag, number, guard))),
-            _ => None,
-        },
-        (Argument::Owner(Some(owner)), Argument::Guard(guard), Argument::Collector(collector)) =>
-            match verb {
+        (Argument::Guard(guard), Argument::Collector(collector)) => match first {
+            Argument::Owner(Some(owner)) => match verb {
                 "collect" => Some(Action::Collector(CollectorAction::Collect(
                     owner, guard, collector,
                 ))),
                 _ => None,
             },
+            _ => None,
+        },
         _ => None,
     }
 }
