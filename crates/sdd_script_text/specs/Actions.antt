@@ -23,7 +23,12 @@ use Rattle.sdd_script_text.specs.declared.call.action.LinkAction.TheVariants as 
 use Rattle.sdd_script_text.specs.declared.call.action.ContainerAction.TheVariants as container
 use Rattle.sdd_script_text.specs.declared.call.action.EntryAction.TheVariants as entry
 use Rattle.sdd_script_text.specs.declared.call.action.BagAction.TheVariants as bag
-pub use Rattle.sdd_script_text.specs.declared.call.action.Action.TheVariants.{Open, End}
+
+pattern abbrev pub Open : Action
+Open = on.Open
+
+pattern abbrev pub End : Action
+End = on.End
 
 pattern abbrev pub Epoch : GuardName → Action
 Epoch g = on.Guard (guard.Epoch g)
