@@ -3,6 +3,7 @@ use Rattle.sdd_script_text.specs.Actions as call
 use Rattle.sdd_script_text.specs.declared.answer.Reply.TheVariants as reply
 use Rattle.sdd_script.proofs.BagActs.{acts-added, acts-given_back, no-bag, put-so}
 use Rattle.sdd_script.proofs.CopyActs.{AreFreeSo}
+use Rattle.sdd_script.proofs.ContainerActs.{reader-is}
 use Rattle.sdd_script.proofs.commands.bags.add.Goals as goal
 
 pub returns-in_default : goal.returns-in_default
@@ -14,6 +15,9 @@ pub returns-in_default-get : goal.returns-in_default-get
 returns-in_default-get c = record {
   acts = rw (← c.stage.view_is) (invalid _ _ _ (λ valid. no-bag c.stage.inside.hand c.args.bag.0 c.in_default-get.ensures valid.1));
 }
+
+pub list_step_at-taken-requires-clause-asked : goal.list_step_at-taken-requires-clause-asked
+list_step_at-taken-requires-clause-asked c = (search rules, reader-is c.stage.inside.hand c.stage.invariant c.args.guard.0 _ _ c.in-Some.ensures.found.1 c.in-Some.ensures.found.2, search rules)
 
 added : (c : goal.After-drop-free) → Does (desk_of c.stage.inside.hand) (At c.args.name (call.Add c.args.bag c.args.number c.args.guard)) reply.Done
     (record c.stage.inside.hand { world = c.list_step_at-taken.new.world; bags = c.put_back.new.self; names = c.forget_new.new.names })

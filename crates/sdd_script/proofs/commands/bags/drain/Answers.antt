@@ -1,8 +1,9 @@
-use Rattle.sdd_script.proofs.Words.{◌≡◌, length, arith, rules, List, ℕ, subst, sym, At, desk_of, Does, invalid, IsNonDecreasing, IsPermutation, IsNonDecreasingBy-from_sort}
+use Rattle.sdd_script.proofs.Words.{◌≡◌, length, arith, rules, List, ℕ, subst, sym, At, desk_of, Does, invalid, IsNonDecreasing, IsPermutation, IsNonDecreasingBy-from_sort, ◌∙◌, Some, length-append, primary_of, overflow_of}
 use Rattle.sdd_script_text.specs.Actions as call
 use Rattle.sdd_script_text.specs.declared.answer.Reply.TheVariants as reply
 use Rattle.sdd_script.proofs.BagActs.{acts-drained, no-bag, put-so}
 use Rattle.sdd_script.proofs.StackActs.{AreTold}
+use Rattle.sdd_script.proofs.ContainerActs.{reader-is}
 use Rattle.sdd_script.proofs.commands.bags.drain.Goals as goal
 
 pub returns-in_default : goal.returns-in_default
@@ -14,6 +15,18 @@ pub returns-in_default-get : goal.returns-in_default-get
 returns-in_default-get c = record {
   acts = rw (← c.stage.view_is) (invalid _ _ _ (λ valid. no-bag c.stage.inside.hand c.args.bag.0 c.in_default-get.ensures valid.1));
 }
+
+pub list_step_at-taken-requires-clause-asked : goal.list_step_at-taken-requires-clause-asked
+list_step_at-taken-requires-clause-asked c =
+    let both : Some c.in-Some-get.its.now ≡ Some c.in-Some-take.taken = c.in-Some-get.ensures ∙ sym c.in-Some-take.ensures.taken in
+    let same : c.in-Some-get.its.now ≡ c.in-Some-take.taken = cc in
+    let all = length-append (primary_of c.in-Some-get.its.now) (overflow_of c.in-Some-get.its.now) in (
+      search rules,
+      reader-is c.stage.inside.hand c.stage.invariant c.args.guard.0 _ _ c.in-Some.ensures.found.1 c.in-Some.ensures.found.2,
+      search rules,
+      search rules,
+      rw (← same) (omega (arith, all, c.len.ensures, c.in-Ok.ensures.1, c.in_ok-room.ensures.capacity)),
+    )
 
 drained : (c : goal.After-drop-waited) → Does (desk_of c.stage.inside.hand) (At c.args.name (call.Drain c.args.bag c.args.guard))
     (reply.Numbers c.of.result)

@@ -1,4 +1,4 @@
-use Rattle.sdd_script.proofs.Words.{length, ap, ◌∙◌, got, nobody}
+use Rattle.sdd_script.proofs.Words.{length, ap, ◌∙◌, got, nobody, refl}
 use Rattle.sdd_script_text.specs.Actions as call
 use Rattle.sdd_script.proofs.BagActs.{acts-begun, acts-no_cells}
 use Rattle.sdd_script.proofs.commands.bags.make_bag.Goals as goal

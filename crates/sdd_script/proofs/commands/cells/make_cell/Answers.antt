@@ -1,14 +1,11 @@
-use Rattle.sdd_script.proofs.Words.{At, cell_holding, desk_of, Does, here, next, making_cell, nobody}
+use Rattle.sdd_script.proofs.Words.{At, cell_holding, desk_of, Does, here, next, making_cell, rules}
 use Rattle.sdd_script_text.specs.declared.answer.Reply.TheVariants as reply
 use Rattle.sdd_script.proofs.CellActs.{acts-celled, named-home}
 use Rattle.sdd_script.proofs.commands.cells.make_cell.Goals as goal
 
-pub returns-in_default : goal.returns-in_default
-returns-in_default c = record { acts = rw (← c.stage.view_is) (nobody c.stage.inside.hand c.args.name _ c.in_default.ensures (λ valid. valid.0)) }
-
 pub cell_step_at-cell-requires-clause-asked : goal.cell_step_at-cell-requires-clause-asked
 cell_step_at-cell-requires-clause-asked c =
-    rw c.take_filling-filling.ensures.filled.holding (named-home c.stage.inside.hand c.stage.invariant c.args.owner)
+    (search rules, rw c.take_filling-filling.ensures.filled.holding (named-home c.stage.inside.hand c.stage.invariant c.args.owner))
 
 made : (c : goal.After-give-name) → Does (desk_of c.stage.inside.hand) (At c.args.name (making_cell c.args.ownership c.args.owner))
     (reply.Cell (record { 0 = c.give-name.result }))

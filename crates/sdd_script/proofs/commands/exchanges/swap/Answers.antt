@@ -3,6 +3,7 @@ use Rattle.sdd_script_text.specs.Actions as call
 use Rattle.sdd_script_text.specs.declared.answer.Reply.TheVariants as reply
 use Rattle.sdd_script.proofs.CellActs.{named-home}
 use Rattle.sdd_script.proofs.ExchangeActs.{acts-swapped, room-kept}
+use Rattle.sdd_interpreter.proofs.Taken.{cell-home}
 use Rattle.sdd_script.proofs.commands.exchanges.swap.Goals as goal
 
 pub returns-in_default : goal.returns-in_default
@@ -10,8 +11,11 @@ returns-in_default c = record { acts = rw (← c.stage.view_is) (nobody c.stage.
 
 pub cell_step_at-old-requires-clause-asked : goal.cell_step_at-old-requires-clause-asked
 cell_step_at-old-requires-clause-asked c =
-    let fills = rw c.make_room.ensures.kept at c.take_filling-next.ensures.filled in
-    rw fills.holding (named-home c.stage.inside.hand c.stage.invariant c.args.owner)
+    let fills = rw (c.make_room.ensures.kept, c.ownership-2.ensures) at c.take_filling-next.ensures.filled in (
+      cell-home c.stage.inside.hand c.stage.invariant c.args.cell.0 _ (sym c.in-Some-get.ensures),
+      fills.of_kind,
+      rw fills.holding (named-home c.stage.inside.hand c.stage.invariant c.args.owner),
+    )
 
 pub give_filling-name-requires : goal.give_filling-name-requires
 give_filling-name-requires c =

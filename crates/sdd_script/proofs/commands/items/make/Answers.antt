@@ -1,12 +1,9 @@
-use Rattle.sdd_script.proofs.Words.{◌≡◌, ℕ, Some, length, slice_set, sym, ap, ◌∙◌, rules, false≢true, still, slot_of, At, Environment, Acts, desk_of, IsTied, making, here, nobody}
+use Rattle.sdd_script.proofs.Words.{◌≡◌, ℕ, Some, length, slice_set, sym, ap, ◌∙◌, rules, false≢true, still, slot_of, At, Environment, Acts, desk_of, IsTied, making, here}
 use Rattle.std.specs.Vec.{with_item}
 use Rattle.sdd_script_text.specs.declared.answer.Reply.TheVariants as reply
 use Rattle.sdd_script.proofs.ItemActs.{acts-made, refused-meets}
 use Rattle.sdd_script.proofs.Making.{becomes-long, body-home, first-slot, there-to-put}
 use Rattle.sdd_script.proofs.commands.items.make.Goals as goal
-
-pub returns-in_default : goal.returns-in_default
-returns-in_default c = record { acts = rw (← c.stage.view_is) (nobody c.stage.inside.hand c.args.name _ c.in_default.ensures (λ valid. valid.0)) }
 
 pub returns-in-Some-refuses_item : goal.returns-in-Some-refuses_item
 returns-in-Some-refuses_item c =
@@ -19,7 +16,8 @@ returns-in-Some-refuses_item c =
 
 pub item_step_at-owner-requires-clause-asked : goal.item_step_at-owner-requires-clause-asked
 item_step_at-owner-requires-clause-asked c =
-    body-home c.stage.inside.hand c.stage.invariant c.is_whole.ensures c.args.value _ _ (rw c.make_room.ensures.kept at c.in-Some-body_from.ensures.becomes)
+    let home = body-home c.stage.inside.hand c.stage.invariant c.is_whole.ensures c.args.value _ _
+    (rw c.make_room.ensures.kept at c.in-Some-body_from.ensures.becomes) in (search rules, search rules, home)
 
 pub give-name-requires : goal.give-name-requires
 give-name-requires c =

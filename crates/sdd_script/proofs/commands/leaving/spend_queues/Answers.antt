@@ -10,10 +10,10 @@ pub list_step_at-requires-clause-place : goal.list_step_at-requires-clause-place
 list_step_at-requires-clause-place c = live-in c.loop-queue.hand _ c.loop-queue.invariant.goes.ending
 
 pub list_step_at-requires-clause-asked : goal.list_step_at-requires-clause-asked
-list_step_at-requires-clause-asked c = queue-home c.loop-queue.hand _ c.loop-queue.invariant.goes.ending c.loop-queue.queue _ c.in-Some.ensures.taken
-
-pub list_step_at-requires-clause-reader : goal.list_step_at-requires-clause-reader
-list_step_at-requires-clause-reader c = reader-still c.loop-queue.invariant.goes _ c.requires.reader
+list_step_at-requires-clause-asked c = (
+  queue-home c.loop-queue.hand _ c.loop-queue.invariant.goes.ending c.loop-queue.queue _ c.in-Some.ensures.taken,
+  reader-still c.loop-queue.invariant.goes _ c.requires.reader,
+)
 
 pub loop-queue-preserved-in_default : goal.loop-queue-preserved-in_default
 loop-queue-preserved-in_default c =

@@ -10,10 +10,10 @@ pub list_step_at-requires-clause-place : goal.list_step_at-requires-clause-place
 list_step_at-requires-clause-place c = live-in c.loop-stack.hand _ c.loop-stack.invariant.goes.ending
 
 pub list_step_at-requires-clause-asked : goal.list_step_at-requires-clause-asked
-list_step_at-requires-clause-asked c = stack-home c.loop-stack.hand _ c.loop-stack.invariant.goes.ending c.loop-stack.stack _ c.in-Some.ensures.taken
-
-pub list_step_at-requires-clause-reader : goal.list_step_at-requires-clause-reader
-list_step_at-requires-clause-reader c = reader-still c.loop-stack.invariant.goes _ c.requires.reader
+list_step_at-requires-clause-asked c = (
+  stack-home c.loop-stack.hand _ c.loop-stack.invariant.goes.ending c.loop-stack.stack _ c.in-Some.ensures.taken,
+  reader-still c.loop-stack.invariant.goes _ c.requires.reader,
+)
 
 pub loop-stack-preserved-in_default : goal.loop-stack-preserved-in_default
 loop-stack-preserved-in_default c =

@@ -2,6 +2,7 @@ use Rattle.sdd_script.proofs.Words.{◌≡◌, length, sym, ◌∙◌, arith, ru
 use Rattle.sdd_script_text.specs.Actions as call
 use Rattle.sdd_script_text.specs.declared.answer.Reply.TheVariants as reply
 use Rattle.sdd_script.proofs.StackActs.{AreTold, acts-closed}
+use Rattle.sdd_script.proofs.ContainerActs.{reader-is}
 use Rattle.sdd_script.proofs.commands.stacks.close_stack.Goals as goal
 
 pub returns-in_default : goal.returns-in_default
@@ -18,7 +19,10 @@ pub unreachable-requires : goal.unreachable-requires
 unreachable-requires c = absurd (let never = c.in_default-take.ensures.taken ∙ sym c.in-Some-get.ensures in cc)
 
 pub list_step_at-requires-clause-asked : goal.list_step_at-requires-clause-asked
-list_step_at-requires-clause-asked c = stack-home c.stage.inside.hand c.stage.invariant c.args.stack.0 _ c.in-Some-take.ensures.taken
+list_step_at-requires-clause-asked c = (
+  stack-home c.stage.inside.hand c.stage.invariant c.args.stack.0 _ c.in-Some-take.ensures.taken,
+  reader-is c.stage.inside.hand c.stage.invariant c.in-Some.ensures.2.0 _ _ c.in-Some.ensures.2.1 c.in-Some.ensures.1,
+)
 
 closed : (c : goal.After-drop-waited) → Does (desk_of c.stage.inside.hand) (At c.args.name (call.CloseStack c.args.stack)) reply.Done
     (record c.stage.inside.hand { world = c.list_step_at.new.world; stacks = c.take.new.self; dates = c.date_new.new.dates })
