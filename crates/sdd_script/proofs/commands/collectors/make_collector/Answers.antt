@@ -1,10 +1,7 @@
-use Rattle.sdd_script.proofs.Words.{refl, map_push, At, collector_holding, desk_of, Does, attends, here, leaves, next, sits, collecting-leaves, nobody}
+use Rattle.sdd_script.proofs.Words.{refl, map_push, At, collector_holding, desk_of, Does, attends, here, leaves, next, sits, collecting-leaves}
 use Rattle.sdd_script_text.specs.Actions as call
 use Rattle.sdd_script_text.specs.declared.answer.Reply.TheVariants as reply
 use Rattle.sdd_script.proofs.commands.collectors.make_collector.Goals as goal
-
-pub returns-in_default : goal.returns-in_default
-returns-in_default c = record { acts = rw (← c.stage.view_is) (nobody c.stage.inside.hand c.args.name _ c.in_default.ensures (λ valid. valid)) }
 
 made : (c : goal.After-give-name) → Does (desk_of c.stage.inside.hand) (At c.args.name call.Collector)
     (reply.Collector (record { 0 = c.give-name.result })) (record c.stage.inside.hand { world = c.collector_step_at.new.world; collectors = c.give-name.new.self })

@@ -1,10 +1,7 @@
-use Rattle.sdd_script.proofs.Words.{refl, At, desk_of, Does, leaves, place-is, sits, under, accelerated-leaves, invalid}
+use Rattle.sdd_script.proofs.Words.{refl, At, desk_of, Does, leaves, place-is, sits, under, accelerated-leaves}
 use Rattle.sdd_script_text.specs.Actions as call
 use Rattle.sdd_script_text.specs.declared.answer.Reply.TheVariants as reply
 use Rattle.sdd_script.proofs.commands.guards.accelerate.Goals as goal
-
-pub returns-in_default : goal.returns-in_default
-returns-in_default c = record { acts = rw (← c.stage.view_is) (invalid _ _ _ (λ valid. c.in_default.ensures.valid valid)) }
 
 accelerated : (c : goal.After-guard_step_at) → Does (desk_of c.stage.inside.hand) (At c.args.name (call.Accelerate c.args.guard)) reply.Done
     (record c.stage.inside.hand { world = c.guard_step_at.new.world })

@@ -1,11 +1,8 @@
-use Rattle.sdd_script.proofs.Words.{sym, At, desk_of, Does, under, invalid}
+use Rattle.sdd_script.proofs.Words.{sym, At, desk_of, Does, under}
 use Rattle.sdd_script_text.specs.Actions as call
 use Rattle.sdd_script_text.specs.declared.answer.Reply.TheVariants as reply
 use Rattle.sdd_script.proofs.GuardActs.{acts-closed}
 use Rattle.sdd_script.proofs.commands.guards.close_guard.Goals as goal
-
-pub returns-in_default : goal.returns-in_default
-returns-in_default c = record { acts = rw (← c.stage.view_is) (invalid _ _ _ (λ valid. c.in_default.ensures.valid valid)) }
 
 closed : (c : goal.After-guard_step_at) → Does (desk_of c.stage.inside.hand) (At c.args.name (call.Close c.args.guard)) reply.Done
     (record c.stage.inside.hand { world = c.guard_step_at.new.world; guards = c.take.new.self })

@@ -1,11 +1,8 @@
-use Rattle.sdd_script.proofs.Words.{◌+◌, refl, arith, At, desk_of, Does, leaves, place-is, sits, under, deferred-leaves, invalid}
+use Rattle.sdd_script.proofs.Words.{◌+◌, refl, arith, At, desk_of, Does, leaves, place-is, sits, under, deferred-leaves}
 use Rattle.std.specs.Vec.{with_item}
 use Rattle.sdd_script_text.specs.Actions as call
 use Rattle.sdd_script_text.specs.declared.answer.Reply.TheVariants as reply
 use Rattle.sdd_script.proofs.commands.guards.defer.Goals as goal
-
-pub returns-in_default : goal.returns-in_default
-returns-in_default c = record { acts = rw (← c.stage.view_is) (invalid _ _ _ (λ valid. c.in_default.ensures.valid valid)) }
 
 pub overflow_add-stage : goal.overflow_add-stage
 overflow_add-stage c = let line = rw (← c.stage.view_is) at c.requires.line in omega (arith, line.jobs)

@@ -1,9 +1,6 @@
-use Rattle.sdd_script.proofs.Words.{◌≡◌, ap, ◌∙◌, slice_index_or, told_of, body_of, stays-here, points, under, invalid}
+use Rattle.sdd_script.proofs.Words.{◌≡◌, ap, ◌∙◌, slice_index_or, told_of, body_of, stays-here, points, under}
 use Rattle.sdd_script.proofs.ItemActs.{acts-looked}
 use Rattle.sdd_script.proofs.commands.items.look.Goals as goal
-
-pub returns-in_default : goal.returns-in_default
-returns-in_default c = record { acts = rw (← c.stage.view_is) (invalid _ _ _ (λ valid. c.in_default.ensures.valid valid.0)) }
 
 pub value_shown-requires-clause-stays : goal.value_shown-requires-clause-stays
 value_shown-requires-clause-stays c =

@@ -1,9 +1,6 @@
-use Rattle.sdd_script.proofs.Words.{◌≡◌, sym, told_of, body_of, here, nobody}
+use Rattle.sdd_script.proofs.Words.{◌≡◌, sym, told_of, body_of, here}
 use Rattle.sdd_script.proofs.ItemActs.{acts-read}
 use Rattle.sdd_script.proofs.commands.items.read.Goals as goal
-
-pub returns-in_default : goal.returns-in_default
-returns-in_default c = record { acts = rw (← c.stage.view_is) (nobody c.stage.inside.hand c.args.name _ c.in_default.ensures (λ valid. valid.0)) }
 
 pub returns : goal.returns
 returns c = record {

@@ -1,11 +1,8 @@
-use Rattle.sdd_script.proofs.Words.{At, desk_of, Does, here, nobody}
+use Rattle.sdd_script.proofs.Words.{At, desk_of, Does, here}
 use Rattle.sdd_script_text.specs.Actions as call
 use Rattle.sdd_script_text.specs.declared.answer.Reply.TheVariants as reply
 use Rattle.sdd_script.proofs.GuardActs.{acts-ended}
 use Rattle.sdd_script.proofs.commands.participants.end.Goals as goal
-
-pub returns-in_default : goal.returns-in_default
-returns-in_default c = record { acts = rw (← c.stage.view_is) (nobody c.stage.inside.hand c.args.name _ c.in_default.ensures (λ valid. valid)) }
 
 ended : (c : goal.In-Ok) → Does (desk_of c.stage.inside.hand) (At c.args.name call.End) reply.Done
     (record c.stage.inside.hand { world = c.end.new.self; places = c.take.new.self })
