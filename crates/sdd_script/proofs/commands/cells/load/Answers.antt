@@ -1,10 +1,7 @@
-use Rattle.sdd_script.proofs.Words.{ℕ, List, None, Option, IsSome, slice_index_or, refl, sym, ◌∙◌, ap, is_some, subst, IfSome, option_map, item_in, desk_of, still, under, invalid}
+use Rattle.sdd_script.proofs.Words.{ℕ, List, None, Option, IsSome, slice_index_or, refl, sym, ◌∙◌, ap, is_some, subst, IfSome, option_map, item_in, desk_of, still, under}
 use Rattle.sdd_script.proofs.CellActs.{is-cell}
 use Rattle.sdd_script.proofs.ExchangeActs.{seen-named}
 use Rattle.sdd_script.proofs.commands.cells.load.Goals as goal
-
-pub returns-in_default : goal.returns-in_default
-returns-in_default c = record { acts = rw (← c.stage.view_is) (invalid _ _ _ (λ valid. c.in_default.ensures.valid valid.0)) }
 
 pub item_seen-item-requires : goal.item_seen-item-requires
 item_seen-item-requires c = record {

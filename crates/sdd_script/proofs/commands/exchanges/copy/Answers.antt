@@ -4,9 +4,6 @@ use Rattle.sdd_script_text.specs.declared.answer.Reply.TheVariants as reply
 use Rattle.sdd_script.proofs.ExchangeActs.{copied-may, none-found, not-shared, share-full}
 use Rattle.sdd_script.proofs.commands.exchanges.copy.Goals as goal
 
-pub returns-in_default : goal.returns-in_default
-returns-in_default c = record { acts = rw (← c.stage.view_is) (invalid _ _ _ (λ valid. c.in_default.ensures.valid valid.0)) }
-
 pub returns-then-is_none : goal.returns-then-is_none
 returns-then-is_none c = record {
   acts = rw (← c.stage.view_is) (invalid (desk_of c.stage.inside.hand) _ _ (λ valid. not-shared c.stage.inside.hand c.args.cell.0

@@ -4,9 +4,6 @@ use Rattle.sdd_script_text.specs.declared.answer.Reply.TheVariants as reply
 use Rattle.sdd_script.proofs.ExchangeActs.{crowded, not-shared}
 use Rattle.sdd_script.proofs.commands.exchanges.share.Goals as goal
 
-pub returns-in_default : goal.returns-in_default
-returns-in_default c = record { acts = rw (← c.stage.view_is) (invalid _ _ _ (λ valid. c.in_default.ensures.valid valid.0)) }
-
 pub returns-in_default-shared_cell_of : goal.returns-in_default-shared_cell_of
 returns-in_default-shared_cell_of c = record {
   acts = rw (← c.stage.view_is) (invalid (desk_of c.stage.inside.hand) _ _

@@ -1,11 +1,8 @@
-use Rattle.sdd_script.proofs.Words.{slice_index_or, ap, refl, ◌∙◌, At, desk_of, owner_holding, Does, leaves, next, points, sits, stays-here, there-apart, under, shared-leaves, invalid}
+use Rattle.sdd_script.proofs.Words.{slice_index_or, ap, refl, ◌∙◌, At, desk_of, owner_holding, Does, leaves, next, points, sits, stays-here, there-apart, under, shared-leaves}
 use Rattle.sdd_script_text.specs.Actions as call
 use Rattle.sdd_script_text.specs.declared.answer.Reply.TheVariants as reply
 use Rattle.sdd_script.proofs.Making.{shared-more}
 use Rattle.sdd_script.proofs.commands.owners.upgrade.Goals as goal
-
-pub returns-in_default : goal.returns-in_default
-returns-in_default c = record { acts = rw (← c.stage.view_is) (invalid _ _ _ (λ valid. c.in_default.ensures.valid valid.0)) }
 
 pub share_item-requires-clause-stays : goal.share_item-requires-clause-stays
 share_item-requires-clause-stays c =

@@ -1,9 +1,6 @@
-use Rattle.sdd_script.proofs.Words.{◌≡◌, ap, ◌∙◌, slice_index_or, told_of, body_of, under, invalid}
+use Rattle.sdd_script.proofs.Words.{◌≡◌, ap, ◌∙◌, slice_index_or, told_of, body_of, under}
 use Rattle.sdd_script.proofs.RawActs.{acts-seen, there-from}
 use Rattle.sdd_script.proofs.commands.raw.see.Goals as goal
-
-pub returns-in_default : goal.returns-in_default
-returns-in_default c = record { acts = rw (← c.stage.view_is) (invalid _ _ _ (λ valid. c.in_default.ensures.valid valid.0)) }
 
 pub returns : goal.returns
 returns c =
