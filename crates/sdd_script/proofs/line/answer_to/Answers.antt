@@ -7,5 +7,7 @@ pub returns-in-Tally : goal.returns-in-Tally
 returns-in-Tally c =
     let d = c.args.stage.now in
     let given = reply.Tally d.world.tally in
-    record { answers = rw (c.in-Tally.is, c.answer.ensures, c.tally-tally.ensures, c.world.ensures)
-        (answers-plain Tally given (still d Tally given (refl, refl)) (λ s none. none) (λ k none. none)) }
+    record {
+      answers = rw (c.in-Tally.is, c.answer-in-Tally.ensures, c.tally-tally.ensures, c.world.ensures)
+          (answers-plain Tally given (still d Tally given (refl, refl)) (λ s none. none) (λ k none. none));
+    }

@@ -36,11 +36,11 @@ spend_bags-requires-clause-reader c =
     reader-still (goes-then c.spend_queues.ensures.goes c.spend_stacks.ensures.goes) _
     (reader-opened c.some_place-place.new.world _ _ _ c.in-Ok.ensures.done.1.1 c.in-Ok.ensures.done.0)
 
-pub guard_step_at-in-Ok-requires-clause-place : goal.guard_step_at-in-Ok-requires-clause-place
-guard_step_at-in-Ok-requires-clause-place c = live-in c.give_up_raw_items.new.hand _ c.give_up_raw_items.ensures.goes.ending
+pub guard_step_at-requires-2-clause-place : goal.guard_step_at-requires-2-clause-place
+guard_step_at-requires-2-clause-place c = live-in c.give_up_raw_items.new.hand _ c.give_up_raw_items.ensures.goes.ending
 
-pub guard_step_at-in-Ok-requires-clause-asked : goal.guard_step_at-in-Ok-requires-clause-asked
-guard_step_at-in-Ok-requires-clause-asked c =
+pub guard_step_at-requires-2-clause-asked : goal.guard_step_at-requires-2-clause-asked
+guard_step_at-requires-2-clause-asked c =
     reader-still
     (goes-then c.spend_queues.ensures.goes
     (goes-then c.spend_stacks.ensures.goes
@@ -74,7 +74,7 @@ returns c =
         rw (e6, e5, e4, e3, e2) c.spend_queues.ensures.spent,
         rw (e6, e5, e4, e3) c.spend_stacks.ensures.spent,
         rw (e6, e5, e4) c.spend_bags.ensures.spent,
-      ) c.give_up_raw_items.ensures.gone c.guard_step_at-in-Ok.new.world c.guard_step_at-in-Ok.ensures.done c.is_whole-4.ensures;
+      ) c.give_up_raw_items.ensures.gone c.guard_step_at-2.new.world c.guard_step_at-2.ensures.done c.is_whole-4.ensures;
       shut = rw (e6, e5, e4, e3, e2, e1) c.requires.shut;
-      told = rw c.guard_step_at-in-Ok.ensures.done all.told;
+      told = rw c.guard_step_at-2.ensures.done all.told;
     }
