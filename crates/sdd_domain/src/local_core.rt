@@ -28,8 +28,8 @@ use sdd_domain_slots::ended_counts::EndedCounts;
 use sdd_domain_slots::free_slot_hints::FreeSlotHints;
 use sdd_domain_slots::places::{take_place, want_of_memory};
 use sdd_domain_slots::private_table::PrivateTable;
-use sdd_domain_slots::scan::{ScanEnd, scan};
-use sdd_domain_slots::shut::shut;
+use sdd_domain_slots::scan::ScanEnd;
+use sdd_domain_slots::shut::{scan_and_shut, shut};
 use sdd_domain_slots::sightings::Sightings;
 use sdd_domain_slots::values::take_value;
 use sdd_participants::{Bags, Job, LimboEntry, Participant, RunningTally, Tally};
@@ -431,12 +431,17 @@ impl<'d, T: Item<T>, J: Job> LocalCore<'d, T, J> {
         is_a_count(self.own.found);
         // No place is marked as ended yet.
         self.own.leave(false);
-        let told = if scans {
-            let found = self.own.found;
-            Some(scan(&self.domain.board, &mut self.token, self.place, found))
-        } else {
-            None
-        };
+        if scans {
+            return Some(scan_and_shut(
+                &self.domain.board,
+                &mut self.token,
+                self.place,
+                self.state,
+                self.own.found,
+                &mut self.tenure,
+                part,
+            ));
+        }
         shut(
             &self.domain.board,
             &mut self.token,
@@ -445,7 +450,7 @@ impl<'d, T: Item<T>, J: Job> LocalCore<'d, T, J> {
             &mut self.tenure,
             part,
         );
-        told
+        None
     }
 
     /// The count of epochs at this moment.
