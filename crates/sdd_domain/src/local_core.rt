@@ -411,11 +411,12 @@ impl<'d, T: Item<T>, J: Job> LocalCore<'d, T, J> {
         self.tenure.apart(&mut part);
         // The number of guards is stored behind a scan again, so that this close ends as that of a nested guard: the compiler gives both one end.
         let (left, told) = if self.own.guards == 1 {
-            if self.own.countdown != 0 {
+            if self.own.countdown == 0 {
+                (0, Some(self.leave_after_scan(part)))
+            } else {
                 self.leave(part);
                 return None;
             }
-            (0, Some(self.leave_after_scan(part)))
         } else {
             let left = self.own.guards - 1;
             self.own.guards = left;
