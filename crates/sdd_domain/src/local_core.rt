@@ -410,18 +410,17 @@ impl<'d, T: Item<T>, J: Job> LocalCore<'d, T, J> {
         let mut part = part_of_guard(guard);
         self.tenure.apart(&mut part);
         // The number of guards is stored behind a scan again, so that this close ends as that of a nested guard: the compiler gives both one end.
-        let (left, told) = if self.own.guards == 1 {
-            if self.own.countdown == 0 {
-                (0, Some(self.leave_after_scan(part)))
-            } else {
-                self.leave(part);
-                return None;
-            }
-        } else {
+        let (left, told) = if self.own.guards > 1 {
             let left = self.own.guards - 1;
             self.own.guards = left;
             self.tenure.join(part);
             (left, None)
+        } else {
+            if self.own.countdown != 0 {
+                self.leave(part);
+                return None;
+            }
+            (0, Some(self.leave_after_scan(part)))
         };
         prove!(left == self.own.guards);
         self.own.guards = left;

@@ -1,9 +1,9 @@
-use Rattle.std.proofs.Common.{ℕ, Option, ◌≡◌, ◌≢◌, ◌⊎◌, None, Some, sym, subst, ap, ◌∙◌}
+use Rattle.std.proofs.Common.{arith, ℕ, Option, ◌≡◌, ◌≢◌, ◌⊎◌, None, Some, sym, subst, ap, ◌∙◌}
 use Rattle.sdd_domain_slots.specs.LocalState.{LocalState, IsLone}
 use Rattle.sdd_domain_slots.specs.Scan.{Tells}
 use Rattle.sdd_domain_slots.specs.declared.scan.ScanEnd.{ScanEnd}
 use Rattle.sdd_domain.specs.ScanAtClose.{TellsScan}
-use Rattle.sdd_domain.proofs.local_core.LocalCore.close_guard.Goals.{else-self-eq1, then-self-eq1+then-self-eq0}
+use Rattle.sdd_domain.proofs.local_core.LocalCore.close_guard.Goals.{then-self-gt1, else-self-gt1+else-self-ne0}
 use Rattle.sdd_domain.proofs.local_core.LocalCore.close_guard.Goals as goal
 
 -- under another guard there is no scan
@@ -24,9 +24,9 @@ scanned {told = told} {own = own} {new = new} now tried none is same known = sub
 })
 
 pub returns-clause-told : goal.returns-clause-told
-returns-clause-told g c = elim c.if-self-eq1.branch [
-  | then-self-eq1+then-self-eq0 w ↦ (let told = w.leave_after_scan.ensures.told in
+returns-clause-told g c = elim c.if-self-gt1.branch [
+  | else-self-gt1+else-self-ne0 w ↦ (let told = w.leave_after_scan.ensures.told in
     scanned w.leave_after_scan.new.self told.tried told.none (ap (λ (p : ℕ × Option ScanEnd). p.1) w.left-is) c.self.view_is
     (ap (λ (m : LocalState _). m.known) (c.self-2.view_is ∙ w.self-is)))
-  | else-self-eq1 w ↦ unscanned w.if-self-eq1.false (ap (λ (p : ℕ × Option ScanEnd). p.1) w.left-is) c.self.view_is
+  | then-self-gt1 w ↦ unscanned (λ one. omega (arith, one, w.if-self-gt1.true)) (ap (λ (p : ℕ × Option ScanEnd). p.1) w.left-is) c.self.view_is
 ]
