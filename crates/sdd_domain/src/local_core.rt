@@ -28,8 +28,8 @@ use sdd_domain_slots::ended_counts::EndedCounts;
 use sdd_domain_slots::free_slot_hints::FreeSlotHints;
 use sdd_domain_slots::places::{take_place, want_of_memory};
 use sdd_domain_slots::private_table::PrivateTable;
-use sdd_domain_slots::scan::{ScanEnd, scan};
-use sdd_domain_slots::shut::shut;
+use sdd_domain_slots::scan::ScanEnd;
+use sdd_domain_slots::shut::{scan_and_shut, shut};
 use sdd_domain_slots::sightings::Sightings;
 use sdd_domain_slots::values::take_value;
 use sdd_participants::{Bags, Job, LimboEntry, Participant, RunningTally, Tally};
@@ -409,34 +409,36 @@ impl<'d, T: Item<T>, J: Job> LocalCore<'d, T, J> {
     {
         let mut part = part_of_guard(guard);
         self.tenure.apart(&mut part);
-        if self.own.guards > 1 {
-            self.own.guards -= 1;
+        // The number of guards is stored behind a scan again, so that this close ends as that of a nested guard: the compiler gives both one end.
+        let (left, told) = if self.own.guards > 1 {
+            let left = self.own.guards - 1;
+            self.own.guards = left;
             self.tenure.join(part);
-            None
+            (left, None)
         } else {
-            self.leave(part)
-        }
+            if self.own.countdown != 0 {
+                self.leave(part);
+                return None;
+            }
+            (0, Some(self.leave_after_scan(part)))
+        };
+        prove!(left == self.own.guards);
+        self.own.guards = left;
+        told
     }
 
     /// The last close, which gives back the one part of the tenure that was out: the tenure ends.
     #[inline(always)]
-    fn leave(&mut self, part: ReadSection) -> Option<ScanEnd>
+    fn leave(&mut self, part: ReadSection)
         requires last { self.old.own.guards ≡ 1 }
+        requires unscanned { self.old.own.countdown ≢ 0 }
         requires reader { (part.home ≡ self.old.reader.home) × (part.number ≡ self.old.reader.number) }
         requires single { part.units ≡ 1 }
         ensures closed { GuardCloses self.old self.new }
-        ensures told { TellsScan result self.old self.new }
     {
-        let scans = self.own.countdown == 0;
         is_a_count(self.own.found);
         // No place is marked as ended yet.
         self.own.leave(false);
-        let told = if scans {
-            let found = self.own.found;
-            Some(scan(&self.domain.board, &mut self.token, self.place, found))
-        } else {
-            None
-        };
         shut(
             &self.domain.board,
             &mut self.token,
@@ -445,7 +447,30 @@ impl<'d, T: Item<T>, J: Job> LocalCore<'d, T, J> {
             &mut self.tenure,
             part,
         );
-        told
+    }
+
+    /// The same at countdown 0, after a scan. Tells how that ended.
+    #[inline(always)]
+    fn leave_after_scan(&mut self, part: ReadSection) -> ScanEnd
+        requires last { self.old.own.guards ≡ 1 }
+        requires scans { self.old.own.countdown ≡ 0 }
+        requires reader { (part.home ≡ self.old.reader.home) × (part.number ≡ self.old.reader.number) }
+        requires single { part.units ≡ 1 }
+        ensures closed { GuardCloses self.old self.new }
+        ensures told { TellsScan (Some result) self.old self.new }
+    {
+        is_a_count(self.own.found);
+        // No place is marked as ended yet.
+        self.own.leave(false);
+        scan_and_shut(
+            &self.domain.board,
+            &mut self.token,
+            self.place,
+            self.state,
+            self.own.found,
+            &mut self.tenure,
+            part,
+        )
     }
 
     /// The count of epochs at this moment.

@@ -1,5 +1,5 @@
 -- A participant is posed after each step that takes or gives slots.
-use Rattle.std.proofs.Common.{◌≡◌, ⊎_elim, ℕ, ◌+◌, ◌-◌, ◌^◌, ◌<◌, ◌≤◌, not, List, [], ◌∷◌, ◌++◌, map, drop, suc, sym, refl, ap, ◌∙◌, subst, eq-eqb, arith}
+use Rattle.std.proofs.Common.{◌≡◌, ⊎_elim, ℕ, ◌+◌, ◌-◌, ◌<◌, ◌≤◌, not, List, [], ◌∷◌, ◌++◌, map, drop, suc, sym, refl, ap, ◌∙◌, subst, eq-eqb, arith}
 use mathlib.Core.Bool.{Bool, cond}
 use base.Stored.{Gv}
 use mathlib.Core.Logic.{dite}
@@ -63,11 +63,6 @@ module _ (b : DomainTable) (p : ℕ) where
   pub has_place : (own : Participant) (s : Seat ValueFraction View) → IsBetweenCalls b p own s → HasPlace (epoch s)
   has_place own s q = dite (dec_lt 0 own.guards) (λ some_open. let e = q.opened some_open in omega arith)
       (λ none. let e = q.closed (omega arith) in omega arith)
-
-  -- while a guard is open a lone participant knows the count that it found, which fits its type
-  pub known_fits : (own : Participant) (s : Seat ValueFraction View) → IsBetweenCalls b p own s → 0 < own.guards → own.found < 2 ^ 64 → IsLone (epoch s)
-      → (epoch s).known < 2 ^ 64
-  known_fits own s q some_open fits one = let known = q.lone some_open one in let count = q.count in omega arith
 
   -- beside an owner nothing changes
   pub same_recalled : (slot : ℕ) (shared : Bool) (value : Gv) (s t : Seat ValueFraction View) → MovedAlone (LearnsOwned slot shared value) s t → t ≡ s

@@ -72,13 +72,3 @@ pub passed : (end : ScanEnd) (v a b d f u : EpochView) (k : ℕ) → Reads v v.c
     → Scanned v u × Tells end (IsLone v) v.count u.known
 passed end v a b d f u k reads locks looks raises unlocks =
     ended end v f u k reads.1 (subst (λ (t : EpochView). Raises end t f) (looked v a b d k reads locks looks) raises) unlocks
-
--- what an end tells, of the same by other names
-pub tells_as : (end : ScanEnd) (one same : Type 0) (n k : ℕ) (count known : ℕ) → (same → one) → n ≡ count → k ≡ known → Tells end one n k
-    → Tells end same count known
-tells_as Raised one same n k count known also a b t = let few = t.0 in let is = t.1 in (omega arith, omega arith)
-tells_as Outdated one same n k count known also a b t = λ is. t (b ∙ is ∙ sym a)
-tells_as Locked one same n k count known also a b t = (λ s. t.0 (also s), sym b ∙ t.1 ∙ a)
-tells_as Held one same n k count known also a b t = (λ s. t.0 (also s), sym b ∙ t.1 ∙ a)
-tells_as Overtaken one same n k count known also a b t = (λ s. t.0 (also s), sym b ∙ t.1 ∙ a)
-tells_as Last one same n k count known also a b t = let last = t.0 in let is = t.1 in (omega arith, omega arith)

@@ -1,8 +1,14 @@
 -- What a scan leaves, and what its end tells
 use Rattle.std.specs.Prelude.{◌≡◌, ◌≢◌, ℕ, ◌+◌, ◌^◌, ◌<◌, ◌≤◌}
+use Rattle.atomic_table.specs.declared.shared.Seat.{Seat}
+use Rattle.sdd_shared_values.specs.declared.value_fraction.ValueFraction.{ValueFraction}
 use Rattle.sdd_rights.specs.declared.views.EpochView.{EpochView}
+use Rattle.sdd_rights.specs.declared.views.View.{View}
 use Rattle.sdd_domain_invariant.specs.Epoch.{IsOpen, Scans, IsLone}
 use Rattle.sdd_domain_invariant.specs.EpochSteps.{knowing}
+use Rattle.sdd_domain_invariant.specs.SlotSteps.{ClosesAll}
+use Rattle.sdd_domain_invariant.specs.FractionSteps.{unsighted}
+use Rattle.sdd_atomics.specs.DomainSeat.{view, epoch, IsSameBut}
 use Rattle.sdd_domain_slots.specs.declared.scan.ScanEnd.{ScanEnd}
 use Rattle.sdd_domain_slots.specs.declared.scan.ScanEnd.TheVariants.{Raised, Outdated, Locked, Held, Overtaken, Last}
 
@@ -43,3 +49,11 @@ pub record Scanned (v w : EpochView) : Type 0 where
   pub near : IsOpen v → v.count ≤ v.since → w.known ≤ v.since + 1
   pub raised : IsLone v → v.known ≡ v.count → v.count + 1 < 2 ^ 64 → w.known ≡ v.count + 1
   pub last : IsLone v → v.known ≡ v.count → v.count + 1 ≡ 2 ^ 64 → w.known ≡ v.known
+
+-- a scan that ended so, and then the last close: there is a token between the two
+pub record ShutAfterScan (end : ScanEnd) (old new : Seat ValueFraction View) : Type 0 where
+  pub between : Seat ValueFraction View
+  pub same : IsSameBut old between
+  pub scanned : Scanned (epoch old) (epoch between)
+  pub told : Tells end (IsLone (epoch old)) (epoch old).count (epoch between).known
+  pub closed : (v : View) × ClosesAll (view between) 1 v × (view new ≡ unsighted v)

@@ -103,10 +103,8 @@ fn try_lock(board: &DomainTable, token: &mut DomainSeat) -> u64
 }
 
 /// Raises the count by one, if it is the own one, nobody else scans, and every other place passes. The last count stays. Tells how that ended.
-// A function of its own, so that the close of a guard stays short enough to be compiled into its caller.
-#[cold]
-#[inline(never)]
-pub fn scan(board: &DomainTable, token: &mut DomainSeat, place: usize, count: u64) -> ScanEnd
+#[inline]
+pub(crate) fn scan(board: &DomainTable, token: &mut DomainSeat, place: usize, count: u64) -> ScanEnd
     requires home { token.old.table_id ≡ id_of board.now }
     requires sizes { (view token.old).sizes ≡ sizes_of board.now }
     requires own { (place ≡ (epoch token.old).place) × (place < places_of board.now) }
