@@ -26,7 +26,7 @@ scanned {told = told} {own = own} {new = new} now tried none is same known = sub
 pub returns-clause-told : goal.returns-clause-told
 returns-clause-told g c = elim c.if-self-gt1.branch [
   | else-self-gt1+else-self-ne0 w ↦ (let told = w.leave_after_scan.ensures.told in
-    scanned w.leave_after_scan.new.self told.tried told.none (ap (λ (p : ℕ × Option ScanEnd). p.1) w.left-is) c.self.view_is
-    (ap (λ (m : LocalState _). m.known) (c.self-2.view_is ∙ w.self-is)))
+      scanned w.leave_after_scan.new.self told.tried told.none (ap (λ (p : ℕ × Option ScanEnd). p.1) w.left-is) c.self.view_is
+      (ap (λ (m : LocalState _). m.known) (c.self-2.view_is ∙ w.self-is)))
   | then-self-gt1 w ↦ unscanned (λ one. omega (arith, one, w.if-self-gt1.true)) (ap (λ (p : ℕ × Option ScanEnd). p.1) w.left-is) c.self.view_is
 ]
