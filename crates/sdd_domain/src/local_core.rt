@@ -409,7 +409,7 @@ impl<'d, T: Item<T>, J: Job> LocalCore<'d, T, J> {
     {
         let mut part = part_of_guard(guard);
         self.tenure.apart(&mut part);
-        // Behind a scan the number of guards is stored once more, so that this close ends as that of a nested guard does: the compiler gives both one end.
+        // Behind a scan the number of guards is stored once more: without that, paths that scan nothing were found an instruction longer.
         let (left, told) = if self.own.guards > 1 {
             let left = self.own.guards - 1;
             self.own.guards = left;
