@@ -1,5 +1,5 @@
 -- What the acts of a script share: what is left in hand is sound, and is what a call means
-use Rattle.sdd_interpreter.proofs.Words.{◌≡◌, ℕ, [], Option, Some, None, IsSome, map, length, slice_index_or, slice_set, refl, sym, ap, ◌∙◌, subst, arith, IsTrue, option_map, get_or-map, map-set, index_of, NamedParticipant, NamedGuard, Environment, List, length-map, ScriptState, OpenSince, opening_at, place_in, since_in, since_of, Acts, IsParticipant, CanPointTo, attending, guarding, owner_holding, cell_holding, collector_holding, newest_holding, oldest_holding, stack_holding, desk_of, IsTied, Answers, AreInRange, Call, CannotGo, GuardsIn, HasOpen, IsNew, IsPlaceOf, IsReclaimed, IsRunBy, IsSound, IsWhole, Limits, Meets, Reply, deferred, is_open, lt-ltb, none as no_call, place_of, replicate, set-get_or, set-set, slot_at}
+use Rattle.sdd_interpreter.proofs.Words.{◌≡◌, ℕ, [], Option, Some, None, IsSome, map, length, slice_index_or, slice_set, refl, sym, ap, ◌∙◌, subst, arith, IsTrue, option_map, get_or-map, map-set, index_of, NamedParticipant, NamedGuard, Environment, List, length-map, ScriptState, OpenSince, opening_at, place_in, since_in, since_of, Acts, IsParticipant, CanPointTo, attending, guarding, owner_holding, cell_holding, collector_holding, newest_holding, oldest_holding, stack_holding, desk_of, IsTied, Answers, AreInRange, Call, CannotGo, GuardsIn, HasOpen, IsNew, IsPlaceOf, IsReclaimed, IsRunBy, IsSound, IsWhole, Limits, Meets, Reply, deferred, is_open, lt-ltb, none as no_call, place_of, replicate, set-get_or, set-set, slot_at, Vec}
 use Rattle.sdd_participants.specs.EpochState as time
 use Rattle.sdd_interpreter.specs.declared.name_table.NameTable.{NameTable}
 use Rattle.sdd_script_model.specs.Script as script
@@ -29,6 +29,10 @@ goes {new} same sound guards = record {
   };
   desk = same;
 }
+
+-- with the lines in which items began to wait
+abbrev pub with_dates : Environment → Vec ℕ → Environment
+with_dates h dates = record h { log = record h.log { dates = dates } }
 
 -- what a name of a table stands for, as the desk has it
 pub named : {X Y : Type 0} (f : X → Y) (xs : List (Option X)) (n : ℕ) {x : X} → slice_index_or xs n None ≡ Some x →
@@ -119,11 +123,11 @@ module _ {h : Environment} {n : ℕ} {a : NamedParticipant} (at : Here h n a) wh
       (λ waits. rw (← since) (can.1 waits))
 
 -- nothing is in hand at the start
-pub tied-start : (h : Environment) (l : Limits) → IsNew l 0 h.world → h.moment ≡ 0 → h.places.entries.items ≡ [] → h.guards.entries.items ≡ [] →
-    h.owners.entries.items ≡ [] → h.cells.entries.items ≡ [] → h.collectors.entries.items ≡ [] → h.queues.entries.items ≡ [] → h.stacks.entries.items ≡ [] →
-    h.bags.entries.items ≡ [] →
-    h.slots.items ≡ [] → length h.names.items ≡ l.slots →
-    h.dates.items ≡ replicate l.slots 0 → h.jobs ≡ 0 → h.deferred.items ≡ replicate l.jobs 0 → h.job_dates.items ≡ replicate l.jobs 0 →
+pub tied-start : (h : Environment) (l : Limits) → IsNew l 0 h.world → h.log.moment ≡ 0 → h.places.entries.items ≡ [] → h.guards.entries.items ≡ [] →
+    h.owners.entries.items ≡ [] → h.cells.entries.items ≡ [] → h.collectors.entries.items ≡ [] →
+    h.lists.queues.entries.items ≡ [] → h.lists.stacks.entries.items ≡ [] → h.lists.bags.entries.items ≡ [] →
+    h.log.slots.items ≡ [] → length h.log.names.items ≡ l.slots →
+    h.log.dates.items ≡ replicate l.slots 0 → h.log.jobs ≡ 0 → h.log.deferred.items ≡ replicate l.jobs 0 → h.log.job_dates.items ≡ replicate l.jobs 0 →
     AreInRange l → IsTied h
 tied-start h l new start places guards owners cells collectors queues stacks bags slots names dates jobs deferred job_dates ranges = record {
   sound = sound-start l (desk_of h) (record {

@@ -8,9 +8,9 @@ use Rattle.sdd_script_model.proofs.Storing.{off-valued}
 
 module _ (h : Environment) (t : IsTied h) where
   -- what a value holds an owner of has a name
-  pub value-named : (j : ℕ) (v : Val) → value_at h.world j ≡ Some v → IsOfNamed h.names.items (body_of v)
+  pub value-named : (j : ℕ) (v : Val) → value_at h.world j ≡ Some v → IsOfNamed h.log.names.items (body_of v)
   value-named j v here = by (body_of v) refl where
-    its : (x : OwnerOrCell) (k : ℕ) → owner_in (body_of v) ≡ x ∷ [] → slot_of (Some x) ≡ Some k → IsSome (slice_index_or h.names.items k None)
+    its : (x : OwnerOrCell) (k : ℕ) → owner_in (body_of v) ≡ x ∷ [] → slot_of (Some x) ≡ Some k → IsSome (slice_index_or h.log.names.items k None)
     its x k is slot =
         name-some (desk_of h) t.sound.stocked k (value-owner-out (desk_of h) (accounts (desk_of h) t.sound) j v x k here is slot)
         (off-valued (desk_of h) h.world (named (desk_of h)) t.sound.ledger (λ n b es at stands. stands) j k (holds x k is slot)) where
@@ -21,7 +21,7 @@ module _ (h : Environment) (t : IsTied h) where
               let itself : one_where (k == k) ≡ 1 = ap one_where (eq-eqb k k refl) in
               omega (arith, ap (times_held holdings_of k) here, times-held v k, one_owner, owner-where x k slot k, itself)
 
-    by : (b : Body) → body_of v ≡ b → IsOfNamed h.names.items b
+    by : (b : Body) → body_of v ≡ b → IsOfNamed h.log.names.items b
     by (body.Number n) e = tt
     by (body.Owned o) e = its (owned.holding_of o) (owned.slot_of o) (ap owner_in e) refl
     by (body.Storage st) e = tt

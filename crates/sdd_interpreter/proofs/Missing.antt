@@ -43,8 +43,8 @@ module _ (h : Environment) where
     since-is = ap since_in (sym there)
 
     -- what a stage says of it is what is meant
-    pub points : (i : ℕ) → CanPointAt h.world h.slots.items h.names.items h.dates.items i a.since → CanPointTo d n i
+    pub points : (i : ℕ) → CanPointAt h.world h.log.slots.items h.log.names.items h.log.dates.items i a.since → CanPointTo d n i
     points i can = (record { last = can.last; taken = can.taken }, λ waits. rw since-is (can.fresh waits))
 
-    pub points-not : (i : ℕ) → ¬ (CanPointAt h.world h.slots.items h.names.items h.dates.items i a.since) → ¬ (CanPointTo d n i)
+    pub points-not : (i : ℕ) → ¬ (CanPointAt h.world h.log.slots.items h.log.names.items h.log.dates.items i a.since) → ¬ (CanPointTo d n i)
     points-not i cannot can = cannot (record { last = can.0.last; taken = can.0.taken; fresh = λ waits. rw (← since-is) (can.1 waits) })

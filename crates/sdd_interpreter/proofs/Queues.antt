@@ -7,20 +7,20 @@ module _ (h : Environment) where
 
   -- each has both cells
   pub both-long : length d.queues ≡ length d.newest
-  both-long = length-map h.queues.entries.items (option_map oldest_holding) ∙ sym (length-map h.queues.entries.items (option_map newest_holding))
+  both-long = length-map h.lists.queues.entries.items (option_map oldest_holding) ∙ sym (length-map h.lists.queues.entries.items (option_map newest_holding))
 
-  pub no-queue : (n : ℕ) → None ≡ slice_index_or h.queues.entries.items n None → ¬ (IsQueueName d n)
+  pub no-queue : (n : ℕ) → None ≡ slice_index_or h.lists.queues.entries.items n None → ¬ (IsQueueName d n)
   no-queue n none there =
       let entry : holding_at d.queues n ≡ None =
-      get_or-map (option_map oldest_holding) h.queues.entries.items n None ∙ ap (option_map oldest_holding) (sym none) in
+      get_or-map (option_map oldest_holding) h.lists.queues.entries.items n None ∙ ap (option_map oldest_holding) (sym none) in
       false≢true (rw entry at there)
 
-  module _ (n : ℕ) (x : Queue Body) (there : Some x ≡ slice_index_or h.queues.entries.items n None) where
+  module _ (n : ℕ) (x : Queue Body) (there : Some x ≡ slice_index_or h.lists.queues.entries.items n None) where
     pub named-oldest : holding_at d.queues n ≡ Some (oldest_holding x)
-    named-oldest = get_or-map (option_map oldest_holding) h.queues.entries.items n None ∙ ap (option_map oldest_holding) (sym there)
+    named-oldest = get_or-map (option_map oldest_holding) h.lists.queues.entries.items n None ∙ ap (option_map oldest_holding) (sym there)
 
     named-newest : holding_at d.newest n ≡ Some (newest_holding x)
-    named-newest = get_or-map (option_map newest_holding) h.queues.entries.items n None ∙ ap (option_map newest_holding) (sym there)
+    named-newest = get_or-map (option_map newest_holding) h.lists.queues.entries.items n None ∙ ap (option_map newest_holding) (sym there)
 
     pub queue-home : IsTied h → AreOfCells h.world.home.cells x
     queue-home t = record {
@@ -35,17 +35,17 @@ module _ (h : Environment) where
     newest-cell = ap shared_cell named-newest
 
   module _ (queues : Vec (Option (Queue Body))) where
-    pub queues-spent : (n : ℕ) → queues.items ≡ slice_set h.queues.entries.items n None →
+    pub queues-spent : (n : ℕ) → queues.items ≡ slice_set h.lists.queues.entries.items n None →
         (map (option_map oldest_holding) queues.items ≡ slice_set d.queues n None) × (map (option_map newest_holding) queues.items ≡ slice_set d.newest n None)
     queues-spent n taken = (
-      ap (map (option_map oldest_holding)) taken ∙ map-set (option_map oldest_holding) h.queues.entries.items n None,
-      ap (map (option_map newest_holding)) taken ∙ map-set (option_map newest_holding) h.queues.entries.items n None,
+      ap (map (option_map oldest_holding)) taken ∙ map-set (option_map oldest_holding) h.lists.queues.entries.items n None,
+      ap (map (option_map newest_holding)) taken ∙ map-set (option_map newest_holding) h.lists.queues.entries.items n None,
     )
 
-    pub queues-more : (x : Queue Body) → queues.items ≡ h.queues.entries.items ++ Some x ∷ [] →
+    pub queues-more : (x : Queue Body) → queues.items ≡ h.lists.queues.entries.items ++ Some x ∷ [] →
         (map (option_map oldest_holding) queues.items ≡ d.queues ++ Some (oldest_holding x) ∷ [])
         × (map (option_map newest_holding) queues.items ≡ d.newest ++ Some (newest_holding x) ∷ [])
     queues-more x pushed = (
-      ap (map (option_map oldest_holding)) pushed ∙ map_push (option_map oldest_holding) h.queues.entries.items (Some x),
-      ap (map (option_map newest_holding)) pushed ∙ map_push (option_map newest_holding) h.queues.entries.items (Some x),
+      ap (map (option_map oldest_holding)) pushed ∙ map_push (option_map oldest_holding) h.lists.queues.entries.items (Some x),
+      ap (map (option_map newest_holding)) pushed ∙ map_push (option_map newest_holding) h.lists.queues.entries.items (Some x),
     )

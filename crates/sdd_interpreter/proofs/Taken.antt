@@ -63,8 +63,8 @@ module _ (h : Environment) (t : IsTied h) (n : ℕ) where
   shared-cell-home x is = cell-home (cell.Share x) is
 
 -- the name that a slot had last is that of an item
-pub name-within : (h : Environment) → IsTied h → (s i : ℕ) → IsSome (standing_at h.world s) → slice_index_or h.names.items s None ≡ Some i →
-    i < length h.slots.items
+pub name-within : (h : Environment) → IsTied h → (s i : ℕ) → IsSome (standing_at h.world s) → slice_index_or h.log.names.items s None ≡ Some i →
+    i < length h.log.slots.items
 name-within h t s i there is = rw is at (name-given (desk_of h) t.sound.stocked s there)
 
 -- ---- the participant of a name is one of the world's

@@ -13,23 +13,23 @@ use Rattle.sdd_rights.specs.Units as token
 abbrev pub desk_of : Environment → ScriptState
 desk_of s =
     record {
-      moment = s.moment;
+      moment = s.log.moment;
       world = s.world;
       places = map attending s.places.entries.items;
       guards = map guarding s.guards.entries.items;
       owners = map (option_map owner_holding) s.owners.entries.items;
       cells = map (option_map cell_holding) s.cells.entries.items;
       collectors = map (option_map collector_holding) s.collectors.entries.items;
-      queues = map (option_map oldest_holding) s.queues.entries.items;
-      newest = map (option_map newest_holding) s.queues.entries.items;
-      stacks = map (option_map stack_holding) s.stacks.entries.items;
-      bags = s.bags.entries.items;
-      slots = s.slots.items;
-      names = s.names.items;
-      dates = s.dates.items;
-      jobs = s.jobs;
-      deferred = s.deferred.items;
-      job_dates = s.job_dates.items;
+      queues = map (option_map oldest_holding) s.lists.queues.entries.items;
+      newest = map (option_map newest_holding) s.lists.queues.entries.items;
+      stacks = map (option_map stack_holding) s.lists.stacks.entries.items;
+      bags = s.lists.bags.entries.items;
+      slots = s.log.slots.items;
+      names = s.log.names.items;
+      dates = s.log.dates.items;
+      jobs = s.log.jobs;
+      deferred = s.log.deferred.items;
+      job_dates = s.log.job_dates.items;
     }
 
 -- a guard is that of the participant under whose name it was opened

@@ -3,3 +3,4 @@ pub mod Interpreter
 pub mod Owners
 pub mod Containers
 pub mod Copies
+pub mod Guards

@@ -16,24 +16,30 @@ ghost use Rattle.sdd_interpreter.specs.Containers.{HasEntries, IsListOf, NamesNo
 use crate::holding::AnyList;
 use crate::items::number_of;
 use crate::name_table::NameTable;
+use sdd_bag::Bag;
 use sdd_lists::{Queue, Stack, Walk};
 use sdd_script_model::{Body, Val};
 use sdd_script_text::ListName;
 use sdd_space::{Cells, Guard, Items, LookThrough, Ptr, Shared};
 use sdd_world::World;
 
-/// The container of this name, if it is there.
-pub fn list_named<'a>(
-    queues: &'a NameTable<Queue<Body>>,
-    stacks: &'a NameTable<Stack<Body>>,
-    name: ListName,
-) -> Option<AnyList<'a>>
-    ensures { MatchOption result (NamesNone queues.now.entries.items stacks.now.entries.items name)
-        (StandsFor queues.now.entries.items stacks.now.entries.items name) }
-{
-    match name {
-        ListName::Queue(queue) => Some(AnyList::Queue(queues.get(queue.0)?)),
-        ListName::Stack(stack) => Some(AnyList::Stack(stacks.get(stack.0)?)),
+/// The queues, stacks and bags of a script.
+pub struct Lists {
+    pub queues: NameTable<Queue<Body>>,
+    pub stacks: NameTable<Stack<Body>>,
+    pub bags: NameTable<Bag<u64, 32, Body>>,
+}
+
+impl Lists {
+    /// The container of entries of this name, if it is there.
+    pub fn list_named(&self, name: ListName) -> Option<AnyList<'_>>
+        ensures { MatchOption result (NamesNone self.now.queues.entries.items self.now.stacks.entries.items name)
+            (StandsFor self.now.queues.entries.items self.now.stacks.entries.items name) }
+    {
+        match name {
+            ListName::Queue(queue) => Some(AnyList::Queue(self.queues.get(queue.0)?)),
+            ListName::Stack(stack) => Some(AnyList::Stack(self.stacks.get(stack.0)?)),
+        }
     }
 }
 

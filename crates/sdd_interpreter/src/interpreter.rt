@@ -1,13 +1,13 @@
 //! The world of a script in the middle of a run, with what its names stand for.
 ghost use Rattle.std.specs.Prelude.{◌≡◌, ◌<◌, ◌⊎◌, [], IfOk, MatchResult};
 
+use crate::containers::Lists;
 use crate::holding::{AnyCell, AnyOwner};
+use crate::log::Log;
 use crate::name_table::NameTable;
 use crate::participants::{NamedGuard, NamedParticipant};
-use sdd_bag::Bag;
 use sdd_core::{Limits, Refused};
-use sdd_lists::{Queue, Stack};
-use sdd_script_model::{Body, Val};
+use sdd_script_model::Val;
 use sdd_script_text::{Answer, Names, Reply};
 use sdd_space::PrivateCollector;
 use sdd_world::World;
@@ -17,29 +17,13 @@ use std::marker::Model;
 /// A world, and what a script holds of it.
 pub struct Environment {
     pub world: World<Val>,
-    pub alloc: Global,
-    /// How many lines there were, the present one counted.
-    pub moment: u64,
     pub places: NameTable<NamedParticipant>,
     pub guards: NameTable<NamedGuard>,
     pub owners: NameTable<AnyOwner>,
     pub cells: NameTable<AnyCell>,
     pub collectors: NameTable<PrivateCollector<Val>>,
-    pub queues: NameTable<Queue<Body>>,
-    pub stacks: NameTable<Stack<Body>>,
-    pub bags: NameTable<Bag<u64, 32, Body>>,
-    /// Of each item its slot.
-    pub slots: Vec<u32>,
-    /// Of each slot the name of the item that it had last, if that had one.
-    pub names: Vec<Option<u64>>,
-    /// Of each slot the line in which its item began to wait.
-    pub dates: Vec<u64>,
-    /// How many jobs there were.
-    pub jobs: u64,
-    /// Of each place of the table of jobs the name of the job that it had last.
-    pub deferred: Vec<u64>,
-    /// Of each place of the table of jobs the line in which that was deferred.
-    pub job_dates: Vec<u64>,
+    pub lists: Lists,
+    pub log: Log,
 }
 
 /// A script in the middle of a run.
@@ -84,22 +68,26 @@ impl Interpreter {
         Ok(Interpreter {
             hand: Environment {
                 world,
-                alloc,
-                moment: 0,
                 places: NameTable::new(alloc),
                 guards: NameTable::new(alloc),
                 owners: NameTable::new(alloc),
                 cells: NameTable::new(alloc),
                 collectors: NameTable::new(alloc),
-                queues: NameTable::new(alloc),
-                stacks: NameTable::new(alloc),
-                bags: NameTable::new(alloc),
-                slots: Vec::new(alloc),
-                names,
-                dates,
-                jobs: 0,
-                deferred,
-                job_dates,
+                lists: Lists {
+                    queues: NameTable::new(alloc),
+                    stacks: NameTable::new(alloc),
+                    bags: NameTable::new(alloc),
+                },
+                log: Log {
+                    alloc,
+                    moment: 0,
+                    slots: Vec::new(alloc),
+                    names,
+                    dates,
+                    jobs: 0,
+                    deferred,
+                    job_dates,
+                },
             },
         })
     }
@@ -117,8 +105,8 @@ impl Interpreter {
     {
         Answer {
             reply,
-            reclaimed: Names::new(self.hand.alloc),
-            ran: Names::new(self.hand.alloc),
+            reclaimed: Names::new(self.hand.log.alloc),
+            ran: Names::new(self.hand.log.alloc),
         }
     }
 }

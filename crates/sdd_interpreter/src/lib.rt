@@ -9,12 +9,15 @@ pub mod holding;
 pub mod interpreter;
 pub mod items;
 pub mod jobs;
+pub mod log;
 pub mod name_table;
 pub mod owners;
 pub mod participants;
 pub mod turns;
 
+pub use containers::Lists;
 pub use holding::{AnyCell, AnyList, AnyOwner, CellOwner};
 pub use interpreter::{Environment, Interpreter};
+pub use log::Log;
 pub use name_table::NameTable;
 pub use participants::{NamedGuard, NamedParticipant};

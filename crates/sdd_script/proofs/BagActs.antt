@@ -1,5 +1,5 @@
 -- What each action on a bag leaves in hand: it is sound, and it is what the call means
-use Rattle.sdd_script.proofs.Words.{◌≡◌, ◌+◌, ℕ, Bool, true, false, List, [], ◌∷◌, ◌++◌, Option, Some, None, is_some, length, slice_index_or, slice_set, refl, sym, ap, ◌∙◌, subst, Vec, IsNonDecreasing, IsPermutation, set-get_or, set-set, Refused, NoCell, World, IsPlaceOf, IsWhole, Entry, HasOneAtMost, HasSameCells, IsBag, IsOfCells, ClosesBag, index_of, GuardName, PlaceName, Reply, Call, At, holds_nothing, StandsOn, LosesNames, BeginsLine, NumberBag, ScriptState, bag_at, bag_length, opening_at, place_of, Acts, HasOpen, IsParticipant, IsUnderGuard, Val, storage_in, bag_closed-leaves, NamedParticipant, attending, Environment, IsTied, desk_of, Does, does, goes, still, AreFull, BeginsBag, IsBagName, PushesInside, PutsNumber, RefusesStorage, TakesAll, TakesNumber, bag_begun-leaves, length-append, overflow_of, primary_of, values_of, with_bag_at}
+use Rattle.sdd_script.proofs.Words.{◌≡◌, ◌+◌, ℕ, Bool, true, false, List, [], ◌∷◌, ◌++◌, Option, Some, None, is_some, length, slice_index_or, slice_set, refl, sym, ap, ◌∙◌, subst, Vec, IsNonDecreasing, IsPermutation, set-get_or, set-set, Refused, NoCell, World, IsPlaceOf, IsWhole, Entry, HasOneAtMost, HasSameCells, IsBag, IsOfCells, ClosesBag, index_of, GuardName, PlaceName, Reply, Call, At, holds_nothing, StandsOn, LosesNames, BeginsLine, NumberBag, ScriptState, bag_at, bag_length, opening_at, place_of, Acts, HasOpen, IsParticipant, IsUnderGuard, Val, storage_in, bag_closed-leaves, NamedParticipant, attending, Environment, IsTied, desk_of, Does, does, goes, still, AreFull, BeginsBag, IsBagName, PushesInside, PutsNumber, RefusesStorage, TakesAll, TakesNumber, bag_begun-leaves, length-append, overflow_of, primary_of, values_of, with_bag_at, with_dates}
 use Rattle.sdd_script_text.specs.declared.name.BagName.{BagName}
 use Rattle.sdd_script_text.specs.Actions as call
 use Rattle.sdd_script_text.specs.declared.answer.Reply.TheVariants as reply
@@ -9,15 +9,15 @@ use Rattle.sdd_script.proofs.CopyActs.{AreForgotten, AreFreeSo, as-dated, as-nam
 use Rattle.sdd_script.proofs.StackActs.{AreDatedNow, AreTold, dated-within}
 
 -- no bag has this name
-pub no-bag : (h : Environment) (b : ℕ) → None ≡ slice_index_or h.bags.entries.items b None → ¬ (IsBagName (desk_of h) b)
+pub no-bag : (h : Environment) (b : ℕ) → None ≡ slice_index_or h.lists.bags.entries.items b None → ¬ (IsBagName (desk_of h) b)
 no-bag h b none there = let never : false ≡ true = ap is_some none ∙ there in absurd (cc)
 
 -- the bag of this name is in the world, and its cells are of the world's home
-pub bag-kept : (h : Environment) → IsTied h → (b : ℕ) (bag : NumberBag) → Some bag ≡ slice_index_or h.bags.entries.items b None →
+pub bag-kept : (h : Environment) → IsTied h → (b : ℕ) (bag : NumberBag) → Some bag ≡ slice_index_or h.lists.bags.entries.items b None →
     IsBag storage_in bag_length h.world bag
 bag-kept h t b bag mine = (t.sound.bags b bag (sym mine)).bag
 
-pub bag-home : (h : Environment) → IsTied h → (b : ℕ) (bag : NumberBag) → Some bag ≡ slice_index_or h.bags.entries.items b None →
+pub bag-home : (h : Environment) → IsTied h → (b : ℕ) (bag : NumberBag) → Some bag ≡ slice_index_or h.lists.bags.entries.items b None →
     IsOfCells h.world.home.cells bag
 bag-home h t b bag mine = (t.sound.bags b bag (sym mine)).home
 
@@ -49,15 +49,15 @@ module _ (h : Environment) (t : IsTied h) (whole : IsWhole h.world) (name : Plac
   acts-no_cells few = still (desk_of h) (At name call.Bag) (reply.Refused NoCell) (here, (few, refl))
 
   pub acts-begun : (w : World Val) (bags : Vec (Option NumberBag)) (bag : NumberBag) (r : BagName) → BeginsBag h.world bag w →
-      bags.items ≡ h.bags.entries.items ++ Some bag ∷ [] → r.0 ≡ length h.bags.entries.items →
-      Does (desk_of h) (At name call.Bag) (reply.Bag r) (record h { world = w; bags = record { entries = bags } })
+      bags.items ≡ h.lists.bags.entries.items ++ Some bag ∷ [] → r.0 ≡ length h.lists.bags.entries.items →
+      Does (desk_of h) (At name call.Bag) (reply.Bag r) (record h { world = w; lists = record h.lists { bags = record { entries = bags } } })
   acts-begun w bags bag r begins pushed named =
       acts.leaves (acts.under name.0 t whole there) refl (cc (pushed)) (bag_begun-leaves (desk_of h) t.sound whole p live bag w begins)
       (here, (named, (bag, w, begins, refl)))
 
   -- ---- the bag of this name
 
-  module _ (b : BagName) (old : NumberBag) (mine : Some old ≡ slice_index_or h.bags.entries.items b.0 None) where
+  module _ (b : BagName) (old : NumberBag) (mine : Some old ≡ slice_index_or h.lists.bags.entries.items b.0 None) where
     is : bag_at (desk_of h).bags b.0 ≡ Some old
     is = sym mine
 
@@ -85,12 +85,12 @@ module _ (h : Environment) (t : IsTied h) (whole : IsWhole h.world) (name : Plac
         ((valid, is-bag), ((old, is, same ∙ sym (length-append (primary_of old) (overflow_of old))), refl))
 
     -- what is as before answers so, where the bag is put back
-    pub acts-as-before : (w : World Val) (bags : Vec (Option NumberBag)) → w ≡ h.world → bags.items ≡ slice_set h.bags.entries.items b.0 (Some old) →
+    pub acts-as-before : (w : World Val) (bags : Vec (Option NumberBag)) → w ≡ h.world → bags.items ≡ slice_set h.lists.bags.entries.items b.0 (Some old) →
         (asked : Call) (given : Reply) → Acts (desk_of h) asked given (desk_of h) →
-        Does (desk_of h) asked given (record h { world = w; bags = record { entries = bags } })
+        Does (desk_of h) asked given (record h { world = w; lists = record h.lists { bags = record { entries = bags } } })
     acts-as-before w bags world put asked given holds =
-        let back : bags.items ≡ h.bags.entries.items =
-        put ∙ ap (λ (x : Option NumberBag). slice_set h.bags.entries.items b.0 x) mine ∙ set-get_or h.bags.entries.items b.0 None in
+        let back : bags.items ≡ h.lists.bags.entries.items =
+        put ∙ ap (λ (x : Option NumberBag). slice_set h.lists.bags.entries.items b.0 x) mine ∙ set-get_or h.lists.bags.entries.items b.0 None in
         let same =
         ap (λ (x : World Val). record (desk_of h) { world = x; bags = bags.items }) world
         ∙ ap (λ (xs : List (Option NumberBag)). record (desk_of h) { bags = xs }) back in
@@ -98,22 +98,23 @@ module _ (h : Environment) (t : IsTied h) (whole : IsWhole h.world) (name : Plac
 
     -- a number is refused, and the bag comes back as it was
     pub acts-given_back : (bag : NumberBag) (w : World Val) (bags : Vec (Option NumberBag)) →
-        bags.items ≡ slice_set h.bags.entries.items b.0 (Some bag) → (g : GuardName) → HasOpen (desk_of h) n g.0 → (number : ℕ) (why : Refused) →
+        bags.items ≡ slice_set h.lists.bags.entries.items b.0 (Some bag) → (g : GuardName) → HasOpen (desk_of h) n g.0 → (number : ℕ) (why : Refused) →
         (length (primary_of old) ≡ bag_length) × AreFull bag_length old.overflow.places × RefusesStorage h.world why × (bag ≡ old) × (w ≡ h.world) →
-        Does (desk_of h) (At name (call.Add b number g)) (reply.Refused why) (record h { world = w; bags = record { entries = bags } })
+        Does (desk_of h) (At name (call.Add b number g)) (reply.Refused why)
+        (record h { world = w; lists = record h.lists { bags = record { entries = bags } } })
     acts-given_back bag w bags put g valid number why (full, all, refuses, same, world) =
-        acts-as-before w bags world (put ∙ ap (λ (x : NumberBag). slice_set h.bags.entries.items b.0 (Some x)) same) (At name (call.Add b number g))
+        acts-as-before w bags world (put ∙ ap (λ (x : NumberBag). slice_set h.lists.bags.entries.items b.0 (Some x)) same) (At name (call.Add b number g))
         (reply.Refused why) (acts-refused g number why valid full all refuses)
 
     -- and so are the dates
     pub acts-dated-as-before : (waited : List Bool) → AreTold h waited → (w : World Val) (bags : Vec (Option NumberBag)) (dates : Vec ℕ) → w ≡ h.world →
-        bags.items ≡ slice_set h.bags.entries.items b.0 (Some old) → AreDatedNow h w waited dates →
+        bags.items ≡ slice_set h.lists.bags.entries.items b.0 (Some old) → AreDatedNow h w waited dates →
         (asked : Call) (given : Reply) → Acts (desk_of h) asked given (desk_of h) →
-        Does (desk_of h) asked given (record h { world = w; bags = record { entries = bags }; dates = dates })
+        Does (desk_of h) asked given (record (with_dates h dates) { world = w; lists = record h.lists { bags = record { entries = bags } } })
     acts-dated-as-before waited told w bags dates world put now asked given holds =
-        let back : bags.items ≡ h.bags.entries.items =
-        put ∙ ap (λ (x : Option NumberBag). slice_set h.bags.entries.items b.0 x) mine ∙ set-get_or h.bags.entries.items b.0 None in
-        let as_they_were : dates.items ≡ h.dates.items = as-dated h t w dates (dated-within h t waited told w dates now) world in
+        let back : bags.items ≡ h.lists.bags.entries.items =
+        put ∙ ap (λ (x : Option NumberBag). slice_set h.lists.bags.entries.items b.0 x) mine ∙ set-get_or h.lists.bags.entries.items b.0 None in
+        let as_they_were : dates.items ≡ h.log.dates.items = as-dated h t w dates (dated-within h t waited told w dates now) world in
         let same =
         ap (λ (x : World Val). record (desk_of h) { world = x; bags = bags.items; dates = dates.items }) world
         ∙ ap (λ (xs : List (Option NumberBag)). record (desk_of h) { bags = xs; dates = dates.items }) back
@@ -123,9 +124,9 @@ module _ (h : Environment) (t : IsTied h) (whole : IsWhole h.world) (name : Plac
     -- ---- it is this one then
 
     module _ (bag : NumberBag) (cells : HasSameCells old bag) (bags : Vec (Option NumberBag))
-        (put : bags.items ≡ slice_set h.bags.entries.items b.0 (Some bag)) where
+        (put : bags.items ≡ slice_set h.lists.bags.entries.items b.0 (Some bag)) where
       pub acts-tried : (number : ℕ) → PushesInside bag_length number old bag →
-          Does (desk_of h) (At name (call.Try b number)) reply.Done (record h { bags = record { entries = bags } })
+          Does (desk_of h) (At name (call.Try b number)) reply.Done (record h { lists = record h.lists { bags = record { entries = bags } } })
       acts-tried number inside =
           acts.leaves (acts.under name.0 t whole there) refl (cc (put))
           (inside-leaves (desk_of h) t.sound whole p b.0 live old bag is cells inside.others)
@@ -134,7 +135,8 @@ module _ (h : Environment) (t : IsTied h) (whole : IsWhole h.world) (name : Plac
       module _ (w : World Val) (its : IsBag storage_in bag_length w bag) (g : GuardName) (valid : HasOpen (desk_of h) n g.0) where
         pub acts-added : BeginsLine (desk_of h) → (number : ℕ) → PutsNumber h.world p number old bag w → (free : List Bool) → AreFreeSo h free →
             (names : Vec (Option ℕ)) → AreForgotten h w free names →
-            Does (desk_of h) (At name (call.Add b number g)) reply.Done (record h { world = w; bags = record { entries = bags }; names = names })
+            Does (desk_of h) (At name (call.Add b number g)) reply.Done
+            (record h { world = w; lists = record h.lists { bags = record { entries = bags } }; log = record h.log { names = names } })
         acts-added line number puts free told names now =
             let long = put-long (desk_of h) t.sound whole p b.0 live old bag is cells number w puts in
             let new : ScriptState = record (desk_of h) {
@@ -155,7 +157,7 @@ module _ (h : Environment) (t : IsTied h) (whole : IsWhole h.world) (name : Plac
         module _ (waited : List Bool) (told : AreTold h waited) (dates : Vec ℕ) (now : AreDatedNow h w waited dates) where
           pub acts-took : (number : ℕ) → TakesNumber h.world p number old bag w →
               Does (desk_of h) (At name (call.Take b g)) (reply.Value number)
-              (record h { world = w; bags = record { entries = bags }; dates = dates })
+              (record (with_dates h dates) { world = w; lists = record h.lists { bags = record { entries = bags } } })
           acts-took number takes =
               acts.leaves (acts.under name.0 t whole there) refl (cc (put))
               (take-leaves (desk_of h) t.sound whole p b.0 live old bag is cells number w takes its dates.items
@@ -166,7 +168,7 @@ module _ (h : Environment) (t : IsTied h) (whole : IsWhole h.world) (name : Plac
 
           pub acts-drained : (taken numbers : List ℕ) → TakesAll h.world p old bag taken w → IsPermutation taken numbers → IsNonDecreasing numbers →
               Does (desk_of h) (At name (call.Drain b g)) (reply.Numbers numbers)
-              (record h { world = w; bags = record { entries = bags }; dates = dates })
+              (record (with_dates h dates) { world = w; lists = record h.lists { bags = record { entries = bags } } })
           acts-drained taken numbers takes shuffled up =
               acts.leaves (acts.under name.0 t whole there) refl (cc (put))
               (drain-leaves (desk_of h) t.sound whole p b.0 live old bag is cells taken w takes its dates.items
@@ -180,8 +182,9 @@ module _ (h : Environment) (t : IsTied h) (whole : IsWhole h.world) (name : Plac
     module _ (waited : List Bool) (told : AreTold h waited) where
       pub acts-closed : (w : World Val) (bags : Vec (Option NumberBag)) (dates : Vec ℕ) → IsUnderGuard (desk_of h) n →
           ((es : List (Entry Val)) → StandsOn h.world old es → ClosesBag holds_nothing bag_length h.world p old es w) →
-          bags.items ≡ slice_set h.bags.entries.items b.0 None → AreDatedNow h w waited dates →
-          Does (desk_of h) (At name (call.CloseBag b)) reply.Done (record h { world = w; bags = record { entries = bags }; dates = dates })
+          bags.items ≡ slice_set h.lists.bags.entries.items b.0 None → AreDatedNow h w waited dates →
+          Does (desk_of h) (At name (call.CloseBag b)) reply.Done
+          (record (with_dates h dates) { world = w; lists = record h.lists { bags = record { entries = bags } } })
       acts-closed w bags dates valid did spent now =
           let was = bag-kept h t b.0 old mine in
           let closing = did was.entries was.lies in

@@ -1,5 +1,5 @@
 -- What each action of a cell leaves in hand: it is sound, and it is what the call means
-use Rattle.sdd_script.proofs.Words.{◌≡◌, ℕ, Bool, true, false, if◌then◌else◌, [], ◌∷◌, ◌++◌, ◌<◌, Option, Some, None, is_some, map, length, slice_index_or, slice_set, refl, ap, ◌∙◌, IsTrue, ◌↔◌, IfSome, option_map, Vec, map-set, map_push, Tag, IsEmptyAt, entry_at, CellContents, OwnerOrCell, with_cell, cell_closed, held_in, World, index_of, PlaceName, OwnerName, CellName, At, Val, OwnerKind, AnyOwner, AnyCell, CellOwner, NamedParticipant, Environment, ScriptState, cell_of, in_world, slot_of, Meets, slot_put, IsCell, FitsIn, Fills, named_owner, dated_if_waiting, owner_holding, cell_holding, cell_number, filling_holding, desk_of, IsTied, Does, Here, attends, does, goes, leaves, place-is, sits, still, IsPut, after_celled, arith, cell-there, cell_as, cell_closed-leaves, celled-leaves, common_steps, dates_spilled, filling_kind, held-dated, holding_around, making_cell, named as named-as, tagged-leaves}
+use Rattle.sdd_script.proofs.Words.{◌≡◌, ℕ, Bool, true, false, if◌then◌else◌, [], ◌∷◌, ◌++◌, ◌<◌, Option, Some, None, is_some, map, length, slice_index_or, slice_set, refl, ap, ◌∙◌, IsTrue, ◌↔◌, IfSome, option_map, Vec, map-set, map_push, Tag, IsEmptyAt, entry_at, CellContents, OwnerOrCell, with_cell, cell_closed, held_in, World, index_of, PlaceName, OwnerName, CellName, At, Val, OwnerKind, AnyOwner, AnyCell, CellOwner, NamedParticipant, Environment, ScriptState, cell_of, in_world, slot_of, Meets, slot_put, IsCell, FitsIn, Fills, named_owner, dated_if_waiting, owner_holding, cell_holding, cell_number, filling_holding, desk_of, IsTied, Does, Here, attends, does, goes, leaves, place-is, sits, still, IsPut, after_celled, arith, cell-there, cell_as, cell_closed-leaves, celled-leaves, common_steps, dates_spilled, filling_kind, held-dated, holding_around, making_cell, named as named-as, tagged-leaves, with_dates}
 use Rattle.sdd_core.specs.declared.tag.Tag.TheVariants.{None as no_tag}
 use Rattle.sdd_space.specs.OwnerOrCell as holding
 use Rattle.sdd_script_text.specs.Actions as call
@@ -88,19 +88,19 @@ module _ {h : Environment} (name : PlaceName) {a : NamedParticipant} (at : Here 
     found = cell-there d at.tied.sound c.0 k (let named = named-as cell_holding h.cells.entries.items c.0 mine in grind (arith, named))
 
     -- the slot whose item a cell held that is closed has a date
-    pub held-within : IfSome (held_in (entry_at h.world.cells k)) (λ j. j < length h.dates.items)
+    pub held-within : IfSome (held_in (entry_at h.world.cells k)) (λ j. j < length h.log.dates.items)
     held-within =
-        let all : (j : ℕ) → found.0.held ≡ Some j → j < length h.dates.items = λ j e. held-dated d at.tied.sound c.0 k j found.0 found.1 e in
+        let all : (j : ℕ) → found.0.held ≡ Some j → j < length h.log.dates.items = λ j e. held-dated d at.tied.sound c.0 k j found.0 found.1 e in
         rw found.1.holds (grind (arith, all))
 
     -- the item of what a closed cell held began to wait in this line, if it waits now
-    dates-same : (w : World Val) (held : Option ℕ) → dated_if_waiting w held h.moment h.dates.items ≡ dates_spilled d w held
+    dates-same : (w : World Val) (held : Option ℕ) → dated_if_waiting w held h.log.moment h.log.dates.items ≡ dates_spilled d w held
     dates-same w held = grind (arith, common_steps)
 
     -- it is closed
     pub acts-cell_closed : (w : World Val) (cells : Vec (Option AnyCell)) (dates : Vec ℕ) → cells.items ≡ slice_set h.cells.entries.items c.0 None →
-        w ≡ cell_closed h.world p k → dates.items ≡ dated_if_waiting w (held_in (entry_at h.world.cells k)) h.moment h.dates.items →
-        Does d (At name (call.CloseCell c)) reply.Done (record h { world = w; cells = record { entries = cells }; dates = dates })
+        w ≡ cell_closed h.world p k → dates.items ≡ dated_if_waiting w (held_in (entry_at h.world.cells k)) h.log.moment h.log.dates.items →
+        Does d (At name (call.CloseCell c)) reply.Done (record (with_dates h dates) { world = w; cells = record { entries = cells } })
     acts-cell_closed w cells dates taken world dated =
         let gone : map (option_map cell_holding) cells.items ≡ slice_set d.cells c.0 None =
         ap (map (option_map cell_holding)) taken ∙ map-set (option_map cell_holding) h.cells.entries.items c.0 None in

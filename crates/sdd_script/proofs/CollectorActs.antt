@@ -1,5 +1,5 @@
 -- What each action of a collector leaves in hand: it is sound, and it is what the call means
-use Rattle.sdd_script.proofs.Words.{◌≡◌, ℕ, ◌<◌, Bool, List, [], Option, Some, None, is_some, map, length, slice_index_or, slice_set, refl, sym, ap, ◌∙◌, subst, IsPermutation, IsNonDecreasingBy, option_map, Vec, map-set, entry_at, PrivateCollector, IsNullCell, held_in, IsWhole, World, AnyGuardOpen, index_of, PlaceName, GuardName, OwnerName, ItemName, At, Reply, Val, holdings_of, ScriptState, collector_of, holding_at, in_world, slot_of, Answers, HasOpen, IsOwnerName, Meets, names_in, AnyOwner, Sole, Share, owner_holding, NamedParticipant, dated_if_waiting, Environment, IsTied, desk_of, LeavesSound, number-is, collectors-spent, Does, Goes, Here, attends, goes, leaves, place-is, sits, CollectorName, Collects, IsCollector, after_given, arith, collector_closed, common_steps, named as named-as, owner-inside, slots_waiting_for, sound-given}
+use Rattle.sdd_script.proofs.Words.{◌≡◌, ℕ, ◌<◌, Bool, List, [], Option, Some, None, is_some, map, length, slice_index_or, slice_set, refl, sym, ap, ◌∙◌, subst, IsPermutation, IsNonDecreasingBy, option_map, Vec, map-set, entry_at, PrivateCollector, IsNullCell, held_in, IsWhole, World, AnyGuardOpen, index_of, PlaceName, GuardName, OwnerName, ItemName, At, Reply, Val, holdings_of, ScriptState, collector_of, holding_at, in_world, slot_of, Answers, HasOpen, IsOwnerName, Meets, names_in, AnyOwner, Sole, Share, owner_holding, NamedParticipant, dated_if_waiting, Environment, IsTied, desk_of, LeavesSound, number-is, collectors-spent, Does, Goes, Here, attends, goes, leaves, place-is, sits, CollectorName, Collects, IsCollector, after_given, arith, collector_closed, common_steps, named as named-as, owner-inside, slots_waiting_for, sound-given, with_dates}
 use Rattle.sdd_space.specs.Collector as collector
 use Rattle.sdd_script_text.specs.Actions as call
 use Rattle.sdd_script_text.specs.declared.answer.Reply.TheVariants as reply
@@ -13,7 +13,7 @@ no-collector h k none there = grind (arith, common_steps)
 
 -- the item of an owner that a name stands for has a date
 pub owner-dated : (h : Environment) → IsTied h → IsWhole h.world → (o : ℕ) (x : AnyOwner) (s : ℕ) → Some x ≡ slice_index_or h.owners.entries.items o None →
-    slot_of (Some (owner_holding x)) ≡ Some s → s < length h.dates.items
+    slot_of (Some (owner_holding x)) ≡ Some s → s < length h.log.dates.items
 owner-dated h t whole o x s there slot =
     owner-inside (desk_of h) t.sound whole o s (owner_holding x) (named-as owner_holding h.owners.entries.items o (sym there)) slot
 
@@ -27,8 +27,8 @@ module _ {h : Environment} (name : PlaceName) {a : NamedParticipant} (at : Here 
       (owners : Vec (Option AnyOwner)) (dates : Vec ℕ) → HasOpen (desk_of h) name.0 g.0 → Some x ≡ slice_index_or h.owners.entries.items o.0 None →
       Some y ≡ slice_index_or h.collectors.entries.items r.0 None → slot_of (Some (owner_holding x)) ≡ Some k →
       Collects h.world p (collector.collector_of y) (owner_holding x) given w → owners.items ≡ slice_set h.owners.entries.items o.0 None →
-      dates.items ≡ dated_if_waiting w (Some k) h.moment h.dates.items →
-      Does (desk_of h) (At name (call.Collect o g r)) given (record h { world = w; owners = record { entries = owners }; dates = dates })
+      dates.items ≡ dated_if_waiting w (Some k) h.log.moment h.log.dates.items →
+      Does (desk_of h) (At name (call.Collect o g r)) given (record (with_dates h dates) { world = w; owners = record { entries = owners } })
   acts-collected o g r k x y given w owners dates valid mine its slot did taken become =
       let left =
       sound-given (desk_of h) at.tied.sound at.whole p (collector.collector_of y) k o.0 (sits at) (owner_holding x) given w
@@ -62,13 +62,13 @@ module _ {h : Environment} (name : PlaceName) {a : NamedParticipant} (at : Here 
     c = collector.collector_of x
 
     abbrev slots : List ℕ
-    slots = slots_waiting_for h.world c (length h.names.items)
+    slots = slots_waiting_for h.world c (length h.log.names.items)
 
     abbrev closed : ScriptState
     closed = record (in_world (without_collector (desk_of h) r.0) (collector_closed holdings_of h.world p c)) { dates = dates.items }
 
     abbrev pub after_close : Environment
-    after_close = record h { world = w; collectors = record { entries = collectors }; dates = dates }
+    after_close = record (with_dates h dates) { world = w; collectors = record { entries = collectors } }
 
     number : collector_of (holding_at (desk_of h).collectors r.0) ≡ Some c
     number = number-is h at.tied r.0 x mine
@@ -86,7 +86,7 @@ module _ {h : Environment} (name : PlaceName) {a : NamedParticipant} (at : Here 
         let spent = collectors-spent h at.tied collectors r.0 taken in
         goes (cc (world, spent)) left.sound (λ g. rw left.home (at.tied.guards g))
 
-    pub answers-closed : (sorted : List ItemName) → IsPermutation (names_in h.names.items slots) sorted →
+    pub answers-closed : (sorted : List ItemName) → IsPermutation (names_in h.log.names.items slots) sorted →
         IsNonDecreasingBy (λ (i : ItemName). i.0) sorted →
         IsTied after_close
         × Answers (desk_of h) (At name (call.CloseCollector r)) (record { reply = reply.Done; reclaimed = sorted; ran = [] }) (desk_of after_close)
@@ -100,7 +100,7 @@ module _ {h : Environment} (name : PlaceName) {a : NamedParticipant} (at : Here 
               line = refl;
               calls = left.calls;
             };
-            goes = goes-uncollected d at.tied.sound at.whole c name r number quiet (names_in h.names.items slots) sorted refl moved up;
+            goes = goes-uncollected d at.tied.sound at.whole c name r number quiet (names_in h.log.names.items slots) sorted refl moved up;
             runs = runs-uncollected d at.tied.sound at.whole c name r number quiet;
           }),
         )

@@ -9,9 +9,9 @@ use Rattle.sdd_script.proofs.StackActs.{is-stack, stack-entries}
 
 -- the name stands for this container
 abbrev pub Names : Environment → ListName → AnyList → Type 0
-Names h l x = StandsFor h.queues.entries.items h.stacks.entries.items l x
+Names h l x = StandsFor h.lists.queues.entries.items h.lists.stacks.entries.items l x
 
-pub no-list : (h : Environment) (l : ListName) → NamesNone h.queues.entries.items h.stacks.entries.items l → ¬ (IsListName (desk_of h) l)
+pub no-list : (h : Environment) (l : ListName) → NamesNone h.lists.queues.entries.items h.lists.stacks.entries.items l → ¬ (IsListName (desk_of h) l)
 no-list h (list.Queue q) none = no-queue h q.0 none
 no-list h (list.Stack s) none = no-stack h s.0 none
 

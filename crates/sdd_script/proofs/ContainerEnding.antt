@@ -32,62 +32,63 @@ module _ (h : Environment) (p : ℕ) (e : IsEnding h p) where
   abbrev d : ScriptState
   d = desk_under (desk_of h) p e.moment e.since e.dates
 
-  pub stack-home : (n : ℕ) (x : Stack Body) → Some x ≡ slice_index_or h.stacks.entries.items n None → home_in x ≡ h.world.home.cells
-  stack-home n x mine = e.sound.home.stacks n (stack_holding x) (named-at stack_holding h.stacks.entries.items n x mine)
+  pub stack-home : (n : ℕ) (x : Stack Body) → Some x ≡ slice_index_or h.lists.stacks.entries.items n None → home_in x ≡ h.world.home.cells
+  stack-home n x mine = e.sound.home.stacks n (stack_holding x) (named-at stack_holding h.lists.stacks.entries.items n x mine)
 
-  pub queue-home : (n : ℕ) (x : Queue Body) → Some x ≡ slice_index_or h.queues.entries.items n None → AreOfCells h.world.home.cells x
+  pub queue-home : (n : ℕ) (x : Queue Body) → Some x ≡ slice_index_or h.lists.queues.entries.items n None → AreOfCells h.world.home.cells x
   queue-home n x mine = record {
-    oldest = e.sound.home.queues n (oldest_holding x) (named-at oldest_holding h.queues.entries.items n x mine);
-    newest = e.sound.home.newest n (newest_holding x) (named-at newest_holding h.queues.entries.items n x mine);
+    oldest = e.sound.home.queues n (oldest_holding x) (named-at oldest_holding h.lists.queues.entries.items n x mine);
+    newest = e.sound.home.newest n (newest_holding x) (named-at newest_holding h.lists.queues.entries.items n x mine);
   }
 
-  pub bag-kept : (n : ℕ) (x : NumberBag) → Some x ≡ slice_index_or h.bags.entries.items n None → IsKeptBag d x
+  pub bag-kept : (n : ℕ) (x : NumberBag) → Some x ≡ slice_index_or h.lists.bags.entries.items n None → IsKeptBag d x
   bag-kept n x mine = e.sound.bags n x (sym mine)
 
   module _ (whole : IsWhole h.world) (w : World Val) where
-    module _ (n : ℕ) (x : Queue Body) (mine : Some x ≡ slice_index_or h.queues.entries.items n None) (queues : Vec (Option (Queue Body)))
-        (taken : queues.items ≡ slice_set h.queues.entries.items n None) where
+    module _ (n : ℕ) (x : Queue Body) (mine : Some x ≡ slice_index_or h.lists.queues.entries.items n None) (queues : Vec (Option (Queue Body)))
+        (taken : queues.items ≡ slice_set h.lists.queues.entries.items n None) where
       pub ends-queue : ((es : List (Entry Val)) (second : Option ℕ) → IsQueue link_of h.world (cells_in x) es second →
-          w ≡ queue_closed link_of h.world p (cells_in x) es second) → GoesOn h (record h { world = w; queues = record { entries = queues } }) p
+          w ≡ queue_closed link_of h.world p (cells_in x) es second) → GoesOn h
+          (record h { world = w; lists = record h.lists { queues = record { entries = queues } } }) p
       ends-queue did =
           let q = cells_in x in
-          let oldest = ap shared_cell (named-at oldest_holding h.queues.entries.items n x mine) in
-          let newest = ap shared_cell (named-at newest_holding h.queues.entries.items n x mine) in
+          let oldest = ap shared_cell (named-at oldest_holding h.lists.queues.entries.items n x mine) in
+          let newest = ap shared_cell (named-at newest_holding h.lists.queues.entries.items n x mine) in
           let there = queue-there d e.sound n q oldest newest in
           let world = did there.0 there.1 there.2 in
           let left : World Val = queue_closed link_of h.world p q there.0 there.1 in
-          let first = spent-at oldest_holding h.queues.entries.items n queues.items taken in
-          let second = spent-at newest_holding h.queues.entries.items n queues.items taken in
-          goes-on h p e (record h { world = w; queues = record { entries = queues } })
+          let first = spent-at oldest_holding h.lists.queues.entries.items n queues.items taken in
+          let second = spent-at newest_holding h.lists.queues.entries.items n queues.items taken in
+          goes-on h p e (record h { world = w; lists = record h.lists { queues = record { entries = queues } } })
           (queue_closed-leaves d e.sound whole p (live-in h p e) n q there.0 there.1 (record { oldest = oldest; newest = newest; queue = there.2 })
           (dates_in d left) (within d left)) (cc (world, first, second))
           (told-emptied h.world p q.oldest there.0 (spilled (without_cell h.world q.newest) p there.1)
           (told-spilled h.world (without_cell h.world q.newest) p there.1 (refl, refl, refl)))
 
-    module _ (n : ℕ) (x : Stack Body) (mine : Some x ≡ slice_index_or h.stacks.entries.items n None) (stacks : Vec (Option (Stack Body)))
-        (taken : stacks.items ≡ slice_set h.stacks.entries.items n None) where
+    module _ (n : ℕ) (x : Stack Body) (mine : Some x ≡ slice_index_or h.lists.stacks.entries.items n None) (stacks : Vec (Option (Stack Body)))
+        (taken : stacks.items ≡ slice_set h.lists.stacks.entries.items n None) where
       pub ends-stack : ((es : List (Entry Val)) → Begins h.world (cell_in x) es → w ≡ stack_closed h.world p (cell_in x) es) →
-          GoesOn h (record h { world = w; stacks = record { entries = stacks } }) p
+          GoesOn h (record h { world = w; lists = record h.lists { stacks = record { entries = stacks } } }) p
       ends-stack did =
           let c = cell_in x in
-          let its = ap shared_cell (named-at stack_holding h.stacks.entries.items n x mine) in
+          let its = ap shared_cell (named-at stack_holding h.lists.stacks.entries.items n x mine) in
           let there = e.sound.lists.lists c (inr (n, its)) in
           let world = did there.0 there.1 in
           let left : World Val = stack_closed h.world p c there.0 in
-          let spent = spent-at stack_holding h.stacks.entries.items n stacks.items taken in
-          goes-on h p e (record h { world = w; stacks = record { entries = stacks } })
+          let spent = spent-at stack_holding h.lists.stacks.entries.items n stacks.items taken in
+          goes-on h p e (record h { world = w; lists = record h.lists { stacks = record { entries = stacks } } })
           (stack_closed-leaves d e.sound whole p c (live-in h p e) n there.0 (record { named = its; list = there.1 }) (dates_in d left) (within d left))
           (rw (world, spent) refl)
           (told-emptied h.world p c there.0 h.world (refl, refl, refl))
 
-    module _ (n : ℕ) (x : NumberBag) (mine : Some x ≡ slice_index_or h.bags.entries.items n None) (bags : Vec (Option NumberBag))
-        (taken : bags.items ≡ slice_set h.bags.entries.items n None) where
+    module _ (n : ℕ) (x : NumberBag) (mine : Some x ≡ slice_index_or h.lists.bags.entries.items n None) (bags : Vec (Option NumberBag))
+        (taken : bags.items ≡ slice_set h.lists.bags.entries.items n None) where
       pub ends-bag : ((es : List (Entry Val)) → StandsOn h.world x es → ClosesBag holds_nothing bag_length h.world p x es w) →
-          GoesOn h (record h { world = w; bags = record { entries = bags } }) p
+          GoesOn h (record h { world = w; lists = record h.lists { bags = record { entries = bags } } }) p
       ends-bag did =
           let its = (bag-kept n x mine).bag in
           let closes = did its.entries its.lies in
-          goes-on h p e (record h { world = w; bags = record { entries = bags } })
+          goes-on h p e (record h { world = w; lists = record h.lists { bags = record { entries = bags } } })
           (bag_closed-leaves d e.sound whole p n (live-in h p e) x (sym mine) its.entries its.lies w closes (dates_in d w) (within d w)) (rw taken refl)
           (subst (λ (u : World Val). KeepsTold h.world u)
           (sym (world-is d e.sound whole p n (live-in h p e) x (sym mine) its.entries its.lies w closes))

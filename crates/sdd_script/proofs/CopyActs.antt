@@ -13,14 +13,14 @@ use Rattle.sdd_script.proofs.StackActs.{AreDatedNow, AreDatedSo, AreTold, dated-
 
 -- of each slot it was told whether it was free
 abbrev pub AreFreeSo : Environment → List Bool → Type 0
-AreFreeSo h free = (s : ℕ) → s < length h.names.items → slice_index_or free s false ≡ not (is_some (standing_at h.world s))
+AreFreeSo h free = (s : ℕ) → s < length h.log.names.items → slice_index_or free s false ≡ not (is_some (standing_at h.world s))
 
 -- and by that what is in one that was has no name
 abbrev pub AreForgotten : Environment → World Val → List Bool → Vec (Option ℕ) → Type 0
 AreForgotten h w free names =
-    ((s : ℕ) → s < length h.names.items → slice_index_or names.items s None
-    ≡ (if is_some (standing_at w s) && slice_index_or free s false then None else slice_index_or h.names.items s None))
-    × (length names.items ≡ length h.names.items)
+    ((s : ℕ) → s < length h.log.names.items → slice_index_or names.items s None
+    ≡ (if is_some (standing_at w s) && slice_index_or free s false then None else slice_index_or h.log.names.items s None))
+    × (length names.items ≡ length h.log.names.items)
 
 past-end : {X : Type 0} (xs : List X) (k : ℕ) (x : X) → length xs ≤ k → slice_index_or xs k x ≡ x
 past-end xs k x past = get_or_past xs k x past
@@ -31,13 +31,14 @@ module _ (h : Environment) (t : IsTied h) where
   either true x y = refl
   either false x y = refl
 
-  pub as-dated : (w : World Val) (dates : Vec ℕ) → AreDatedSo h w dates → w ≡ h.world → dates.items ≡ h.dates.items
+  pub as-dated : (w : World Val) (dates : Vec ℕ) → AreDatedSo h w dates → w ≡ h.world → dates.items ≡ h.log.dates.items
   as-dated w dates now same =
-      ext_get_or 0 dates.items h.dates.items now.1 (λ s lt.
+      ext_get_or 0 dates.items h.log.dates.items now.1 (λ s lt.
       now.0 s (omega (arith, lt, now.1))
-      ∙ ap (λ (u : World Val). if is_waiting (standing_at u s) then (if is_waiting (standing_at h.world s) then slice_index h.dates.items s else h.moment)
-      else slice_index h.dates.items s) same
-      ∙ either (is_waiting (standing_at h.world s)) (slice_index h.dates.items s) h.moment)
+      ∙ ap (λ (u : World Val). if is_waiting (standing_at u s) then
+      (if is_waiting (standing_at h.world s) then slice_index h.log.dates.items s else h.log.moment)
+      else slice_index h.log.dates.items s) same
+      ∙ either (is_waiting (standing_at h.world s)) (slice_index h.log.dates.items s) h.log.moment)
 
 module _ (h : Environment) (t : IsTied h) (whole : IsWhole h.world) (name : PlaceName) (a : NamedParticipant)
     (there : attending (Some a) ≡ opening_at (desk_of h).places name.0) (line : BeginsLine (desk_of h)) where
@@ -60,14 +61,14 @@ module _ (h : Environment) (t : IsTied h) (whole : IsWhole h.world) (name : Plac
   pub loses : (w : World Val) (free : List Bool) → AreFreeSo h free → (names : Vec (Option ℕ)) → AreForgotten h w free names →
       length w.standings ≡ length h.world.standings → (new : ScriptState) → new.names ≡ names.items → new.world ≡ w → LosesNames d new
   loses w free told names now long new names_are world = record {
-    names = λ s. elim (cases_lt s (length h.names.items)) [
+    names = λ s. elim (cases_lt s (length h.log.names.items)) [
       | inl lt ↦
           rw (names_are, world) (now.0 s lt
-          ∙ ap (λ (b : Bool). if is_some (standing_at w s) && b then None else slice_index_or h.names.items s None) (told s lt))
+          ∙ ap (λ (b : Bool). if is_some (standing_at w s) && b then None else slice_index_or h.log.names.items s None) (told s lt))
       | inr past ↦
           (let nothing : standing_at w s ≡ None = past-end w.standings s None (omega (arith, past, long, t.sound.stocked.names)) in
           let none : slice_index_or names.items s None ≡ None = past-end names.items s None (omega (arith, past, now.1)) in
-          rw (names_are, world, nothing) (none ∙ sym (past-end h.names.items s None past)))
+          rw (names_are, world, nothing) (none ∙ sym (past-end h.log.names.items s None past)))
     ];
     long = ap length names_are ∙ now.1;
   }
@@ -100,16 +101,16 @@ module _ (h : Environment) (t : IsTied h) (whole : IsWhole h.world) (name : Plac
 
   -- where the world is as before, so are the names and the dates
   pub as-named : (w : World Val) (free : List Bool) → AreFreeSo h free → (names : Vec (Option ℕ)) → AreForgotten h w free names → w ≡ h.world →
-      names.items ≡ h.names.items
+      names.items ≡ h.log.names.items
   as-named w free told names now same =
-      ext_get_or None names.items h.names.items now.1 (λ s lt.
-      (let lt : s < length h.names.items = omega (arith, lt, now.1) in
+      ext_get_or None names.items h.log.names.items now.1 (λ s lt.
+      (let lt : s < length h.log.names.items = omega (arith, lt, now.1) in
       now.0 s lt
-      ∙ ap (λ (b : Bool). if is_some (standing_at w s) && b then None else slice_index_or h.names.items s None)
+      ∙ ap (λ (b : Bool). if is_some (standing_at w s) && b then None else slice_index_or h.log.names.items s None)
       (told s lt ∙ ap (λ (u : World Val). not (is_some (standing_at u s))) (sym same))
-      ∙ neither (is_some (standing_at w s)) (slice_index_or h.names.items s None)))
+      ∙ neither (is_some (standing_at w s)) (slice_index_or h.log.names.items s None)))
 
-  module _ (q : QueueName) (x : Queue Body) (mine : Some x ≡ slice_index_or h.queues.entries.items q.0 None) (g : GuardName)
+  module _ (q : QueueName) (x : Queue Body) (mine : Some x ≡ slice_index_or h.lists.queues.entries.items q.0 None) (g : GuardName)
       (valid : HasOpen (desk_of h) n g.0) where
     abbrev es : List (Entry Val)
     es = (queue-entries h t q.0 x mine).0
@@ -133,8 +134,8 @@ module _ (h : Environment) (t : IsTied h) (whole : IsWhole h.world) (name : Plac
       pub makes : MakesQueueOf h.world p (shown_of es) (cells_in y) entries newest w
       pub has : IsQueue link_of w (cells_in y) entries newest
       pub plain : ArePlain entries
-      pub few : length entries ≤ length h.names.items
-      pub inside : (k i : ℕ) → k < length (entry_slots entries) → slice_index_or (entry_slots entries) k i < length h.names.items
+      pub few : length entries ≤ length h.log.names.items
+      pub inside : (k i : ℕ) → k < length (entry_slots entries) → slice_index_or (entry_slots entries) k i < length h.log.names.items
       pub placed : IsPlaceOf w p
       pub home : w.home ≡ h.world.home
       pub reader : reader_at w p ≡ reader_at h.world p
@@ -167,10 +168,10 @@ module _ (h : Environment) (t : IsTied h) (whole : IsWhole h.world) (name : Plac
 
     pub acts-queue_copied : (w : World Val) (queues : Vec (Option (Queue Body))) (slots : Vec ℕ) (names : Vec (Option ℕ)) (y : Queue Body) (r : QueueName)
         (fs : List (Entry Val)) (held : Option ℕ) → MakesQueueOf h.world p (shown_of es) (cells_in y) fs held w → AreOfCells h.world.home.cells y →
-        queues.items ≡ h.queues.entries.items ++ Some y ∷ [] → slots.items ≡ h.slots.items ++ entry_slots fs →
-        names.items ≡ names_from h.names.items (length h.slots.items) (entry_slots fs) → r.0 ≡ length h.queues.entries.items →
+        queues.items ≡ h.lists.queues.entries.items ++ Some y ∷ [] → slots.items ≡ h.log.slots.items ++ entry_slots fs →
+        names.items ≡ names_from h.log.names.items (length h.log.slots.items) (entry_slots fs) → r.0 ≡ length h.lists.queues.entries.items →
         Does (desk_of h) (At name (call.CloneList (list.Queue q) g)) (reply.Queue r)
-        (record h { world = w; queues = record { entries = queues }; slots = slots; names = names })
+        (record h { world = w; lists = record h.lists { queues = record { entries = queues } }; log = record h.log { slots = slots; names = names } })
     acts-queue_copied w queues slots names y r fs held makes home pushed longer written named =
         let c = cells_in y in
         let more = queues-more h queues y pushed in
@@ -182,17 +183,22 @@ module _ (h : Environment) (t : IsTied h) (whole : IsWhole h.world) (name : Plac
         acts.leaves (acts.under name.0 t whole there) refl (cc (oldest, newest, longer, written))
         (queue-copied d t.sound whole p live (shown_of es) all-numbers c fs held w makes (both-long h)) (
           (valid, is-queue h q.0 x mine),
-          (named ∙ sym (length-map h.queues.entries.items (option_map oldest_holding)), (cells_in x, es, second, c, fs, held, w, is, makes_so, refl)),
+          (named ∙ sym (length-map h.lists.queues.entries.items (option_map oldest_holding)), (cells_in x, es, second, c, fs, held, w, is, makes_so, refl)),
         )
 
-    pub acts-queue_refused : (queues : Vec (Option (Queue Body))) (slots : Vec ℕ) → queues.items ≡ h.queues.entries.items → slots.items ≡ h.slots.items →
+    pub acts-queue_refused : (queues : Vec (Option (Queue Body))) (slots : Vec ℕ) → queues.items ≡ h.lists.queues.entries.items →
+        slots.items ≡ h.log.slots.items →
         (w : World Val) (why : Refused) (free waited : List Bool) → AreFreeSo h free → AreTold h waited → (names : Vec (Option ℕ)) (dates : Vec ℕ) →
         AreForgotten h w free names → AreDatedNow h w waited dates → QueueIsCopied p h.world es (Err why) w →
         Does (desk_of h) (At name (call.CloneList (list.Queue q) g)) (reply.Refused why)
-        (record h { world = w; queues = record { entries = queues }; slots = slots; names = names; dates = dates })
+        (record h {
+          world = w;
+          lists = record h.lists { queues = record { entries = queues } };
+          log = record h.log { slots = slots; names = names; dates = dates };
+        })
     acts-queue_refused queues slots same_queues same_slots w why free waited free_so told names dates forgotten now (inl (none, is_cell, same)) =
-        let kept_names : names.items ≡ h.names.items = as-named w free free_so names forgotten same in
-        let kept_dates : dates.items ≡ h.dates.items = as-dated h t w dates (dated-within h t waited told w dates now) same in
+        let kept_names : names.items ≡ h.log.names.items = as-named w free free_so names forgotten same in
+        let kept_dates : dates.items ≡ h.log.dates.items = as-dated h t w dates (dated-within h t waited told w dates now) same in
         does d (At name (call.CloneList (list.Queue q) g)) (reply.Refused why)
         (goes (as-refused (map (option_map oldest_holding) queues.items) (map (option_map newest_holding) queues.items) d.stacks w h.world slots.items
         names.items
@@ -237,7 +243,7 @@ module _ (h : Environment) (t : IsTied h) (whole : IsWhole h.world) (name : Plac
           ),
         )
 
-  module _ (s : StackName) (x : Stack Body) (mine : Some x ≡ slice_index_or h.stacks.entries.items s.0 None) (g : GuardName)
+  module _ (s : StackName) (x : Stack Body) (mine : Some x ≡ slice_index_or h.lists.stacks.entries.items s.0 None) (g : GuardName)
       (valid : HasOpen (desk_of h) n g.0) where
     abbrev fills : List (Entry Val)
     fills = (stack-entries h t s.0 x mine).0
@@ -256,8 +262,8 @@ module _ (h : Environment) (t : IsTied h) (whole : IsWhole h.world) (name : Plac
       pub makes : MakesStackOf h.world p (shown_of fills) (cell_in y) entries w
       pub has : Begins w (cell_in y) entries
       pub plain : ArePlain entries
-      pub few : length entries ≤ length h.names.items
-      pub inside : (k i : ℕ) → k < length (entry_slots entries) → slice_index_or (entry_slots entries) k i < length h.names.items
+      pub few : length entries ≤ length h.log.names.items
+      pub inside : (k i : ℕ) → k < length (entry_slots entries) → slice_index_or (entry_slots entries) k i < length h.log.names.items
       pub placed : IsPlaceOf w p
       pub home : w.home ≡ h.world.home
       pub reader : reader_at w p ≡ reader_at h.world p
@@ -280,10 +286,10 @@ module _ (h : Environment) (t : IsTied h) (whole : IsWhole h.world) (name : Plac
 
     pub acts-stack_copied : (w : World Val) (stacks : Vec (Option (Stack Body))) (slots : Vec ℕ) (names : Vec (Option ℕ)) (y : Stack Body) (r : StackName)
         (fs : List (Entry Val)) → MakesStackOf h.world p (shown_of fills) (cell_in y) fs w → home_in y ≡ h.world.home.cells →
-        stacks.items ≡ h.stacks.entries.items ++ Some y ∷ [] → slots.items ≡ h.slots.items ++ entry_slots fs →
-        names.items ≡ names_from h.names.items (length h.slots.items) (entry_slots fs) → r.0 ≡ length h.stacks.entries.items →
+        stacks.items ≡ h.lists.stacks.entries.items ++ Some y ∷ [] → slots.items ≡ h.log.slots.items ++ entry_slots fs →
+        names.items ≡ names_from h.log.names.items (length h.log.slots.items) (entry_slots fs) → r.0 ≡ length h.lists.stacks.entries.items →
         Does (desk_of h) (At name (call.CloneList (list.Stack s) g)) (reply.Stack r)
-        (record h { world = w; stacks = record { entries = stacks }; slots = slots; names = names })
+        (record h { world = w; lists = record h.lists { stacks = record { entries = stacks } }; log = record h.log { slots = slots; names = names } })
     acts-stack_copied w stacks slots names y r fs makes home pushed longer written named =
         let c : ℕ = cell_in y in
         let more : map (option_map stack_holding) stacks.items ≡ d.stacks ++ Some (holding.atomic_shared c h.world.home.cells) ∷ [] =
@@ -292,17 +298,22 @@ module _ (h : Environment) (t : IsTied h) (whole : IsWhole h.world) (name : Plac
         acts.leaves (acts.under name.0 t whole there) refl (cc (more, longer, written))
         (stack-copied d t.sound whole p live (shown_of fills) all-values c fs w makes) (
           (valid, is-stack h s.0 x mine),
-          (named ∙ sym (length-map h.stacks.entries.items (option_map stack_holding)), (cell_in x, fills, c, fs, w, its, makes_so, refl)),
+          (named ∙ sym (length-map h.lists.stacks.entries.items (option_map stack_holding)), (cell_in x, fills, c, fs, w, its, makes_so, refl)),
         )
 
-    pub acts-stack_refused : (stacks : Vec (Option (Stack Body))) (slots : Vec ℕ) → stacks.items ≡ h.stacks.entries.items → slots.items ≡ h.slots.items →
+    pub acts-stack_refused : (stacks : Vec (Option (Stack Body))) (slots : Vec ℕ) → stacks.items ≡ h.lists.stacks.entries.items →
+        slots.items ≡ h.log.slots.items →
         (w : World Val) (why : Refused) (free waited : List Bool) → AreFreeSo h free → AreTold h waited → (names : Vec (Option ℕ)) (dates : Vec ℕ) →
         AreForgotten h w free names → AreDatedNow h w waited dates → StackIsCopied p h.world fills (Err why) w →
         Does (desk_of h) (At name (call.CloneList (list.Stack s) g)) (reply.Refused why)
-        (record h { world = w; stacks = record { entries = stacks }; slots = slots; names = names; dates = dates })
+        (record h {
+          world = w;
+          lists = record h.lists { stacks = record { entries = stacks } };
+          log = record h.log { slots = slots; names = names; dates = dates };
+        })
     acts-stack_refused stacks slots same_stacks same_slots w why free waited free_so told names dates forgotten now (inl (none, is_cell, same)) =
-        let kept_names : names.items ≡ h.names.items = as-named w free free_so names forgotten same in
-        let kept_dates : dates.items ≡ h.dates.items = as-dated h t w dates (dated-within h t waited told w dates now) same in
+        let kept_names : names.items ≡ h.log.names.items = as-named w free free_so names forgotten same in
+        let kept_dates : dates.items ≡ h.log.dates.items = as-dated h t w dates (dated-within h t waited told w dates now) same in
         does d (At name (call.CloneList (list.Stack s) g)) (reply.Refused why)
         (goes (as-refused d.queues d.newest (map (option_map stack_holding) stacks.items) w h.world slots.items names.items dates.items
         refl refl (ap (map (option_map stack_holding)) same_stacks) same same_slots

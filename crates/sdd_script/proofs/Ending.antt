@@ -226,8 +226,8 @@ module _ (h : Environment) (s : IsSound (desk_of h)) (none : AreSpent h.guards.e
       let there : IsPlaceOf (revived h.world p) p = subst (λ (u : World Val). IsPlaceOf u p) is live in
       subst (λ (u : World Val). GoesOn h (record h { world = u }) p) (sym (did ∙ ap (λ (u : World Val). opened holdings_of u p) is)) (record {
         ending = record {
-          moment = h.moment + 1;
-          since = h.moment + 1;
+          moment = h.log.moment + 1;
+          since = h.log.moment + 1;
           dates = dates (desk_of h) s shut-in p there;
           sound = sound-begun (desk_of h) s shut-in p there (subst (λ (u : World Val). IsWhole u) is whole);
         };
@@ -320,7 +320,7 @@ module _ (h : Environment) (p : ℕ) (e : IsEnding h p) where
           (dated-all d left e.sound.stocked m.frames.slots.slots (within d after)) p live-in) (rw world refl) (refl, refl, refl)
 
   -- of the slots that there are
-  pub none-raw : ((k : ℕ) → k < length h.names.items → standing_at h.world k ≢ Some Raw) → (k : ℕ) → standing_at h.world k ≢ Some Raw
+  pub none-raw : ((k : ℕ) → k < length h.log.names.items → standing_at h.world k ≢ Some Raw) → (k : ℕ) → standing_at h.world k ≢ Some Raw
   none-raw gone k raw = gone k (omega (arith, inside h.world.standings k (ap is_some raw), e.sound.stocked.names)) raw
 
 -- no other goes raw
@@ -412,8 +412,8 @@ module _ (h : Environment) (moment : ℕ) (dates : List ℕ) (places guards : Li
     names = names;
     quiet = unguarded last s shut;
     goes = goes-all last s whole (λ k. none-at owner_holding h.owners.entries.items k names.0) (λ k. none-at cell_holding h.cells.entries.items k names.1)
-        (λ k. none-at collector_holding h.collectors.entries.items k names.2) (λ k. none-at oldest_holding h.queues.entries.items k names.3)
-        (λ k. none-at newest_holding h.queues.entries.items k names.3) (λ k. none-at stack_holding h.stacks.entries.items k names.4) names.5 raw;
+        (λ k. none-at collector_holding h.collectors.entries.items k names.2) (λ k. none-at oldest_holding h.lists.queues.entries.items k names.3)
+        (λ k. none-at newest_holding h.lists.queues.entries.items k names.3) (λ k. none-at stack_holding h.lists.stacks.entries.items k names.4) names.5 raw;
   }
 
 -- the guard is closed at last
@@ -431,7 +431,8 @@ none-of xs none k = get_or_past xs k None (omega (arith, none))
 
 -- or nothing was made
 module _ (h : Environment) (s : IsSound (desk_of h)) (never : HasMade h → ⊥) where
-  none : length h.slots.items + length h.cells.entries.items + length h.queues.entries.items + length h.stacks.entries.items + length h.bags.entries.items ≡ 0
+  none : length h.log.slots.items + length h.cells.entries.items + length h.lists.queues.entries.items + length h.lists.stacks.entries.items
+      + length h.lists.bags.entries.items ≡ 0
   none = omega (arith, never)
 
   none-out : (k : ℕ) → is_out (standing_at h.world k) ≡ true → ⊥
@@ -450,13 +451,13 @@ module _ (h : Environment) (s : IsSound (desk_of h)) (never : HasMade h → ⊥)
 
   pub nothing-made : AreSpent h.guards.entries.items → IsWhole h.world → AreSpent h.collectors.entries.items → IsSpent h
   nothing-made guards whole collectors =
-      all-spent h h.moment h.dates.items (desk_of h).places (desk_of h).guards s (shut-in h s guards) whole (
+      all-spent h h.log.moment h.log.dates.items (desk_of h).places (desk_of h).guards s (shut-in h s guards) whole (
         none-owned,
         none-of h.cells.entries.items (omega (arith, none)),
         collectors,
-        none-of h.queues.entries.items (omega (arith, none)),
-        none-of h.stacks.entries.items (omega (arith, none)),
-        none-of h.bags.entries.items (omega (arith, none)),
+        none-of h.lists.queues.entries.items (omega (arith, none)),
+        none-of h.lists.stacks.entries.items (omega (arith, none)),
+        none-of h.lists.bags.entries.items (omega (arith, none)),
       ) (λ k raw. none-out k (ap is_out raw))
 
 -- ---- a guard

@@ -1,5 +1,5 @@
 -- What a push onto a container and a pop off it mean, whether they ask for a number first or not
-use Rattle.sdd_script.proofs.Words.{◌≡◌, ◌+◌, ◌<◌, ℕ, Bool, List, [], ◌∷◌, ◌++◌, Option, Some, None, map, length, slice_set, refl, sym, ap, ◌∙◌, subst, arith, Ok, Err, option_map, Vec, length-map, Refused, TooManyOwners, IsSharedBy, World, IsPlaceOf, standing_at, value_at, with_standing, IsWhole, AreLinked, Entry, first_value, left, cells_in, cell_in, index_of, GuardName, ItemName, ListName, OwnerName, PlaceName, At, Number, IsContainer, Begins, IsNumber, Acts, HasOpen, IsListName, Meets, ScriptState, in_world, opening_at, place_of, with_owner, Val, body_of, link_of, same-list, LeavesSound, starts, IsDatedWithin, list_cell, attending, IsTied, desk_of, owner_holding, AnyList, AnyOwner, Share, Environment, NamedParticipant, Does, still, invalid, popping, pushing, AddsOwner, DrainsList, HasCrowdedFirst, HasNewest, HasNumber, IsAsked, IsDrainedOf, Kept, PopsIf, PushesIf, PutsIn, PutsOn, RefusesEntry, TakesOff, TakesOut, drained-leaves, last_value, linked-left, newest_value, popped-home, popped-leaves, popped-number, popped-value, queue_drained-leaves, slots_home, taken-home, taken-number, taken-value, shared-leaves}
+use Rattle.sdd_script.proofs.Words.{◌≡◌, ◌+◌, ◌<◌, ℕ, Bool, List, [], ◌∷◌, ◌++◌, Option, Some, None, map, length, slice_set, refl, sym, ap, ◌∙◌, subst, arith, Ok, Err, option_map, Vec, length-map, Refused, TooManyOwners, IsSharedBy, World, IsPlaceOf, standing_at, value_at, with_standing, IsWhole, AreLinked, Entry, first_value, left, cells_in, cell_in, index_of, GuardName, ItemName, ListName, OwnerName, PlaceName, At, Number, IsContainer, Begins, IsNumber, Acts, HasOpen, IsListName, Meets, ScriptState, in_world, opening_at, place_of, with_owner, Val, body_of, link_of, same-list, LeavesSound, starts, IsDatedWithin, list_cell, attending, IsTied, desk_of, owner_holding, AnyList, AnyOwner, Share, Environment, NamedParticipant, Does, still, invalid, popping, pushing, AddsOwner, DrainsList, HasCrowdedFirst, HasNewest, HasNumber, IsAsked, IsDrainedOf, Kept, PopsIf, PushesIf, PutsIn, PutsOn, RefusesEntry, TakesOff, TakesOut, drained-leaves, last_value, linked-left, newest_value, popped-home, popped-leaves, popped-number, popped-value, queue_drained-leaves, slots_home, taken-home, taken-number, taken-value, shared-leaves, with_dates}
 use Rattle.sdd_space.specs.declared.shared.Shared.{Shared}
 use Rattle.sdd_participants.specs.declared.standing.Standing.TheVariants as standing
 use Rattle.sdd_space.specs.OwnerOrCell as holding
@@ -140,7 +140,7 @@ module _ (h : Environment) (t : IsTied h) where
   module _ (whole : IsWhole h.world) (p : ℕ) (live : IsPlaceOf h.world p) where
     pub record Put (l : ListName) (number k : ℕ) (w : World Val) (dates : List ℕ) : Type 0 where
       pub leaves : IsDatedWithin (desk_of h) (after_put k w dates) → LeavesSound (desk_of h) (after_put k w dates)
-      pub means : (o : OwnerName) (i : ItemName) → i.0 ≡ length h.slots.items → o.0 ≡ length (desk_of h).owners →
+      pub means : (o : OwnerName) (i : ItemName) → i.0 ≡ length h.log.slots.items → o.0 ≡ length (desk_of h).owners →
           PutsIn (desk_of h) p l number o i (after_put k w dates)
 
     put : (l : ListName) (x : AnyList) (mine : Names h l x) (number k : ℕ) (w : World Val) (dates : List ℕ) →
@@ -263,7 +263,7 @@ module _ (h : Environment) (t : IsTied h) where
 
       module _ (owner : Shared Val) (did : PushesIf h.world.home.slots h.world p x es second number m (Ok owner) w) where
         -- its slot was free
-        pub slot-free : slot_of owner < length h.names.items
+        pub slot-free : slot_of owner < length h.log.names.items
         slot-free = omega (arith, free-slot x did.1.1, t.sound.stocked.names) where
           free-slot : (y : AnyList) → PutsOn h.world p y es second number (slot_of owner) w → slot_of owner < length h.world.standings
           free-slot (any.Queue y) puts = puts.pushed.free.0
@@ -271,11 +271,11 @@ module _ (h : Environment) (t : IsTied h) where
 
         pub acts-pushed : (waited : List Bool) → AreTold h waited → (owners : Vec (Option AnyOwner)) (slots : Vec ℕ) (names : Vec (Option ℕ))
             (dates : Vec ℕ) (o : OwnerName) (i : ItemName) →
-            owners.items ≡ h.owners.entries.items ++ Some (Share owner) ∷ [] → slots.items ≡ h.slots.items ++ slot_of owner ∷ [] →
-            names.items ≡ slice_set h.names.items (slot_of owner) (Some (length h.slots.items)) → AreDatedNow h w waited dates →
-            o.0 ≡ length h.owners.entries.items → i.0 ≡ length h.slots.items →
+            owners.items ≡ h.owners.entries.items ++ Some (Share owner) ∷ [] → slots.items ≡ h.log.slots.items ++ slot_of owner ∷ [] →
+            names.items ≡ slice_set h.log.names.items (slot_of owner) (Some (length h.log.slots.items)) → AreDatedNow h w waited dates →
+            o.0 ≡ length h.owners.entries.items → i.0 ≡ length h.log.slots.items →
             Does (desk_of h) (At name (pushing l number m g)) (reply.Item o i)
-            (record h { world = w; owners = record { entries = owners }; slots = slots; names = names; dates = dates })
+            (record h { world = w; owners = record { entries = owners }; log = record h.log { slots = slots; names = names; dates = dates } })
         acts-pushed waited told owners slots names dates o i pushed longer written now owner_name item_name =
             let k = slot_of owner in
             let its = put whole p live l x mine number k w dates.items did.1.1 in
@@ -300,7 +300,7 @@ module _ (h : Environment) (t : IsTied h) where
       -- none is left: room was made for a name
       pub acts-drained : PopsIf h.world.home.slots h.world p x es second m (Ok None) w → (waited : List Bool) → AreTold h waited →
           (owners : Vec (Option AnyOwner)) (dates : Vec ℕ) → owners.items ≡ h.owners.entries.items → AreDatedNow h w waited dates →
-          Does (desk_of h) (At name (popping l m g)) reply.Nothing (record h { world = w; owners = record { entries = owners }; dates = dates })
+          Does (desk_of h) (At name (popping l m g)) reply.Nothing (record (with_dates h dates) { world = w; owners = record { entries = owners } })
       acts-drained did waited told owners dates kept now =
           let its = drained whole p live l x mine w dates.items did in
           let same : map (option_map owner_holding) owners.items ≡ (desk_of h).owners = ap (map (option_map owner_holding)) kept in
@@ -331,7 +331,7 @@ module _ (h : Environment) (t : IsTied h) where
             HasNumber (value_at w (slot_of owner)) number → owners.items ≡ h.owners.entries.items ++ Some (Share owner) ∷ [] →
             AreDatedNow h w waited dates → o.0 ≡ length h.owners.entries.items →
             Does (desk_of h) (At name (popping l m g)) (reply.Popped o number)
-            (record h { world = w; owners = record { entries = owners }; dates = dates })
+            (record (with_dates h dates) { world = w; owners = record { entries = owners } })
         acts-popped waited told number owners dates o has pushed now owner_name =
             let is = number-of-some (value_at w (slot_of owner)) e.value number value has in
             let more = one-named owner owners did.1.0 pushed

@@ -54,7 +54,8 @@ pub copied-may : (w new : World Val) (other : ℕ) (held : CellContents) (o : Op
     (count : ℕ) × MayShare w o count × (new ≡ with_cell (shared_once_more w o count) other held)
 copied-may w new other held o h = grind (arith, common_steps)
 
-pub slot-compared : (h : Environment) (i : Option ItemName) → option_map (λ (j : ItemName). slice_index_or h.slots.items j.0 0) i ≡ slot_compared (desk_of h) i
+pub slot-compared : (h : Environment) (i : Option ItemName) →
+    option_map (λ (j : ItemName). slice_index_or h.log.slots.items j.0 0) i ≡ slot_compared (desk_of h) i
 slot-compared h i = grind (arith, common_steps)
 
 module _ {h : Environment} (name : PlaceName) {a : NamedParticipant} (at : Here h name.0 a) where
@@ -148,12 +149,12 @@ module _ {h : Environment} (name : PlaceName) {a : NamedParticipant} (at : Here 
       differs g i was j valid can apart seen = ((valid, can, put), ((cell_number x, held, is, apart, seen, refl), refl))
 
     -- the item that it holds has a name
-    pub seen-named : (o : Option ℕ) → held.held ≡ o → IfSome o (λ s. IsSome (slice_index_or h.names.items s None))
+    pub seen-named : (o : Option ℕ) → held.held ≡ o → IfSome o (λ s. IsSome (slice_index_or h.log.names.items s None))
     seen-named None e = tt
     seen-named (Some s) e = held-named d at.tied.sound c.0 (cell_number x) s held is e
 
   -- what an exchange compares with the participant can point to, and it stays
-  pub compares : (i : Option ItemName) → CanCompareAt h.world h.slots.items h.names.items h.dates.items i a.since → CanCompare d name.0 i
+  pub compares : (i : Option ItemName) → CanCompareAt h.world h.log.slots.items h.log.names.items h.log.dates.items i a.since → CanCompare d name.0 i
   compares i h = grind (arith, common_steps)
 
   pub compared-stays : (g : ℕ) (held : NamedGuard) → slice_index_or h.guards.entries.items g None ≡ Some held → held.place ≡ index_of a.place →

@@ -1,5 +1,5 @@
 -- What coming and going, and each action of a guard leaves in hand: it is sound, and it is what the call means
-use Rattle.sdd_script.proofs.Words.{◌≡◌, ◌≢◌, ℕ, Bool, if◌then◌else◌, List, [], ◌∷◌, ◌++◌, Option, Some, None, map, length, slice_index_or, slice_set, refl, sym, ap, ◌∙◌, subst, arith, IsTrue, ◌↔◌, IsPermutation, IsNonDecreasingBy, option_map, Vec, get_or-map, get_or_past, length-map, map-set, map_push, CanNest, is_open, Item, reader_of, reader_at, opened, closed, IsWhole, World, index_of, PlaceName, GuardName, ItemName, Register, At, NamedParticipant, NamedGuard, Environment, Val, holdings_of, ScriptState, OpenSince, BeginsLine, IsThere, opening_at, place_of, slot_at, in_world, Answers, HasOpen, names_in, attending, guarding, desk_of, IsTied, GuardsIn, slots_among, at-other, IsDatedWithin, Goes, Does, Here, attends, does, goes, place, place-is, sits, Contains, Epoch, IsVacant, Job, JobName, WaitsAt, at-end, at-pushed, closes, common_steps, dated-opened, ended, ends, epoch_of, home-opened, job_in, names-go, names-run, none as no_call, not-run-under, not-under, one_more, opened_since, places_among, reclaims, registered, registers, sound-closed, sound-ended, sound-opened, sound-registered, with_guard, with_newcomer, without_guard, without_participant}
+use Rattle.sdd_script.proofs.Words.{◌≡◌, ◌≢◌, ℕ, Bool, if◌then◌else◌, List, [], ◌∷◌, ◌++◌, Option, Some, None, map, length, slice_index_or, slice_set, refl, sym, ap, ◌∙◌, subst, arith, IsTrue, ◌↔◌, IsPermutation, IsNonDecreasingBy, option_map, Vec, get_or-map, get_or_past, length-map, map-set, map_push, CanNest, is_open, Item, reader_of, reader_at, opened, closed, IsWhole, World, index_of, PlaceName, GuardName, ItemName, Register, At, NamedParticipant, NamedGuard, Environment, Val, holdings_of, ScriptState, OpenSince, BeginsLine, IsThere, opening_at, place_of, slot_at, in_world, Answers, HasOpen, names_in, attending, guarding, desk_of, IsTied, GuardsIn, slots_among, at-other, IsDatedWithin, Goes, Does, Here, attends, does, goes, place, place-is, sits, Contains, Epoch, IsVacant, Job, JobName, WaitsAt, at-end, at-pushed, closes, common_steps, dated-opened, ended, ends, epoch_of, home-opened, job_in, names-go, names-run, none as no_call, not-run-under, not-under, one_more, opened_since, places_among, reclaims, registered, registers, sound-closed, sound-ended, sound-opened, sound-registered, with_guard, with_newcomer, without_guard, without_participant, with_dates}
 use Rattle.sdd_rights.specs.Units as token
 use Rattle.sdd_participants.specs.EpochState as time
 use Rattle.sdd_space.specs.WorldStep.WorldStep.{opens}
@@ -113,7 +113,7 @@ module _ {h : Environment} (name : PlaceName) {a : NamedParticipant} (at : Here 
 
   -- a guard is opened, and whether the opening is an outermost one is noted
   abbrev now : OpenSince
-  now = record { place = p; since = h.moment }
+  now = record { place = p; since = h.log.moment }
 
   abbrev pub noted : Bool → List (Option OpenSince)
   noted b = if b then d.places else slice_set d.places n (Some now)
@@ -126,11 +126,11 @@ module _ {h : Environment} (name : PlaceName) {a : NamedParticipant} (at : Here 
       (slots : List ℕ) (are : slots ≡ slots_among (reclaims h.world p))
       (entries : map attending places.items ≡ noted (is_open (time.place_at h.world.time p)))
       (pushed : guards.items ≡ h.guards.entries.items ++ Some held ∷ []) (own : held.place ≡ p)
-      (reader : reader_of held.guard ≡ reader_at h.world p) (since : held.since ≡ h.moment) (participant : held.participant ≡ n)
+      (reader : reader_of held.guard ≡ reader_at h.world p) (since : held.since ≡ h.log.moment) (participant : held.participant ≡ n)
       (world : w ≡ opened holdings_of h.world p) (line : BeginsLine d) (waited : List Bool) (told : AreTold h waited)
       (now_dated : AreDatedNow h w waited dates) where
     abbrev pub after_opening : Environment
-    after_opening = record h { world = w; places = record { entries = places }; guards = record { entries = guards }; dates = dates }
+    after_opening = record (with_dates h dates) { world = w; places = record { entries = places }; guards = record { entries = guards } }
 
     abbrev opened_desk : ScriptState
     opened_desk = record (in_world (with_guard d n p) (opened holdings_of h.world p)) { dates = dates.items }
@@ -156,15 +156,15 @@ module _ {h : Environment} (name : PlaceName) {a : NamedParticipant} (at : Here 
         (λ j. guards-on h.world.home.readers d.places (noted b) (λ m k e. place-kept b m ∙ e) (slice_index_or h.guards.entries.items j None)
         (at.tied.guards j)) k))
 
-    pub answers-opened : (sorted : List ItemName) (g : GuardName) (epoch : Epoch) → IsPermutation (names_in h.names.items slots) sorted →
+    pub answers-opened : (sorted : List ItemName) (g : GuardName) (epoch : Epoch) → IsPermutation (names_in h.log.names.items slots) sorted →
         IsNonDecreasingBy (λ (i : ItemName). i.0) sorted →
         CanNest h.world.time p → g.0 ≡ length h.guards.entries.items → epoch ≡ epoch_of w.time.count →
-        (ran : List JobName) → IsPermutation (map (job_in h.deferred.items) (places_among (reclaims h.world p))) ran →
+        (ran : List JobName) → IsPermutation (map (job_in h.log.deferred.items) (places_among (reclaims h.world p))) ran →
         IsNonDecreasingBy (λ (j : JobName). j.0) ran →
         IsTied after_opening
         × Answers d (At name call.Open) (record { reply = reply.Guard g epoch; reclaimed = sorted; ran = ran }) (desk_of after_opening)
     answers-opened sorted g epoch moved up nests given_name now_is ran jobs_moved jobs_up =
-        let all = names-go d at.tied.sound at.whole p slots (names_in h.names.items slots) sorted are refl moved up in
+        let all = names-go d at.tied.sound at.whole p slots (names_in h.log.names.items slots) sorted are refl moved up in
         let all_at : (i : ItemName) → Contains sorted i ↔ (IsThere d i.0 × Contains (reclaims d.world (place_of d n)) (Item (slot_at d i.0))) =
         rw (place-is at) all.1 in
         let run = names-run d at.tied.sound at.whole p (sits at) ran jobs_moved jobs_up in
@@ -206,6 +206,6 @@ module _ {h : Environment} (name : PlaceName) {a : NamedParticipant} (at : Here 
 -- whether it is an outermost opening or not, it is noted so
 pub noted-is : {h : Environment} (name : PlaceName) {a : NamedParticipant} (at : Here h name.0 a) (nested : Bool) (new : List (Option OpenSince)) →
     nested ≡ is_open (time.place_at h.world.time (index_of a.place)) →
-    new ≡ (if nested then (desk_of h).places else opened_since (desk_of h).places name.0 h.moment) →
+    new ≡ (if nested then (desk_of h).places else opened_since (desk_of h).places name.0 h.log.moment) →
     new ≡ noted name at (is_open (time.place_at h.world.time (index_of a.place)))
 noted-is {h} name {a} at nested new is e = grind (arith, common_steps)

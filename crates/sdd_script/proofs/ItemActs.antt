@@ -19,21 +19,21 @@ module _ {h : Environment} (name : PlaceName) {a : NamedParticipant} (at : Here 
   -- what an owner or an item shows
   pub acts-read : (o : OwnerName) (x : AnyOwner) (k : ℕ) (v : Val) → slice_index_or h.owners.entries.items o.0 None ≡ Some x →
       slot_of (Some (owner_holding x)) ≡ Some k → value_at h.world k ≡ Some v →
-      Acts d (At name (call.Read o)) (told_of h.names.items (body_of v)) d
-  acts-read o x k v mine slot shown = still d (At name (call.Read o)) (told_of h.names.items (body_of v)) (by (body_of v) refl) where
+      Acts d (At name (call.Read o)) (told_of h.log.names.items (body_of v)) d
+  acts-read o x k v mine slot shown = still d (At name (call.Read o)) (told_of h.log.names.items (body_of v)) (by (body_of v) refl) where
     its : slot_of (holding_at d.owners o.0) ≡ Some k
     its = ap slot_of (named-as owner_holding h.owners.entries.items o.0 mine) ∙ slot
 
-    by : (b : Body) → body_of v ≡ b → Meets d (At name (call.Read o)) (told_of h.names.items b) d
-    by (body.Number m) e = ((attends at, ap is_some its), ((k, its, (v, shown, ap (told_of h.names.items) (sym e))), refl))
-    by other e = ((attends at, ap is_some its), ((k, its, (v, shown, ap (told_of h.names.items) (sym e))), refl))
+    by : (b : Body) → body_of v ≡ b → Meets d (At name (call.Read o)) (told_of h.log.names.items b) d
+    by (body.Number m) e = ((attends at, ap is_some its), ((k, its, (v, shown, ap (told_of h.log.names.items) (sym e))), refl))
+    by other e = ((attends at, ap is_some its), ((k, its, (v, shown, ap (told_of h.log.names.items) (sym e))), refl))
 
   pub acts-looked : (i : ItemName) (g : GuardName) (v : Val) → HasOpen d n g.0 → CanPointTo d n i.0 →
-      value_at h.world (slot_at d i.0) ≡ Some v → Acts d (At name (call.Look i g)) (told_of h.names.items (body_of v)) d
-  acts-looked i g v valid can shown = still d (At name (call.Look i g)) (told_of h.names.items (body_of v)) (by (body_of v) refl) where
-    by : (b : Body) → body_of v ≡ b → Meets d (At name (call.Look i g)) (told_of h.names.items b) d
-    by (body.Number m) e = ((valid, can), ((v, shown, ap (told_of h.names.items) (sym e)), refl))
-    by other e = ((valid, can), ((v, shown, ap (told_of h.names.items) (sym e)), refl))
+      value_at h.world (slot_at d i.0) ≡ Some v → Acts d (At name (call.Look i g)) (told_of h.log.names.items (body_of v)) d
+  acts-looked i g v valid can shown = still d (At name (call.Look i g)) (told_of h.log.names.items (body_of v)) (by (body_of v) refl) where
+    by : (b : Body) → body_of v ≡ b → Meets d (At name (call.Look i g)) (told_of h.log.names.items b) d
+    by (body.Number m) e = ((valid, can), ((v, shown, ap (told_of h.log.names.items) (sym e)), refl))
+    by other e = ((valid, can), ((v, shown, ap (told_of h.log.names.items) (sym e)), refl))
 
   -- ---- items
 
@@ -60,10 +60,10 @@ module _ {h : Environment} (name : PlaceName) {a : NamedParticipant} (at : Here 
         (b : Body) (o : OwnerName) (i : ItemName) → BecomesBody h.owners.entries.items value between.items b → body_of v ≡ b →
         IsEmptyAt h.world.cells c → IsEmptyAt h.world.standings k → link_of v ≡ c → link_home v ≡ h.world.home.cells →
         w ≡ new_world own → owner_holding x ≡ holding_first own k h.world.home.slots →
-        owners.items ≡ between.items ++ Some x ∷ [] → slots.items ≡ h.slots.items ++ k ∷ [] →
-        names.items ≡ slice_set h.names.items k (Some (length h.slots.items)) → o.0 ≡ length h.owners.entries.items → i.0 ≡ length h.slots.items →
+        owners.items ≡ between.items ++ Some x ∷ [] → slots.items ≡ h.log.slots.items ++ k ∷ [] →
+        names.items ≡ slice_set h.log.names.items k (Some (length h.log.slots.items)) → o.0 ≡ length h.owners.entries.items → i.0 ≡ length h.log.slots.items →
         Does d (At name (making own value)) (reply.Item o i)
-        (record h { world = w; owners = record { entries = owners }; slots = slots; names = names })
+        (record h { world = w; owners = record { entries = owners }; log = record h.log { slots = slots; names = names } })
     acts-made own w between owners slots names x b o i becomes is_body cell slot link home world holding pushed longer written named item =
         let put = put-is value b between.items becomes in
         let body_put : IsPutIn d value (body_of v) = subst (IsPutIn d value) (sym is_body) put.0 in

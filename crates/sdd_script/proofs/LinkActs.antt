@@ -1,5 +1,5 @@
 -- What a change of a link leaves in hand: it is sound, and it is what the call means
-use Rattle.sdd_script.proofs.Words.{restored, ◌≡◌, ◌≢◌, ◌+◌, ℕ, Bool, true, false, List, [], ◌∷◌, Option, None, Some, inl, inr, slice_index_or, slice_set, refl, sym, ap, ◌∙◌, subst, IfSome, IsTrue, option_map, Vec, Tag, Second, entry_at, CellContents, World, standing_at, value_at, IsWhole, Claim, is_out, held_in, AreLinked, Entry, first_slot, left, index_of, PlaceName, ItemName, GuardName, OwnerName, At, Val, link_of, IsLooseEntry, item_in, ScriptState, holding_at, in_world, opening_at, shared_slot, slot_at, Acts, CanPointTo, HasOpen, IsUnderGuard, IsValid, Meets, contained, NamedParticipant, Environment, attending, owner_holding, AnyOwner, Share, desk_of, IsTied, Does, does, goes, still, changing, accounts, owned-out, there-apart, starts, Both, IsAmong, IsBehind, IsFresh, IsLink, IsList, IsReserved, IsSome, LinkChange, MayAppend, apart-item, holding_of, link-apart-from, linked_in, links-apart, mark_tag, may_change, says_deleted, tag_after, trimmed, leaves, sits, under, place-is, named as named-as, map, map-set}
+use Rattle.sdd_script.proofs.Words.{restored, ◌≡◌, ◌≢◌, ◌+◌, ℕ, Bool, true, false, List, [], ◌∷◌, Option, None, Some, inl, inr, slice_index_or, slice_set, refl, sym, ap, ◌∙◌, subst, IfSome, IsTrue, option_map, Vec, Tag, Second, entry_at, CellContents, World, standing_at, value_at, IsWhole, Claim, is_out, held_in, AreLinked, Entry, first_slot, left, index_of, PlaceName, ItemName, GuardName, OwnerName, At, Val, link_of, IsLooseEntry, item_in, ScriptState, holding_at, in_world, opening_at, shared_slot, slot_at, Acts, CanPointTo, HasOpen, IsUnderGuard, IsValid, Meets, contained, NamedParticipant, Environment, attending, owner_holding, AnyOwner, Share, desk_of, IsTied, Does, does, goes, still, changing, accounts, owned-out, there-apart, starts, Both, IsAmong, IsBehind, IsFresh, IsLink, IsList, IsReserved, IsSome, LinkChange, MayAppend, apart-item, holding_of, link-apart-from, linked_in, links-apart, mark_tag, may_change, says_deleted, tag_after, trimmed, leaves, sits, under, place-is, named as named-as, map, map-set, with_dates}
 use Rattle.sdd_script_model.specs.Sound.{named}
 use Rattle.sdd_space.specs.declared.shared.Shared.{Shared}
 use Rattle.sdd_core.specs.declared.tag.Tag.TheVariants.{None as no_tag}
@@ -81,7 +81,7 @@ module _ (h : Environment) (t : IsTied h) (whole : IsWhole h.world) (name : Plac
   next_one = first_slot (left behind.1)
 
   -- its item has a name
-  pub next-named : (next : Option ℕ) → next ≡ next_one → IfSome next (λ s. IsSome (slice_index_or h.names.items s None))
+  pub next-named : (next : Option ℕ) → next ≡ next_one → IfSome next (λ s. IsSome (slice_index_or h.log.names.items s None))
   next-named None is = tt
   next-named (Some s) is = behind-named (desk_of h) t.sound (link_of v) behind.0 behind.1 behind.2.list link-off s (sym is)
 
@@ -89,8 +89,8 @@ module _ (h : Environment) (t : IsTied h) (whole : IsWhole h.world) (name : Plac
       HasOpen (desk_of h) name.0 g.0 → AreTold h waited →
       ((u : Tag) (es : List (Entry Val)) → IsList link_of h.world (link_of v) u es →
       (next ≡ first_slot (left es)) × (w ≡ trimmed link_of h.world p (link_of v) u es)) →
-      item ≡ option_map (item_in h.names.items) next → AreDatedNow h w waited dates →
-      Does (desk_of h) (At name (call.Next i g)) (reply.Pointer item no_tag) (record h { world = w; dates = dates })
+      item ≡ option_map (item_in h.log.names.items) next → AreDatedNow h w waited dates →
+      Does (desk_of h) (At name (call.Next i g)) (reply.Pointer item no_tag) (record (with_dates h dates) { world = w })
   acts-next g waited w dates next item opened told did seen now =
       let u : Tag = behind.0 in
       let es : List (Entry Val) = behind.1 in
@@ -106,7 +106,7 @@ module _ (h : Environment) (t : IsTied h) (whole : IsWhole h.world) (name : Plac
           u,
           es,
           behind.2,
-          seen ∙ ap (λ (x : Option ℕ). option_map (item_in h.names.items) x) done.0,
+          seen ∙ ap (λ (x : Option ℕ). option_map (item_in h.log.names.items) x) done.0,
           refl,
           ap (λ (q : ℕ). record (in_world (desk_of h) (trimmed link_of h.world q (link_of v) u es)) { dates = dates.items })
               (sym (place-is (under name.0 t whole there))),

@@ -1,5 +1,5 @@
 -- What each action on a queue leaves in hand: it is sound, and it is what the call means
-use Rattle.sdd_script.proofs.Words.{◌≡◌, ◌≢◌, ℕ, Bool, List, [], ◌∷◌, ◌++◌, Option, Some, None, is_some, map, length, slice_index_or, slice_set, refl, sym, ap, ◌∙◌, subst, option_map, Vec, length-map, NoCell, IsEmptyAt, World, IsPlaceOf, nulled, IsWhole, Entry, AreOfCells, HasOneAtMost, IsQueue, QueueCells, cells_in, queue_closed, Queue, index_of, PlaceName, QueueName, At, Body, in_world, opening_at, place_of, without_queue, Acts, IsParticipant, IsUnderGuard, IsNamedQueue, Val, link_of, newest_holding, oldest_holding, NamedParticipant, attending, Environment, IsTied, desk_of, Does, still, both-long, newest-cell, oldest-cell, queues-more, queues-spent, IsQueueName, queue-there, queue_begun-leaves, queue_closed-leaves}
+use Rattle.sdd_script.proofs.Words.{◌≡◌, ◌≢◌, ℕ, Bool, List, [], ◌∷◌, ◌++◌, Option, Some, None, is_some, map, length, slice_index_or, slice_set, refl, sym, ap, ◌∙◌, subst, option_map, Vec, length-map, NoCell, IsEmptyAt, World, IsPlaceOf, nulled, IsWhole, Entry, AreOfCells, HasOneAtMost, IsQueue, QueueCells, cells_in, queue_closed, Queue, index_of, PlaceName, QueueName, At, Body, in_world, opening_at, place_of, without_queue, Acts, IsParticipant, IsUnderGuard, IsNamedQueue, Val, link_of, newest_holding, oldest_holding, NamedParticipant, attending, Environment, IsTied, desk_of, Does, still, both-long, newest-cell, oldest-cell, queues-more, queues-spent, IsQueueName, queue-there, queue_begun-leaves, queue_closed-leaves, with_dates}
 use Rattle.sdd_space.specs.OwnerOrCell as holding
 use Rattle.sdd_script_text.specs.Actions as call
 use Rattle.sdd_script_text.specs.declared.answer.Reply.TheVariants as reply
@@ -7,7 +7,7 @@ use Rattle.sdd_interpreter.proofs.Acts as acts
 use Rattle.sdd_script.proofs.StackActs.{AreDatedNow, AreTold, dated-within}
 
 -- the entries of the queue of this name
-pub queue-entries : (h : Environment) → IsTied h → (n : ℕ) (x : Queue Body) → Some x ≡ slice_index_or h.queues.entries.items n None →
+pub queue-entries : (h : Environment) → IsTied h → (n : ℕ) (x : Queue Body) → Some x ≡ slice_index_or h.lists.queues.entries.items n None →
     (es : List (Entry Val)) × (second : Option ℕ) × IsNamedQueue (desk_of h) n (cells_in x) es second
 queue-entries h t n x mine =
     let oldest = oldest-cell h n x mine in
@@ -15,7 +15,7 @@ queue-entries h t n x mine =
     let found = queue-there (desk_of h) t.sound n (cells_in x) oldest newest in
     (found.0, found.1, record { oldest = oldest; newest = newest; queue = found.2 })
 
-pub is-queue : (h : Environment) (n : ℕ) (x : Queue Body) → Some x ≡ slice_index_or h.queues.entries.items n None → IsQueueName (desk_of h) n
+pub is-queue : (h : Environment) (n : ℕ) (x : Queue Body) → Some x ≡ slice_index_or h.lists.queues.entries.items n None → IsQueueName (desk_of h) n
 is-queue h n x mine = ap is_some (oldest-cell h n x mine)
 
 module _ (h : Environment) (t : IsTied h) (whole : IsWhole h.world) (name : PlaceName) (a : NamedParticipant)
@@ -43,8 +43,8 @@ module _ (h : Environment) (t : IsTied h) (whole : IsWhole h.world) (name : Plac
   pub acts-queue_begun : (w : World Val) (queues : Vec (Option (Queue Body))) (x : Queue Body) (r : QueueName) → IsEmptyAt h.world.cells (cells_in x).oldest →
       IsEmptyAt h.world.cells (cells_in x).newest → (cells_in x).oldest ≢ (cells_in x).newest →
       w ≡ nulled (nulled h.world (cells_in x).oldest) (cells_in x).newest → AreOfCells h.world.home.cells x →
-      queues.items ≡ h.queues.entries.items ++ Some x ∷ [] → r.0 ≡ length h.queues.entries.items →
-      Does (desk_of h) (At name call.Queue) (reply.Queue r) (record h { world = w; queues = record { entries = queues } })
+      queues.items ≡ h.lists.queues.entries.items ++ Some x ∷ [] → r.0 ≡ length h.lists.queues.entries.items →
+      Does (desk_of h) (At name call.Queue) (reply.Queue r) (record h { world = w; lists = record h.lists { queues = record { entries = queues } } })
   acts-queue_begun w queues x r free other apart world home pushed named =
       let q = cells_in x in
       let more = queues-more h queues x pushed in
@@ -54,11 +54,11 @@ module _ (h : Environment) (t : IsTied h) (whole : IsWhole h.world) (name : Plac
       more.1 ∙ ap (λ z. (desk_of h).newest ++ Some (holding.atomic_shared q.newest z) ∷ []) home.newest in
       acts.leaves (acts.under name.0 t whole there) refl (cc (world, oldest, newest))
       (queue_begun-leaves (desk_of h) t.sound whole p live q free other apart (both-long h))
-      (here, (named ∙ sym (length-map h.queues.entries.items (option_map oldest_holding)), (q, free, other, apart, refl)))
+      (here, (named ∙ sym (length-map h.lists.queues.entries.items (option_map oldest_holding)), (q, free, other, apart, refl)))
 
   -- ---- a queue with entries
 
-  module _ (q : QueueName) (x : Queue Body) (mine : Some x ≡ slice_index_or h.queues.entries.items q.0 None) where
+  module _ (q : QueueName) (x : Queue Body) (mine : Some x ≡ slice_index_or h.lists.queues.entries.items q.0 None) where
     abbrev cells : QueueCells
     cells = cells_in x
 
@@ -78,8 +78,9 @@ module _ (h : Environment) (t : IsTied h) (whole : IsWhole h.world) (name : Plac
     pub acts-queue_closed : (waited : List Bool) → AreTold h waited → (w : World Val) (queues : Vec (Option (Queue Body))) (dates : Vec ℕ) →
         IsUnderGuard (desk_of h) n →
         ((fs : List (Entry Val)) (held : Option ℕ) → IsQueue link_of h.world (cells_in x) fs held → w ≡ queue_closed link_of h.world p (cells_in x) fs held) →
-        queues.items ≡ slice_set h.queues.entries.items q.0 None → AreDatedNow h w waited dates →
-        Does (desk_of h) (At name (call.CloseQueue q)) reply.Done (record h { world = w; queues = record { entries = queues }; dates = dates })
+        queues.items ≡ slice_set h.lists.queues.entries.items q.0 None → AreDatedNow h w waited dates →
+        Does (desk_of h) (At name (call.CloseQueue q)) reply.Done
+        (record (with_dates h dates) { world = w; lists = record h.lists { queues = record { entries = queues } } })
     acts-queue_closed waited told w queues dates valid did spent now =
         let world = did es second is.queue in
         let left = queues-spent h queues q.0 spent in

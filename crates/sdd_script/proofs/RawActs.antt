@@ -1,5 +1,5 @@
 -- What each action on an item in its place, or on a raw one, leaves in hand: it is sound, and it is what the call means
-use Rattle.sdd_script.proofs.Words.{◌≡◌, ◌≢◌, ℕ, Bool, true, false, List, Option, Some, None, is_some, map, slice_index_or, slice_set, refl, sym, ap, ◌∙◌, arith, option_map, Vec, map-set, Refused, GuardOpen, OwnerOrCell, World, value_at, index_of, PlaceName, GuardName, OwnerName, ItemName, At, Reply, Body, Val, body_of, ScriptState, IsThere, holding_at, slot_at, slot_of, Acts, Meets, HasOpen, IsOwnerName, told_of, AnyOwner, Sole, Share, NamedParticipant, Environment, owner_holding, desk_of, Does, Here, attends, leaves, place-is, sits, still, CanPointAt, Drops, IsRaw, MayInPlace, OwnsNumber, Puts, RefusedInPlace, RefusesDrop, after_drop, common_steps, drop-leaves, named as named-as, put-leaves}
+use Rattle.sdd_script.proofs.Words.{◌≡◌, ◌≢◌, ℕ, Bool, true, false, List, Option, Some, None, is_some, map, slice_index_or, slice_set, refl, sym, ap, ◌∙◌, arith, option_map, Vec, map-set, Refused, GuardOpen, OwnerOrCell, World, value_at, index_of, PlaceName, GuardName, OwnerName, ItemName, At, Reply, Body, Val, body_of, ScriptState, IsThere, holding_at, slot_at, slot_of, Acts, Meets, HasOpen, IsOwnerName, told_of, AnyOwner, Sole, Share, NamedParticipant, Environment, owner_holding, desk_of, Does, Here, attends, leaves, place-is, sits, still, CanPointAt, Drops, IsRaw, MayInPlace, OwnsNumber, Puts, RefusedInPlace, RefusesDrop, after_drop, common_steps, drop-leaves, named as named-as, put-leaves, with_dates}
 use Rattle.sdd_space.specs.OwnerOrCell as holding
 use Rattle.sdd_space.specs.Owned as owned
 use Rattle.sdd_space.specs.Shared as shared
@@ -9,7 +9,7 @@ use Rattle.sdd_script_model.specs.declared.val.Body.TheVariants as body
 use Rattle.sdd_script.proofs.StackActs.{AreDatedNow, AreTold, dated-within}
 
 -- an item that is there whenever it began to wait
-pub there-from : (h : Environment) (i : ℕ) → CanPointAt h.world h.slots.items h.names.items h.dates.items i 0 → IsThere (desk_of h) i
+pub there-from : (h : Environment) (i : ℕ) → CanPointAt h.world h.log.slots.items h.log.names.items h.log.dates.items i 0 → IsThere (desk_of h) i
 there-from h i can = record { last = can.last; taken = can.taken }
 
 -- where the world and what names of owners stand for are as before, so is the desk
@@ -40,11 +40,11 @@ module _ {h : Environment} (name : PlaceName) {a : NamedParticipant} (at : Here 
 
   -- ---- a raw item is seen
   pub acts-seen : (i : ItemName) (g : GuardName) (v : Val) → HasOpen d name.0 g.0 → IsThere d i.0 → IsRaw d i.0 →
-      value_at h.world (slot_at d i.0) ≡ Some v → Acts d (At name (call.See i g)) (told_of h.names.items (body_of v)) d
-  acts-seen i g v valid is_there raw shown = still d (At name (call.See i g)) (told_of h.names.items (body_of v)) (by (body_of v) refl) where
-    by : (b : Body) → body_of v ≡ b → Meets d (At name (call.See i g)) (told_of h.names.items b) d
-    by (body.Number m) e = ((valid, is_there), (raw, (v, shown, ap (told_of h.names.items) (sym e)), refl))
-    by other e = ((valid, is_there), (raw, (v, shown, ap (told_of h.names.items) (sym e)), refl))
+      value_at h.world (slot_at d i.0) ≡ Some v → Acts d (At name (call.See i g)) (told_of h.log.names.items (body_of v)) d
+  acts-seen i g v valid is_there raw shown = still d (At name (call.See i g)) (told_of h.log.names.items (body_of v)) (by (body_of v) refl) where
+    by : (b : Body) → body_of v ≡ b → Meets d (At name (call.See i g)) (told_of h.log.names.items b) d
+    by (body.Number m) e = ((valid, is_there), (raw, (v, shown, ap (told_of h.log.names.items) (sym e)), refl))
+    by other e = ((valid, is_there), (raw, (v, shown, ap (told_of h.log.names.items) (sym e)), refl))
 
   -- ---- an owner of this name
   module _ (o : OwnerName) (x : AnyOwner) (mine : slice_index_or h.owners.entries.items o.0 None ≡ Some x) where
@@ -80,7 +80,7 @@ module _ {h : Environment} (name : PlaceName) {a : NamedParticipant} (at : Here 
     -- an owner goes, alone or with its item
     pub acts-dropped : (given : Reply) (waited : List Bool) (w : World Val) (owners : Vec (Option AnyOwner)) (dates : Vec ℕ) → AreTold h waited →
         Drops h.world p (owner_holding x) given w → owners.items ≡ slice_set h.owners.entries.items o.0 None → AreDatedNow h w waited dates →
-        Does d (At name (call.Drop o)) given (record h { world = w; owners = record { entries = owners }; dates = dates })
+        Does d (At name (call.Drop o)) given (record (with_dates h dates) { world = w; owners = record { entries = owners } })
     acts-dropped given waited w owners dates told did taken now =
         let (k, slot) = its-slot x in
         let left =

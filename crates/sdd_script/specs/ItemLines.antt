@@ -1,4 +1,4 @@
--- The lines on items and their owners, on items in their place and out as raw, on cells, and with collectors
+-- The lines on open guards, on items and their owners, on items in their place and out as raw, on cells, and with collectors
 use Rattle.sdd_script_model.specs.declared.owner_kind.OwnerKind.TheVariants as ownership
 use Rattle.sdd_script_model.specs.declared.owner_kind.OwnerKind.{OwnerKind}
 use Rattle.sdd_script_text.specs.declared.call.Value.{Value}
@@ -10,7 +10,16 @@ use Rattle.sdd_script_text.specs.declared.name.OwnerName.{OwnerName}
 use Rattle.sdd_script_text.specs.declared.name.ItemName.{ItemName}
 use Rattle.sdd_script_model.specs.declared.link_change.LinkChange.{LinkChange}
 use Rattle.sdd_script_model.specs.declared.link_change.LinkChange.TheVariants as change
+use Rattle.sdd_interpreter.specs.declared.commands.guards.GuardUse.{GuardUse}
+use Rattle.sdd_interpreter.specs.declared.commands.guards.GuardUse.TheVariants as using
 use Rattle.std.specs.Prelude.{ℕ, None, Option, Some}
+
+-- the line that uses a guard so
+abbrev pub using_guard : GuardUse → GuardName → Action
+using_guard using.Epoch guard = call.Epoch guard
+using_guard using.Garbage guard = call.Garbage guard
+using_guard using.Set guard = call.Set guard
+using_guard using.Accelerate guard = call.Accelerate guard
 
 -- the line that makes an item that is so owned
 abbrev pub making : OwnerKind → Value → Action

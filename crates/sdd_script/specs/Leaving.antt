@@ -28,7 +28,8 @@ AreSpent xs = (k : ℕ) → slice_index_or xs k None ≡ None
 -- an item, a cell, a queue, a stack or a bag was made
 abbrev pub HasMade : Environment → Type 0
 HasMade h =
-    0 < length h.slots.items + length h.cells.entries.items + length h.queues.entries.items + length h.stacks.entries.items + length h.bags.entries.items
+    0 < length h.log.slots.items + length h.cells.entries.items + length h.lists.queues.entries.items + length h.lists.stacks.entries.items + length
+    h.lists.bags.entries.items
 
 -- place p is a participant's again, with what was left there
 abbrev pub revived : World Val → ℕ → World Val
@@ -70,8 +71,8 @@ pub record GoesOn (old new : Environment) (p : ℕ) : Type 0 where
 -- no name is left but those of guards and participants
 abbrev pub AreAllSpent : Environment → Type 0
 AreAllSpent h =
-    AreSpent h.owners.entries.items × AreSpent h.cells.entries.items × AreSpent h.collectors.entries.items × AreSpent h.queues.entries.items
-    × AreSpent h.stacks.entries.items × AreSpent h.bags.entries.items
+    AreSpent h.owners.entries.items × AreSpent h.cells.entries.items × AreSpent h.collectors.entries.items × AreSpent h.lists.queues.entries.items
+    × AreSpent h.lists.stacks.entries.items × AreSpent h.lists.bags.entries.items
 
 -- the world can be closed, and nothing of it is in hand
 pub record IsSpent (h : Environment) : Type 0 where

@@ -16,7 +16,7 @@ pub fn step(stage: &mut Interpreter, call: &Call) -> Result<Answer, Refused>
     ensures step { MatchResult result (λ answer. LineStep stage.old call.now answer stage.new × GoesInTime holdings_of stage.new.world)
         (λ refused. (refused ≡ Refused.NoMemory) × (stage.new ≡ later stage.old)) }
 {
-    stage.hand.moment += 1;
+    stage.hand.log.moment += 1;
     let answer = answer_to(stage, call)?;
     stage.hand.world.reclaims_in_time();
     Ok(answer)

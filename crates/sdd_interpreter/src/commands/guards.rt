@@ -2,15 +2,16 @@
 ghost use Rattle.std.specs.Prelude.{◌≡◌, ◌<◌, IfOk, MatchResult};
 ghost use Rattle.sdd_core.specs.Epoch.{epoch_of};
 ghost use Rattle.sdd_core.specs.declared.refused.Refused.TheVariants as refused;
-ghost use Rattle.sdd_participants.specs.EpochState.{CanNest, has_garbage};
+ghost use Rattle.sdd_participants.specs.EpochState.{CanNest};
 ghost use Rattle.sdd_space.specs.Guard.{reader_of};
-ghost use Rattle.sdd_space.specs.World.{place_at};
-ghost use Rattle.sdd_space.specs.WorldChanges.{closed, opened, stirred, accelerated};
+ghost use Rattle.sdd_space.specs.WorldChanges.{closed, opened};
 ghost use Rattle.sdd_script_model.specs.Val.{Val, holdings_of};
+ghost use Rattle.sdd_interpreter.specs.Guards.{Uses};
 
 use crate::commands::step::GuardCommand;
 use sdd_core::{Epoch, Refused};
 use sdd_script_model::Val;
+use sdd_script_text::Reply;
 use sdd_space::{Guard, Guards};
 
 /// A new guard, and the epoch then.
@@ -34,75 +35,46 @@ impl GuardCommand for OpenGuard {
     }
 }
 
-/// The epoch that a guard shows.
-pub struct ShowEpoch<'a> {
-    pub guard: &'a Guard,
+/// What a guard that stays open is used for.
+#[derive(Clone, Copy)]
+pub enum GuardUse {
+    /// Shows its epoch.
+    Epoch,
+    /// Shows whether something may wait with the participant.
+    Garbage,
+    /// The participant has garbage from now on.
+    Set,
+    /// The participant's next outermost close scans.
+    Accelerate,
 }
 
-impl GuardCommand for ShowEpoch<'_> {
-    type Out = Epoch;
+/// A guard is used, and stays open.
+pub struct UseGuard<'a> {
+    pub guard: &'a Guard,
+    pub usage: GuardUse,
+}
+
+impl GuardCommand for UseGuard<'_> {
+    type Out = Reply;
 
     ghost asks = { λ _ _. Unit {0} };
 
-    ghost does = { λ _ _ _ before epoch after. (epoch ≡ epoch_of before.time.count) × (after ≡ before) };
+    ghost does = { λ step _ place before reply after. Uses step.usage place before reply after };
 
-    fn done<S: Guards<Val>>(self, s: &mut S) -> Epoch {
-        let ShowEpoch { guard } = self;
-        guard.epoch(s)
-    }
-}
-
-/// Something may wait with the participant.
-pub struct ShowGarbage<'a> {
-    pub guard: &'a Guard,
-}
-
-impl GuardCommand for ShowGarbage<'_> {
-    type Out = bool;
-
-    ghost asks = { λ _ _. Unit {0} };
-
-    ghost does = { λ _ _ place before result after. (result ≡ has_garbage (place_at before place)) × (after ≡ before) };
-
-    fn done<S: Guards<Val>>(self, s: &mut S) -> bool {
-        let ShowGarbage { guard } = self;
-        guard.has_garbage(s)
-    }
-}
-
-/// The participant has garbage from now on.
-pub struct SetGarbage<'a> {
-    pub guard: &'a Guard,
-}
-
-impl GuardCommand for SetGarbage<'_> {
-    type Out = ();
-
-    ghost asks = { λ _ _. Unit {0} };
-
-    ghost does = { λ _ _ place before _ after. after ≡ stirred before place };
-
-    fn done<S: Guards<Val>>(self, s: &mut S) {
-        let SetGarbage { guard } = self;
-        guard.set_has_garbage(s);
-    }
-}
-
-/// The participant's next outermost close scans.
-pub struct Accelerate<'a> {
-    pub guard: &'a Guard,
-}
-
-impl GuardCommand for Accelerate<'_> {
-    type Out = ();
-
-    ghost asks = { λ _ _. Unit {0} };
-
-    ghost does = { λ _ _ place before _ after. after ≡ accelerated before place };
-
-    fn done<S: Guards<Val>>(self, s: &mut S) {
-        let Accelerate { guard } = self;
-        guard.accelerate(s);
+    fn done<S: Guards<Val>>(self, s: &mut S) -> Reply {
+        let UseGuard { guard, usage } = self;
+        match usage {
+            GuardUse::Epoch => Reply::Epoch(guard.epoch(s)),
+            GuardUse::Garbage => Reply::Truth(guard.has_garbage(s)),
+            GuardUse::Set => {
+                guard.set_has_garbage(s);
+                Reply::Done
+            }
+            GuardUse::Accelerate => {
+                guard.accelerate(s);
+                Reply::Done
+            }
+        }
     }
 }
 

@@ -9,6 +9,7 @@ use crate::commands::{
 };
 use sdd_core::Refused;
 use sdd_interpreter::Interpreter;
+use sdd_interpreter::commands::guards::GuardUse;
 use sdd_script_model::{LinkChange, OwnerKind};
 use sdd_script_text::{
     Action, Answer, BagAction, Call, CellAction, CollectorAction, ContainerAction, EntryAction,
@@ -21,10 +22,15 @@ pub fn act_on_guard(stage: &mut Interpreter, name: PlaceName, action: GuardActio
     ensures acts { Acts stage.old (Call.At name (Action.Guard action)) result stage.new }
 {
     match action {
-        GuardAction::Epoch(guard) => guards::epoch(stage, name, guard),
-        GuardAction::Garbage(guard) => guards::garbage(stage, name, guard),
-        GuardAction::Set(guard) => guards::set(stage, name, guard),
-        GuardAction::Accelerate(guard) => guards::accelerate(stage, name, guard),
+        GuardAction::Epoch(guard) => guards::use_guard(stage, name, guard, GuardUse::Epoch),
+        GuardAction::Garbage(guard) => guards::use_guard(stage, name, guard, GuardUse::Garbage),
+        GuardAction::Set(guard) => guards::use_guard(stage, name, guard, GuardUse::Set),
+        GuardAction::Accelerate(guard) => guards::use_guard(
+            stage,
+            name,
+            guard,
+            GuardUse::Accelerate,
+        ),
         GuardAction::Defer(guard) => guards::defer(stage, name, guard),
         GuardAction::Close(guard) => guards::close_guard(stage, name, guard),
     }

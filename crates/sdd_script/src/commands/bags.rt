@@ -8,7 +8,7 @@ ghost use Rattle.sdd_script_text.specs.Actions as action;
 
 use sdd_interpreter::Interpreter;
 use sdd_interpreter::commands::bags::{AddNumber, DrainBag, MakeBag, TakeNumber};
-use sdd_interpreter::items::{date_new, forget_new, free_by_slot, waiting_by_slot};
+use sdd_interpreter::items::{date_new, forget_new};
 use sdd_interpreter::participants::{under, under_any};
 use sdd_interpreter::turns::{bag_closed_at, list_step_at};
 use sdd_script_text::{BagName, Call, GuardName, Numbers, PlaceName, Reply};
@@ -21,11 +21,11 @@ pub fn make_bag(stage: &mut Interpreter, name: PlaceName) -> Result<Reply, Alloc
     let Some(attending) = stage.hand.places.get(name.0) else {
         return Ok(Reply::Invalid);
     };
-    stage.hand.bags.make_room()?;
+    stage.hand.lists.bags.make_room()?;
     stage.hand.world.is_whole();
     match list_step_at(&mut stage.hand.world, &attending.place, MakeBag) {
         Ok(bag) => {
-            let name = stage.hand.bags.give(bag);
+            let name = stage.hand.lists.bags.give(bag);
             Ok(Reply::Bag(BagName(name)))
         }
         Err(refused) => Ok(Reply::Refused(refused)),
@@ -47,13 +47,12 @@ pub fn add(
     let Some((attending, held)) = under(&stage.hand.places, &stage.hand.guards, name, guard) else {
         return Ok(Reply::Invalid);
     };
-    let Some(_) = stage.hand.bags.get(bag.0) else {
+    let Some(_) = stage.hand.lists.bags.get(bag.0) else {
         return Ok(Reply::Invalid);
     };
     stage.hand.world.is_whole();
-    let slots = stage.hand.names.len();
-    let free = free_by_slot(stage.hand.alloc, &stage.hand.world, slots)?;
-    let Some(taken) = stage.hand.bags.take(bag.0) else {
+    let free = stage.hand.log.free_by_slot(&stage.hand.world)?;
+    let Some(taken) = stage.hand.lists.bags.take(bag.0) else {
         unreachable!()
     };
     let place = &attending.place;
@@ -66,10 +65,14 @@ pub fn add(
             guard: &held.guard,
         },
     );
-    stage.hand.bags.put_back(bag.0, taken);
+    stage.hand.lists.bags.put_back(bag.0, taken);
     match added {
         Ok(()) => {
-            forget_new(&mut stage.hand.names, &stage.hand.world, free.as_slice());
+            forget_new(
+                &mut stage.hand.log.names,
+                &stage.hand.world,
+                free.as_slice(),
+            );
             Ok(Reply::Done)
         }
         Err(refused) => Ok(Reply::Refused(refused)),
@@ -83,15 +86,15 @@ pub fn try_add(stage: &mut Interpreter, name: PlaceName, bag: BagName, number: u
     let Some(_) = stage.hand.places.get(name.0) else {
         return Reply::Invalid;
     };
-    let Some(_) = stage.hand.bags.get(bag.0) else {
+    let Some(_) = stage.hand.lists.bags.get(bag.0) else {
         return Reply::Invalid;
     };
     stage.hand.world.is_whole();
-    let Some(mut taken) = stage.hand.bags.take(bag.0) else {
+    let Some(mut taken) = stage.hand.lists.bags.take(bag.0) else {
         unreachable!()
     };
     let pushed = taken.try_push(number);
-    stage.hand.bags.put_back(bag.0, taken);
+    stage.hand.lists.bags.put_back(bag.0, taken);
     match pushed {
         Ok(()) => Reply::Done,
         Err(back) => Reply::Kept(back),
@@ -110,13 +113,12 @@ pub fn take(
     let Some((attending, held)) = under(&stage.hand.places, &stage.hand.guards, name, guard) else {
         return Ok(Reply::Invalid);
     };
-    let Some(_) = stage.hand.bags.get(bag.0) else {
+    let Some(_) = stage.hand.lists.bags.get(bag.0) else {
         return Ok(Reply::Invalid);
     };
     stage.hand.world.is_whole();
-    let slots = stage.hand.names.len();
-    let waited = waiting_by_slot(stage.hand.alloc, &stage.hand.world, slots)?;
-    let Some(taken) = stage.hand.bags.take(bag.0) else {
+    let waited = stage.hand.log.waiting_by_slot(&stage.hand.world)?;
+    let Some(taken) = stage.hand.lists.bags.take(bag.0) else {
         unreachable!()
     };
     let place = &attending.place;
@@ -128,10 +130,10 @@ pub fn take(
             guard: &held.guard,
         },
     );
-    stage.hand.bags.put_back(bag.0, taken);
-    let line = stage.hand.moment;
+    stage.hand.lists.bags.put_back(bag.0, taken);
+    let line = stage.hand.log.moment;
     date_new(
-        &mut stage.hand.dates,
+        &mut stage.hand.log.dates,
         &stage.hand.world,
         waited.as_slice(),
         line,
@@ -155,17 +157,16 @@ pub fn drain(
     let Some((attending, held)) = under(&stage.hand.places, &stage.hand.guards, name, guard) else {
         return Ok(Reply::Invalid);
     };
-    let Some(its) = stage.hand.bags.get(bag.0) else {
+    let Some(its) = stage.hand.lists.bags.get(bag.0) else {
         return Ok(Reply::Invalid);
     };
     stage.hand.world.is_whole();
     let Ok(many) = usize::try_from(its.len()) else {
         return Err(AllocError);
     };
-    let room = Vec::with_capacity(stage.hand.alloc, many)?;
-    let slots = stage.hand.names.len();
-    let waited = waiting_by_slot(stage.hand.alloc, &stage.hand.world, slots)?;
-    let Some(taken) = stage.hand.bags.take(bag.0) else {
+    let room = Vec::with_capacity(stage.hand.log.alloc, many)?;
+    let waited = stage.hand.log.waiting_by_slot(&stage.hand.world)?;
+    let Some(taken) = stage.hand.lists.bags.take(bag.0) else {
         unreachable!()
     };
     let place = &attending.place;
@@ -178,10 +179,10 @@ pub fn drain(
             room,
         },
     );
-    stage.hand.bags.put_back(bag.0, taken);
-    let line = stage.hand.moment;
+    stage.hand.lists.bags.put_back(bag.0, taken);
+    let line = stage.hand.log.moment;
     date_new(
-        &mut stage.hand.dates,
+        &mut stage.hand.log.dates,
         &stage.hand.world,
         waited.as_slice(),
         line,
@@ -197,7 +198,7 @@ pub fn len(stage: &mut Interpreter, name: PlaceName, bag: BagName, guard: GuardN
     let Some(_) = under(&stage.hand.places, &stage.hand.guards, name, guard) else {
         return Reply::Invalid;
     };
-    let Some(its) = stage.hand.bags.get(bag.0) else {
+    let Some(its) = stage.hand.lists.bags.get(bag.0) else {
         return Reply::Invalid;
     };
     stage.hand.world.is_whole();
@@ -215,19 +216,18 @@ pub fn close_bag(
     let Some((attending, held)) = under_any(&stage.hand.places, &stage.hand.guards, name) else {
         return Ok(Reply::Invalid);
     };
-    let Some(_) = stage.hand.bags.get(bag.0) else {
+    let Some(_) = stage.hand.lists.bags.get(bag.0) else {
         return Ok(Reply::Invalid);
     };
     stage.hand.world.is_whole();
-    let slots = stage.hand.names.len();
-    let waited = waiting_by_slot(stage.hand.alloc, &stage.hand.world, slots)?;
-    let Some(taken) = stage.hand.bags.take(bag.0) else {
+    let waited = stage.hand.log.waiting_by_slot(&stage.hand.world)?;
+    let Some(taken) = stage.hand.lists.bags.take(bag.0) else {
         unreachable!()
     };
     bag_closed_at(&mut stage.hand.world, &attending.place, taken, &held.guard);
-    let line = stage.hand.moment;
+    let line = stage.hand.log.moment;
     date_new(
-        &mut stage.hand.dates,
+        &mut stage.hand.log.dates,
         &stage.hand.world,
         waited.as_slice(),
         line,

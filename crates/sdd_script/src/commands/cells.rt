@@ -10,7 +10,7 @@ ghost use Rattle.sdd_script_text.specs.Actions as action;
 use sdd_core::{Refused, Tag};
 use sdd_interpreter::Interpreter;
 use sdd_interpreter::commands::cells::{CloseCell, LoadCell, MakeCell, PeekCell, ReadTag, TagIf};
-use sdd_interpreter::items::{date_if_waiting, item_seen};
+use sdd_interpreter::items::date_if_waiting;
 use sdd_interpreter::owners::{fits, take_filling};
 use sdd_interpreter::participants::under;
 use sdd_interpreter::turns::{cell_step_at, item_step_at};
@@ -36,11 +36,11 @@ pub fn make_cell(
     if !fits(&stage.hand.owners, ownership, owner) {
         return Ok(Reply::Invalid);
     }
-    stage.hand.cells.make_room()?;
     stage.hand.world.is_whole();
     if has_no_cell(&stage.hand.world) {
         return Ok(Reply::Refused(Refused::NoCell));
     }
+    stage.hand.cells.make_room()?;
     let filling = take_filling(&mut stage.hand.owners, ownership, owner);
     let cell = cell_step_at(
         &mut stage.hand.world,
@@ -70,7 +70,7 @@ pub fn load(stage: &mut Interpreter, name: PlaceName, cell: CellName, guard: Gua
             guard: &held.guard,
         },
     );
-    let item = item_seen(stage.hand.names.as_slice(), loaded.held);
+    let item = stage.hand.log.item_seen(loaded.held);
     Reply::Pointer(item, loaded.tag)
 }
 
@@ -129,7 +129,7 @@ pub fn close_cell(stage: &mut Interpreter, name: PlaceName, cell: CellName) -> R
         PeekCell { cell: &cell },
     );
     item_step_at(&mut stage.hand.world, &attending.place, CloseCell { cell });
-    let line = stage.hand.moment;
-    date_if_waiting(&mut stage.hand.dates, &stage.hand.world, held, line);
+    let line = stage.hand.log.moment;
+    date_if_waiting(&mut stage.hand.log.dates, &stage.hand.world, held, line);
     Reply::Done
 }

@@ -12,7 +12,7 @@ ghost use Rattle.sdd_script_text.specs.Actions as action;
 use sdd_core::Refused;
 use sdd_interpreter::Interpreter;
 use sdd_interpreter::commands::collectors::{CloseCollector, GiveToCollector, MakeCollector};
-use sdd_interpreter::items::{date_if_waiting, date_new, items_in, slots_for, waiting_by_slot};
+use sdd_interpreter::items::{date_if_waiting, date_new};
 use sdd_interpreter::participants::under;
 use sdd_interpreter::turns::collector_step_at;
 use sdd_script_model::Val;
@@ -71,8 +71,13 @@ pub fn collect(
             guard: &held.guard,
         },
     );
-    let line = stage.hand.moment;
-    date_if_waiting(&mut stage.hand.dates, &stage.hand.world, Some(slot), line);
+    let line = stage.hand.log.moment;
+    date_if_waiting(
+        &mut stage.hand.log.dates,
+        &stage.hand.world,
+        Some(slot),
+        line,
+    );
     reply
 }
 
@@ -92,10 +97,9 @@ pub fn close_collector(
         return Ok(stage.answer(Reply::Invalid));
     };
     stage.hand.world.is_whole();
-    let names = stage.hand.names.as_slice();
     let collected = number_of_collector(held);
-    let gone = found_for(stage.hand.alloc, &stage.hand.world, names, collected)?;
-    let waited = waiting_by_slot(stage.hand.alloc, &stage.hand.world, names.len())?;
+    let gone = stage.hand.log.items_for(&stage.hand.world, collected)?;
+    let waited = stage.hand.log.waiting_by_slot(&stage.hand.world)?;
     let Some(held) = stage.hand.collectors.take(collector.0) else {
         unreachable!()
     };
@@ -107,9 +111,9 @@ pub fn close_collector(
         stage.hand.collectors.put_back(collector.0, held);
         return Ok(stage.answer(Reply::Refused(refused)));
     }
-    let line = stage.hand.moment;
+    let line = stage.hand.log.moment;
     date_new(
-        &mut stage.hand.dates,
+        &mut stage.hand.log.dates,
         &stage.hand.world,
         waited.as_slice(),
         line,
@@ -117,23 +121,6 @@ pub fn close_collector(
     Ok(Answer {
         reply: Reply::Done,
         reclaimed: Names::of(gone),
-        ran: Names::new(stage.hand.alloc),
+        ran: Names::new(stage.hand.log.alloc),
     })
-}
-
-/// The items with names that wait for a collector, in ascending order.
-fn found_for(
-    alloc: Global,
-    world: &World<Val>,
-    names: &[Option<u64>],
-    collector: u32,
-) -> Result<Vec<ItemName>, AllocError>
-    requires small { length names.now ≤ 2 ^ 32 }
-    requires named { All (λ slot. slot < length names.now) (slots_waiting_for world.now collector (length names.now)) }
-    ensures items { IfOk result (λ found.
-        IsPermutation (names_in names.now (slots_waiting_for world.now collector (length names.now))) found.items) }
-    ensures ascending { IfOk result (λ found. IsNonDecreasingBy (λ (i : Named). i.0) found.items) }
-{
-    let slots = slots_for(alloc, world, collector, names.len())?;
-    items_in(alloc, slots.as_slice(), names)
 }

@@ -7,7 +7,6 @@ ghost use Rattle.sdd_script_text.specs.Actions as action;
 
 use sdd_interpreter::Interpreter;
 use sdd_interpreter::commands::containers::{CountEntries, ListNumbers, PeekFirst};
-use sdd_interpreter::containers::list_named;
 use sdd_interpreter::participants::under;
 use sdd_interpreter::turns::list_step_at;
 use sdd_script_text::{Call, GuardName, ListName, PlaceName, Reply};
@@ -20,7 +19,7 @@ pub fn peek(stage: &mut Interpreter, name: PlaceName, list: ListName, guard: Gua
     let Some((attending, held)) = under(&stage.hand.places, &stage.hand.guards, name, guard) else {
         return Reply::Invalid;
     };
-    let Some(list) = list_named(&stage.hand.queues, &stage.hand.stacks, list) else {
+    let Some(list) = stage.hand.lists.list_named(list) else {
         return Reply::Invalid;
     };
     stage.hand.world.is_whole();
@@ -36,7 +35,7 @@ pub fn len(stage: &mut Interpreter, name: PlaceName, list: ListName, guard: Guar
     let Some((attending, held)) = under(&stage.hand.places, &stage.hand.guards, name, guard) else {
         return Reply::Invalid;
     };
-    let Some(list) = list_named(&stage.hand.queues, &stage.hand.stacks, list) else {
+    let Some(list) = stage.hand.lists.list_named(list) else {
         return Reply::Invalid;
     };
     stage.hand.world.is_whole();
@@ -57,13 +56,13 @@ pub fn list(
     let Some((attending, held)) = under(&stage.hand.places, &stage.hand.guards, name, guard) else {
         return Ok(Reply::Invalid);
     };
-    let Some(list) = list_named(&stage.hand.queues, &stage.hand.stacks, list) else {
+    let Some(list) = stage.hand.lists.list_named(list) else {
         return Ok(Reply::Invalid);
     };
     stage.hand.world.is_whole();
     let place = &attending.place;
     let guard = &held.guard;
-    let alloc = stage.hand.alloc;
+    let alloc = stage.hand.log.alloc;
     let step = ListNumbers { list, guard, alloc };
     let numbers = list_step_at(&mut stage.hand.world, place, step)?;
     Ok(Reply::Numbers(numbers))

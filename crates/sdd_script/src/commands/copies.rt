@@ -8,7 +8,7 @@ ghost use Rattle.sdd_script_text.specs.Actions as action;
 
 use sdd_interpreter::Interpreter;
 use sdd_interpreter::holding::AnyList;
-use sdd_interpreter::items::{date_new, forget_new, free_by_slot, name_all, waiting_by_slot};
+use sdd_interpreter::items::{date_new, forget_new, name_all};
 use sdd_interpreter::participants::under;
 use sdd_interpreter::turns::{copy_queue_at, copy_stack_at, slots_at};
 use sdd_script_text::{Call, GuardName, ListName, PlaceName, QueueName, Reply, StackName};
@@ -30,17 +30,17 @@ pub fn copy_queue(
     let Some((attending, held)) = under(&stage.hand.places, &stage.hand.guards, name, guard) else {
         return Ok(Reply::Invalid);
     };
-    let Some(_) = stage.hand.queues.get(queue.0) else {
+    let Some(_) = stage.hand.lists.queues.get(queue.0) else {
         return Ok(Reply::Invalid);
     };
-    stage.hand.queues.make_room()?;
+    stage.hand.lists.queues.make_room()?;
     stage.hand.world.is_whole();
-    let most = stage.hand.names.len();
-    stage.hand.slots.reserve(most)?;
-    let room = Vec::with_capacity(stage.hand.alloc, most)?;
-    let waited = waiting_by_slot(stage.hand.alloc, &stage.hand.world, most)?;
-    let free = free_by_slot(stage.hand.alloc, &stage.hand.world, most)?;
-    let Some(copied) = stage.hand.queues.get(queue.0) else {
+    let most = stage.hand.log.names.len();
+    stage.hand.log.slots.reserve(most)?;
+    let room = Vec::with_capacity(stage.hand.log.alloc, most)?;
+    let waited = stage.hand.log.waiting_by_slot(&stage.hand.world)?;
+    let free = stage.hand.log.free_by_slot(&stage.hand.world)?;
+    let Some(copied) = stage.hand.lists.queues.get(queue.0) else {
         unreachable!()
     };
     let place = &attending.place;
@@ -48,10 +48,14 @@ pub fn copy_queue(
     let copy = match copy_queue_at(&mut stage.hand.world, place, copied, guard) {
         Ok(copy) => copy,
         Err(refused) => {
-            let line = stage.hand.moment;
-            forget_new(&mut stage.hand.names, &stage.hand.world, free.as_slice());
+            let line = stage.hand.log.moment;
+            forget_new(
+                &mut stage.hand.log.names,
+                &stage.hand.world,
+                free.as_slice(),
+            );
             date_new(
-                &mut stage.hand.dates,
+                &mut stage.hand.log.dates,
                 &stage.hand.world,
                 waited.as_slice(),
                 line,
@@ -62,11 +66,11 @@ pub fn copy_queue(
     let list = AnyList::Queue(&copy);
     let slots = slots_at(&mut stage.hand.world, place, list, guard, most, room);
     name_all(
-        &mut stage.hand.slots,
-        &mut stage.hand.names,
+        &mut stage.hand.log.slots,
+        &mut stage.hand.log.names,
         slots.as_slice(),
     );
-    let name = stage.hand.queues.give(copy);
+    let name = stage.hand.lists.queues.give(copy);
     Ok(Reply::Queue(QueueName(name)))
 }
 
@@ -86,17 +90,17 @@ pub fn copy_stack(
     let Some((attending, held)) = under(&stage.hand.places, &stage.hand.guards, name, guard) else {
         return Ok(Reply::Invalid);
     };
-    let Some(_) = stage.hand.stacks.get(stack.0) else {
+    let Some(_) = stage.hand.lists.stacks.get(stack.0) else {
         return Ok(Reply::Invalid);
     };
-    stage.hand.stacks.make_room()?;
+    stage.hand.lists.stacks.make_room()?;
     stage.hand.world.is_whole();
-    let most = stage.hand.names.len();
-    stage.hand.slots.reserve(most)?;
-    let room = Vec::with_capacity(stage.hand.alloc, most)?;
-    let waited = waiting_by_slot(stage.hand.alloc, &stage.hand.world, most)?;
-    let free = free_by_slot(stage.hand.alloc, &stage.hand.world, most)?;
-    let Some(copied) = stage.hand.stacks.get(stack.0) else {
+    let most = stage.hand.log.names.len();
+    stage.hand.log.slots.reserve(most)?;
+    let room = Vec::with_capacity(stage.hand.log.alloc, most)?;
+    let waited = stage.hand.log.waiting_by_slot(&stage.hand.world)?;
+    let free = stage.hand.log.free_by_slot(&stage.hand.world)?;
+    let Some(copied) = stage.hand.lists.stacks.get(stack.0) else {
         unreachable!()
     };
     let place = &attending.place;
@@ -104,10 +108,14 @@ pub fn copy_stack(
     let copy = match copy_stack_at(&mut stage.hand.world, place, copied, guard) {
         Ok(copy) => copy,
         Err(refused) => {
-            let line = stage.hand.moment;
-            forget_new(&mut stage.hand.names, &stage.hand.world, free.as_slice());
+            let line = stage.hand.log.moment;
+            forget_new(
+                &mut stage.hand.log.names,
+                &stage.hand.world,
+                free.as_slice(),
+            );
             date_new(
-                &mut stage.hand.dates,
+                &mut stage.hand.log.dates,
                 &stage.hand.world,
                 waited.as_slice(),
                 line,
@@ -118,10 +126,10 @@ pub fn copy_stack(
     let list = AnyList::Stack(&copy);
     let slots = slots_at(&mut stage.hand.world, place, list, guard, most, room);
     name_all(
-        &mut stage.hand.slots,
-        &mut stage.hand.names,
+        &mut stage.hand.log.slots,
+        &mut stage.hand.log.names,
         slots.as_slice(),
     );
-    let name = stage.hand.stacks.give(copy);
+    let name = stage.hand.lists.stacks.give(copy);
     Ok(Reply::Stack(StackName(name)))
 }

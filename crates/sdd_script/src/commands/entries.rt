@@ -6,9 +6,9 @@ ghost use Rattle.sdd_script_model.specs.Script.{Acts};
 ghost use Rattle.sdd_script.specs.ItemLines.{popping, pushing};
 
 use sdd_interpreter::Interpreter;
-use sdd_interpreter::containers::{list_named, number_owned};
+use sdd_interpreter::containers::number_owned;
 use sdd_interpreter::holding::{AnyOwner, slot_of_share};
-use sdd_interpreter::items::{date_new, waiting_by_slot};
+use sdd_interpreter::items::date_new;
 use sdd_interpreter::participants::under;
 use sdd_interpreter::turns::{pop_at, push_at};
 use sdd_lists::Unpopped;
@@ -33,14 +33,13 @@ pub fn push(
     let Some((attending, held)) = under(&stage.hand.places, &stage.hand.guards, name, guard) else {
         return Ok(Reply::Invalid);
     };
-    let Some(list) = list_named(&stage.hand.queues, &stage.hand.stacks, list) else {
+    let Some(list) = stage.hand.lists.list_named(list) else {
         return Ok(Reply::Invalid);
     };
     stage.hand.owners.make_room()?;
-    stage.hand.slots.reserve(1)?;
+    stage.hand.log.slots.reserve(1)?;
     stage.hand.world.is_whole();
-    let slots = stage.hand.names.len();
-    let waited = waiting_by_slot(stage.hand.alloc, &stage.hand.world, slots)?;
+    let waited = stage.hand.log.waiting_by_slot(&stage.hand.world)?;
     let place = &attending.place;
     let owner = match push_at(
         &mut stage.hand.world,
@@ -55,12 +54,12 @@ pub fn push(
         Err(None) => return Ok(Reply::Kept(number)),
     };
     let slot = slot_of_share(&owner);
-    let item = stage.hand.slots.len() as u64;
-    stage.hand.names[slot as usize] = Some(item);
-    stage.hand.slots.push_reserved(slot);
-    let line = stage.hand.moment;
+    let item = stage.hand.log.slots.len() as u64;
+    stage.hand.log.names[slot as usize] = Some(item);
+    stage.hand.log.slots.push_reserved(slot);
+    let line = stage.hand.log.moment;
     date_new(
-        &mut stage.hand.dates,
+        &mut stage.hand.log.dates,
         &stage.hand.world,
         waited.as_slice(),
         line,
@@ -86,13 +85,12 @@ pub fn pop(
     let Some((attending, held)) = under(&stage.hand.places, &stage.hand.guards, name, guard) else {
         return Ok(Reply::Invalid);
     };
-    let Some(list) = list_named(&stage.hand.queues, &stage.hand.stacks, list) else {
+    let Some(list) = stage.hand.lists.list_named(list) else {
         return Ok(Reply::Invalid);
     };
     stage.hand.owners.make_room()?;
     stage.hand.world.is_whole();
-    let slots = stage.hand.names.len();
-    let waited = waiting_by_slot(stage.hand.alloc, &stage.hand.world, slots)?;
+    let waited = stage.hand.log.waiting_by_slot(&stage.hand.world)?;
     let place = &attending.place;
     let popped = match pop_at(&mut stage.hand.world, place, list, first, &held.guard) {
         Ok(popped) => popped,
@@ -103,9 +101,9 @@ pub fn pop(
         }
         Err(Unpopped::Refused(refused)) => return Ok(Reply::Refused(refused)),
     };
-    let line = stage.hand.moment;
+    let line = stage.hand.log.moment;
     date_new(
-        &mut stage.hand.dates,
+        &mut stage.hand.log.dates,
         &stage.hand.world,
         waited.as_slice(),
         line,

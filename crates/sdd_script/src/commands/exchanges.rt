@@ -10,7 +10,6 @@ use sdd_core::{Refused, Tag};
 use sdd_interpreter::Interpreter;
 use sdd_interpreter::commands::exchanges::{CopyCell, ShareHeld, SwapIn, TakeOut};
 use sdd_interpreter::holding::{AnyCell, AnyOwner};
-use sdd_interpreter::items::{item_seen, slot_compared};
 use sdd_interpreter::owners::{
     fits, give_filling, put_back, shared_cell_of, take_filling, told_back,
 };
@@ -80,17 +79,11 @@ pub fn exchange(
     if !fits(&stage.hand.owners, holder.ownership(), owner) {
         return Ok(Reply::Invalid);
     }
-    let slots = stage.hand.slots.as_slice();
-    let names = stage.hand.names.as_slice();
-    let dates = stage.hand.dates.as_slice();
-    let Some(slot) = slot_compared(
-        &stage.hand.world,
-        slots,
-        names,
-        dates,
-        item,
-        attending.since,
-    ) else {
+    let Some(slot) = stage
+        .hand
+        .log
+        .slot_compared(&stage.hand.world, item, attending.since)
+    else {
         return Ok(Reply::Invalid);
     };
     stage.hand.owners.make_room()?;
@@ -116,7 +109,7 @@ pub fn exchange(
         }
         Err((back, seen)) => {
             put_back(&mut stage.hand.owners, owner, back);
-            Ok(Reply::Differs(item_seen(names, seen.held), seen.tag))
+            Ok(Reply::Differs(stage.hand.log.item_seen(seen.held), seen.tag))
         }
     }
 }

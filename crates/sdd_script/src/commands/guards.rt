@@ -9,16 +9,14 @@ ghost use Rattle.sdd_script_model.specs.Shown.{names_in};
 ghost use Rattle.sdd_script_model.specs.ScriptState.{BeginsLine};
 ghost use Rattle.sdd_script_model.specs.Script.{Acts, Answers};
 ghost use Rattle.sdd_script_text.specs.Actions as action;
+ghost use Rattle.sdd_script.specs.ItemLines.{using_guard};
 
 use sdd_interpreter::Interpreter;
-use sdd_interpreter::commands::guards::{
-    Accelerate, CloseGuard, OpenGuard, SetGarbage, ShowEpoch, ShowGarbage,
-};
-use sdd_interpreter::items::{date_new, items_in, slots_among, waiting_by_slot};
-use sdd_interpreter::jobs::jobs_among;
+use sdd_interpreter::commands::guards::{CloseGuard, GuardUse, OpenGuard, UseGuard};
+use sdd_interpreter::items::date_new;
+use sdd_interpreter::log::Due;
 use sdd_interpreter::participants::{NamedGuard, note_opening, under};
 use sdd_interpreter::turns::{defer_at, guard_step_at};
-use sdd_participants::LimboEntry;
 use sdd_script_text::{Answer, Call, GuardName, ItemName, JobName, Names, PlaceName, Reply};
 use sdd_world::inner::{is_open, reclaims_next};
 use std::alloc::{AllocError, Global};
@@ -32,25 +30,21 @@ pub fn open(stage: &mut Interpreter, name: PlaceName) -> Result<Answer, AllocErr
     let Some(attending) = stage.hand.places.get(name.0) else {
         return Ok(stage.answer(Reply::Invalid));
     };
-    stage.hand.guards.make_room()?;
     stage.hand.world.is_whole();
     let waiting = reclaims_next(&stage.hand.world, &attending.place);
-    let names = stage.hand.names.as_slice();
-    let deferred = stage.hand.deferred.as_slice();
-    let ran = jobs_among(stage.hand.alloc, waiting, deferred)?;
-    let due = items_among(stage.hand.alloc, waiting, names)?;
-    let waited = waiting_by_slot(stage.hand.alloc, &stage.hand.world, names.len())?;
+    let due = stage.hand.log.due(&stage.hand.world, waiting)?;
+    stage.hand.guards.make_room()?;
     let is_nested = is_open(&stage.hand.world, &attending.place);
     let (guard, epoch) = match guard_step_at(&mut stage.hand.world, &attending.place, OpenGuard) {
         Ok(opened) => opened,
         Err(refused) => return Ok(stage.answer(Reply::Refused(refused))),
     };
     let place = attending.place.index();
-    let since = stage.hand.moment;
+    let since = stage.hand.log.moment;
     date_new(
-        &mut stage.hand.dates,
+        &mut stage.hand.log.dates,
         &stage.hand.world,
-        waited.as_slice(),
+        due.waited.as_slice(),
         since,
     );
     note_opening(&mut stage.hand.places, name.0, since, is_nested);
@@ -61,73 +55,36 @@ pub fn open(stage: &mut Interpreter, name: PlaceName) -> Result<Answer, AllocErr
         participant,
         since,
     });
+    let Due {
+        items,
+        jobs,
+        waited: _,
+    } = due;
     Ok(Answer {
         reply: Reply::Guard(GuardName(name), epoch),
-        reclaimed: Names::of(due),
-        ran: Names::of(ran),
+        reclaimed: Names::of(items),
+        ran: Names::of(jobs),
     })
 }
 
-/// `P epoch G`: the epoch that a guard of the participant shows.
-pub fn epoch(stage: &mut Interpreter, name: PlaceName, guard: GuardName) -> Reply
-    ensures acts { Acts stage.old (Call.At name (action.Epoch guard)) result stage.new }
+/// `P epoch G`, `P garbage G`, `P set G`, `P accelerate G`: what a guard of the participant shows, or tells it to do, while it stays open.
+pub fn use_guard(
+    stage: &mut Interpreter,
+    name: PlaceName,
+    guard: GuardName,
+    usage: GuardUse,
+) -> Reply
+    ensures acts { Acts stage.old (Call.At name (using_guard usage guard)) result stage.new }
 {
     let Some((attending, held)) = under(&stage.hand.places, &stage.hand.guards, name, guard) else {
         return Reply::Invalid;
     };
     stage.hand.world.is_whole();
-    Reply::Epoch(guard_step_at(
-        &mut stage.hand.world,
-        &attending.place,
-        ShowEpoch { guard: &held.guard },
-    ))
-}
-
-/// `P garbage G`: whether something may wait with the participant.
-pub fn garbage(stage: &mut Interpreter, name: PlaceName, guard: GuardName) -> Reply
-    ensures acts { Acts stage.old (Call.At name (action.Garbage guard)) result stage.new }
-{
-    let Some((attending, held)) = under(&stage.hand.places, &stage.hand.guards, name, guard) else {
-        return Reply::Invalid;
+    let step = UseGuard {
+        guard: &held.guard,
+        usage,
     };
-    stage.hand.world.is_whole();
-    Reply::Truth(guard_step_at(
-        &mut stage.hand.world,
-        &attending.place,
-        ShowGarbage { guard: &held.guard },
-    ))
-}
-
-/// `P set G`: the participant has garbage from now on.
-pub fn set(stage: &mut Interpreter, name: PlaceName, guard: GuardName) -> Reply
-    ensures acts { Acts stage.old (Call.At name (action.Set guard)) result stage.new }
-{
-    let Some((attending, held)) = under(&stage.hand.places, &stage.hand.guards, name, guard) else {
-        return Reply::Invalid;
-    };
-    stage.hand.world.is_whole();
-    guard_step_at(
-        &mut stage.hand.world,
-        &attending.place,
-        SetGarbage { guard: &held.guard },
-    );
-    Reply::Done
-}
-
-/// `P accelerate G`: the participant's next outermost close scans.
-pub fn accelerate(stage: &mut Interpreter, name: PlaceName, guard: GuardName) -> Reply
-    ensures acts { Acts stage.old (Call.At name (action.Accelerate guard)) result stage.new }
-{
-    let Some((attending, held)) = under(&stage.hand.places, &stage.hand.guards, name, guard) else {
-        return Reply::Invalid;
-    };
-    stage.hand.world.is_whole();
-    guard_step_at(
-        &mut stage.hand.world,
-        &attending.place,
-        Accelerate { guard: &held.guard },
-    );
-    Reply::Done
+    guard_step_at(&mut stage.hand.world, &attending.place, step)
 }
 
 /// `P defer G`: a job that does nothing waits, and is named. `NoJob` is a reply.
@@ -143,11 +100,11 @@ pub fn defer(stage: &mut Interpreter, name: PlaceName, guard: GuardName) -> Repl
         Ok(place) => place,
         Err(refused) => return Reply::Refused(refused),
     };
-    let job = stage.hand.jobs;
-    prove!(job < stage.hand.moment);
-    stage.hand.deferred[place as usize] = job;
-    stage.hand.job_dates[place as usize] = stage.hand.moment;
-    stage.hand.jobs += 1;
+    let job = stage.hand.log.jobs;
+    prove!(job < stage.hand.log.moment);
+    stage.hand.log.deferred[place as usize] = job;
+    stage.hand.log.job_dates[place as usize] = stage.hand.log.moment;
+    stage.hand.log.jobs += 1;
     Reply::Job(JobName(job))
 }
 
@@ -176,18 +133,4 @@ pub fn close_guard(stage: &mut Interpreter, name: PlaceName, guard: GuardName) -
         CloseGuard { guard },
     );
     Reply::Done
-}
-
-/// The items with names among what waits, in ascending order.
-fn items_among(
-    alloc: Global,
-    waiting: &[LimboEntry],
-    names: &[Option<u64>],
-) -> Result<Vec<ItemName>, AllocError>
-    requires named { All (λ slot. slot < length names.now) (slots_among waiting.now) }
-    ensures items { IfOk result (λ found. IsPermutation (names_in names.now (slots_among waiting.now)) found.items) }
-    ensures ascending { IfOk result (λ found. IsNonDecreasingBy (λ (i : Named). i.0) found.items) }
-{
-    let slots = slots_among(alloc, waiting)?;
-    items_in(alloc, slots.as_slice(), names)
 }

@@ -11,7 +11,6 @@ ghost use Rattle.sdd_script_text.specs.Actions as action;
 use sdd_core::Refused;
 use sdd_interpreter::Interpreter;
 use sdd_interpreter::commands::items::MakeItem;
-use sdd_interpreter::items::{slot_since, told};
 use sdd_interpreter::owners::{body_from, is_missing, value_of};
 use sdd_interpreter::participants::under;
 use sdd_interpreter::turns::{item_step_at, value_shown};
@@ -37,12 +36,12 @@ pub fn make(
     if is_missing(&stage.hand.owners, value) {
         return Ok(Reply::Invalid);
     }
-    stage.hand.owners.make_room()?;
-    stage.hand.slots.reserve(1)?;
     stage.hand.world.is_whole();
     if let Some(refused) = refuses_item(&stage.hand.world) {
         return Ok(Reply::Refused(refused));
     }
+    stage.hand.owners.make_room()?;
+    stage.hand.log.slots.reserve(1)?;
     let Some(body) = body_from(&mut stage.hand.owners, value) else {
         unreachable!()
     };
@@ -52,9 +51,9 @@ pub fn make(
         MakeItem { body, ownership },
     );
     let slot = owner.slot();
-    let item = stage.hand.slots.len() as u64;
-    stage.hand.names[slot as usize] = Some(item);
-    stage.hand.slots.push_reserved(slot);
+    let item = stage.hand.log.slots.len() as u64;
+    stage.hand.log.names[slot as usize] = Some(item);
+    stage.hand.log.slots.push_reserved(slot);
     let name = stage.hand.owners.give(owner);
     Ok(Reply::Item(OwnerName(name), ItemName(item)))
 }
@@ -70,10 +69,7 @@ pub fn read(stage: &mut Interpreter, name: PlaceName, owner: OwnerName) -> Reply
         return Reply::Invalid;
     };
     stage.hand.world.is_whole();
-    told(
-        value_of(held, &stage.hand.world),
-        stage.hand.names.as_slice(),
-    )
+    stage.hand.log.told(value_of(held, &stage.hand.world))
 }
 
 /// `P look I G`: the value of an item that the participant can point to.
@@ -84,24 +80,16 @@ pub fn look(stage: &mut Interpreter, name: PlaceName, item: ItemName, guard: Gua
         return Reply::Invalid;
     };
     stage.hand.world.is_whole();
-    let slots = stage.hand.slots.as_slice();
-    let names = stage.hand.names.as_slice();
-    let dates = stage.hand.dates.as_slice();
-    let Some(slot) = slot_since(
-        &stage.hand.world,
-        slots,
-        names,
-        dates,
-        item,
-        attending.since,
-    ) else {
+    let Some(slot) = stage
+        .hand
+        .log
+        .slot_since(&stage.hand.world, item, attending.since)
+    else {
         return Reply::Invalid;
     };
     let place = &attending.place;
-    told(
-        value_shown(&mut stage.hand.world, place, &held.guard, slot),
-        names,
-    )
+    let value = value_shown(&mut stage.hand.world, place, &held.guard, slot);
+    stage.hand.log.told(value)
 }
 
 /// Why the world has no room for an item, if it has none.

@@ -22,7 +22,7 @@ use sdd_interpreter::holding::AnyOwner;
 use sdd_interpreter::turns::{
     bag_closed_at, guard_step_at, item_step_at, list_step_at, raw_step_at,
 };
-use sdd_interpreter::{Environment, Interpreter};
+use sdd_interpreter::{Environment, Interpreter, Lists};
 use sdd_participants::Tally;
 use sdd_script_model::Val;
 use sdd_script_text::{GuardName, PlaceName};
@@ -43,23 +43,19 @@ pub fn close(mut stage: Interpreter) -> Tally
     spend_names(&mut hand);
     let Environment {
         world,
-        alloc: _,
-        moment: _,
         places: _,
         guards,
         owners,
         cells,
         collectors,
+        lists,
+        log: _,
+    } = hand;
+    let Lists {
         queues,
         stacks,
         bags,
-        slots: _,
-        names: _,
-        dates: _,
-        jobs: _,
-        deferred: _,
-        job_dates: _,
-    } = hand;
+    } = lists;
     guards.destroy_spent();
     owners.destroy_spent();
     cells.destroy_spent();
@@ -144,11 +140,11 @@ fn spend_names(hand: &mut Environment)
 fn has_made(hand: &Environment) -> bool
     ensures { IsTrue result ↔ HasMade hand.now }
 {
-    !(hand.slots.is_empty()
+    !(hand.log.slots.is_empty()
         && hand.cells.entries.is_empty()
-        && hand.queues.entries.is_empty()
-        && hand.stacks.entries.is_empty()
-        && hand.bags.entries.is_empty())
+        && hand.lists.queues.entries.is_empty()
+        && hand.lists.stacks.entries.is_empty()
+        && hand.lists.bags.entries.is_empty())
 }
 
 /// Each queue that isn't spent is: it is closed under the guard.
@@ -156,12 +152,12 @@ fn spend_queues(hand: &mut Environment, place: &Place, guard: &Guard)
     requires ending { IsEnding hand.old (index_of place.now) }
     requires reader { reader_of guard.now ≡ reader_at hand.old.world (index_of place.now) }
     ensures goes { GoesOn hand.old hand.new (index_of place.now) }
-    ensures spent { AreSpent hand.new.queues.entries.items }
-    ensures rest { hand.new ≡ record hand.old { world = hand.new.world; queues = hand.new.queues } }
+    ensures spent { AreSpent hand.new.lists.queues.entries.items }
+    ensures rest { hand.new ≡ record hand.old { world = hand.new.world; lists = record hand.old.lists { queues = hand.new.lists.queues } } }
 {
-    for queue in 0..hand.queues.entries.len() {
+    for queue in 0..hand.lists.queues.entries.len() {
         hand.world.is_whole();
-        let Some(queue) = hand.queues.take(queue as u64) else {
+        let Some(queue) = hand.lists.queues.take(queue as u64) else {
             continue;
         };
         list_step_at(&mut hand.world, place, CloseQueue { queue, guard });
@@ -173,12 +169,12 @@ fn spend_stacks(hand: &mut Environment, place: &Place, guard: &Guard)
     requires ending { IsEnding hand.old (index_of place.now) }
     requires reader { reader_of guard.now ≡ reader_at hand.old.world (index_of place.now) }
     ensures goes { GoesOn hand.old hand.new (index_of place.now) }
-    ensures spent { AreSpent hand.new.stacks.entries.items }
-    ensures rest { hand.new ≡ record hand.old { world = hand.new.world; stacks = hand.new.stacks } }
+    ensures spent { AreSpent hand.new.lists.stacks.entries.items }
+    ensures rest { hand.new ≡ record hand.old { world = hand.new.world; lists = record hand.old.lists { stacks = hand.new.lists.stacks } } }
 {
-    for stack in 0..hand.stacks.entries.len() {
+    for stack in 0..hand.lists.stacks.entries.len() {
         hand.world.is_whole();
-        let Some(stack) = hand.stacks.take(stack as u64) else {
+        let Some(stack) = hand.lists.stacks.take(stack as u64) else {
             continue;
         };
         list_step_at(&mut hand.world, place, CloseStack { stack, guard });
@@ -190,12 +186,12 @@ fn spend_bags(hand: &mut Environment, place: &Place, guard: &Guard)
     requires ending { IsEnding hand.old (index_of place.now) }
     requires reader { reader_of guard.now ≡ reader_at hand.old.world (index_of place.now) }
     ensures goes { GoesOn hand.old hand.new (index_of place.now) }
-    ensures spent { AreSpent hand.new.bags.entries.items }
-    ensures rest { hand.new ≡ record hand.old { world = hand.new.world; bags = hand.new.bags } }
+    ensures spent { AreSpent hand.new.lists.bags.entries.items }
+    ensures rest { hand.new ≡ record hand.old { world = hand.new.world; lists = record hand.old.lists { bags = hand.new.lists.bags } } }
 {
-    for bag in 0..hand.bags.entries.len() {
+    for bag in 0..hand.lists.bags.entries.len() {
         hand.world.is_whole();
-        let Some(bag) = hand.bags.take(bag as u64) else {
+        let Some(bag) = hand.lists.bags.take(bag as u64) else {
             continue;
         };
         bag_closed_at(&mut hand.world, place, bag, guard);
@@ -255,7 +251,7 @@ fn give_up_raw_items(hand: &mut Environment, place: &Place)
     ensures gone { (k : ℕ) → standing_at hand.new.world k ≢ Some Raw }
     ensures rest { hand.new ≡ record hand.old { world = hand.new.world } }
 {
-    for slot in 0..hand.names.len() {
+    for slot in 0..hand.log.names.len() {
         give_up_raw_item(hand, place, slot as u32);
     }
 }

@@ -10,7 +10,7 @@ use sdd_core::Tag;
 use sdd_interpreter::Interpreter;
 use sdd_interpreter::commands::links::{AppendEntry, ChangeLink, NextEntry, ReadLinkTag};
 use sdd_interpreter::holding::{AnyOwner, slot_of_share};
-use sdd_interpreter::items::{date_new, item_seen, slot_since, waiting_by_slot};
+use sdd_interpreter::items::date_new;
 use sdd_interpreter::owners::{shared_of, take_shared};
 use sdd_interpreter::participants::{under, under_any};
 use sdd_interpreter::turns::{cell_step_at, is_loose_beside, list_step_at, value_shown};
@@ -31,17 +31,11 @@ pub fn change_link(
         return Reply::Invalid;
     };
     stage.hand.world.is_whole();
-    let slots = stage.hand.slots.as_slice();
-    let names = stage.hand.names.as_slice();
-    let dates = stage.hand.dates.as_slice();
-    let Some(slot) = slot_since(
-        &stage.hand.world,
-        slots,
-        names,
-        dates,
-        item,
-        attending.since,
-    ) else {
+    let Some(slot) = stage
+        .hand
+        .log
+        .slot_since(&stage.hand.world, item, attending.since)
+    else {
         return Reply::Invalid;
     };
     let place = &attending.place;
@@ -57,17 +51,11 @@ pub fn link_tag(stage: &mut Interpreter, name: PlaceName, item: ItemName) -> Rep
         return Reply::Invalid;
     };
     stage.hand.world.is_whole();
-    let slots = stage.hand.slots.as_slice();
-    let names = stage.hand.names.as_slice();
-    let dates = stage.hand.dates.as_slice();
-    let Some(slot) = slot_since(
-        &stage.hand.world,
-        slots,
-        names,
-        dates,
-        item,
-        attending.since,
-    ) else {
+    let Some(slot) = stage
+        .hand
+        .log
+        .slot_since(&stage.hand.world, item, attending.since)
+    else {
         return Reply::Invalid;
     };
     let place = &attending.place;
@@ -91,17 +79,11 @@ pub fn append(
         return Reply::Invalid;
     };
     stage.hand.world.is_whole();
-    let slots = stage.hand.slots.as_slice();
-    let names = stage.hand.names.as_slice();
-    let dates = stage.hand.dates.as_slice();
-    let Some(slot) = slot_since(
-        &stage.hand.world,
-        slots,
-        names,
-        dates,
-        item,
-        attending.since,
-    ) else {
+    let Some(slot) = stage
+        .hand
+        .log
+        .slot_since(&stage.hand.world, item, attending.since)
+    else {
         return Reply::Invalid;
     };
     let Some(owned) = shared_of(&stage.hand.owners, owner.0) else {
@@ -151,31 +133,25 @@ pub fn next(
         return Ok(Reply::Invalid);
     };
     stage.hand.world.is_whole();
-    let slots = stage.hand.slots.as_slice();
-    let names = stage.hand.names.as_slice();
-    let dates = stage.hand.dates.as_slice();
-    let Some(slot) = slot_since(
-        &stage.hand.world,
-        slots,
-        names,
-        dates,
-        item,
-        attending.since,
-    ) else {
+    let Some(slot) = stage
+        .hand
+        .log
+        .slot_since(&stage.hand.world, item, attending.since)
+    else {
         return Ok(Reply::Invalid);
     };
-    let waited = waiting_by_slot(stage.hand.alloc, &stage.hand.world, names.len())?;
+    let waited = stage.hand.log.waiting_by_slot(&stage.hand.world)?;
     let guard = &held.guard;
     let entry = value_shown(&mut stage.hand.world, &attending.place, guard, slot);
     let step = NextEntry { entry, guard };
     let next = list_step_at(&mut stage.hand.world, &attending.place, step);
-    let line = stage.hand.moment;
+    let line = stage.hand.log.moment;
     date_new(
-        &mut stage.hand.dates,
+        &mut stage.hand.log.dates,
         &stage.hand.world,
         waited.as_slice(),
         line,
     );
-    let item = item_seen(stage.hand.names.as_slice(), next);
+    let item = stage.hand.log.item_seen(next);
     Ok(Reply::Pointer(item, Tag::None))
 }

@@ -9,7 +9,6 @@ use sdd_core::Refused;
 use sdd_interpreter::Interpreter;
 use sdd_interpreter::commands::owners::{CloneOwner, ReleaseOwner, RetireItem};
 use sdd_interpreter::holding::{AnyOwner, slot_of_share, slot_of_sole};
-use sdd_interpreter::items::slot_since;
 use sdd_interpreter::owners::{shared_of, take_shared, take_sole};
 use sdd_interpreter::participants::under;
 use sdd_interpreter::turns::{item_step_at, share_item};
@@ -33,7 +32,7 @@ pub fn retire(stage: &mut Interpreter, name: PlaceName, owner: OwnerName) -> Rep
         &attending.place,
         RetireItem { owner },
     );
-    stage.hand.dates[slot as usize] = stage.hand.moment;
+    stage.hand.log.dates[slot as usize] = stage.hand.log.moment;
     Reply::Done
 }
 
@@ -55,7 +54,7 @@ pub fn release(stage: &mut Interpreter, name: PlaceName, owner: OwnerName) -> Re
         ReleaseOwner { owner },
     );
     if was_last {
-        stage.hand.dates[slot as usize] = stage.hand.moment;
+        stage.hand.log.dates[slot as usize] = stage.hand.log.moment;
     }
     Reply::Truth(was_last)
 }
@@ -102,21 +101,15 @@ pub fn upgrade(
     let Some((attending, held)) = under(&stage.hand.places, &stage.hand.guards, name, guard) else {
         return Ok(Reply::Invalid);
     };
-    stage.hand.owners.make_room()?;
     stage.hand.world.is_whole();
-    let slots = stage.hand.slots.as_slice();
-    let names = stage.hand.names.as_slice();
-    let dates = stage.hand.dates.as_slice();
-    let Some(slot) = slot_since(
-        &stage.hand.world,
-        slots,
-        names,
-        dates,
-        item,
-        attending.since,
-    ) else {
+    let Some(slot) = stage
+        .hand
+        .log
+        .slot_since(&stage.hand.world, item, attending.since)
+    else {
         return Ok(Reply::Invalid);
     };
+    stage.hand.owners.make_room()?;
     match share_item(&mut stage.hand.world, &attending.place, &held.guard, slot) {
         Ok(Some(owner)) => {
             let name = stage.hand.owners.give(AnyOwner::Share(owner));

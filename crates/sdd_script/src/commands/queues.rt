@@ -7,7 +7,7 @@ ghost use Rattle.sdd_script_text.specs.Actions as action;
 
 use sdd_interpreter::Interpreter;
 use sdd_interpreter::commands::queues::{CloseQueue, MakeQueue};
-use sdd_interpreter::items::{date_new, waiting_by_slot};
+use sdd_interpreter::items::date_new;
 use sdd_interpreter::participants::under_any;
 use sdd_interpreter::turns::list_step_at;
 use sdd_script_text::{Call, PlaceName, QueueName, Reply};
@@ -20,11 +20,11 @@ pub fn make_queue(stage: &mut Interpreter, name: PlaceName) -> Result<Reply, All
     let Some(attending) = stage.hand.places.get(name.0) else {
         return Ok(Reply::Invalid);
     };
-    stage.hand.queues.make_room()?;
+    stage.hand.lists.queues.make_room()?;
     stage.hand.world.is_whole();
     match list_step_at(&mut stage.hand.world, &attending.place, MakeQueue) {
         Ok(queue) => {
-            let name = stage.hand.queues.give(queue);
+            let name = stage.hand.lists.queues.give(queue);
             Ok(Reply::Queue(QueueName(name)))
         }
         Err(refused) => Ok(Reply::Refused(refused)),
@@ -43,13 +43,12 @@ pub fn close_queue(
     let Some((attending, held)) = under_any(&stage.hand.places, &stage.hand.guards, name) else {
         return Ok(Reply::Invalid);
     };
-    let Some(_) = stage.hand.queues.get(queue.0) else {
+    let Some(_) = stage.hand.lists.queues.get(queue.0) else {
         return Ok(Reply::Invalid);
     };
     stage.hand.world.is_whole();
-    let slots = stage.hand.names.len();
-    let waited = waiting_by_slot(stage.hand.alloc, &stage.hand.world, slots)?;
-    let Some(taken) = stage.hand.queues.take(queue.0) else {
+    let waited = stage.hand.log.waiting_by_slot(&stage.hand.world)?;
+    let Some(taken) = stage.hand.lists.queues.take(queue.0) else {
         unreachable!()
     };
     list_step_at(
@@ -60,9 +59,9 @@ pub fn close_queue(
             guard: &held.guard,
         },
     );
-    let line = stage.hand.moment;
+    let line = stage.hand.log.moment;
     date_new(
-        &mut stage.hand.dates,
+        &mut stage.hand.log.dates,
         &stage.hand.world,
         waited.as_slice(),
         line,

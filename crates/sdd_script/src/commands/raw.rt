@@ -9,7 +9,7 @@ use sdd_core::Refused;
 use sdd_interpreter::Interpreter;
 use sdd_interpreter::commands::raw::{ComeBack, DropOwner, GoRaw, PutNumber, SeeRaw};
 use sdd_interpreter::holding::{AnyOwner, slot_of_sole};
-use sdd_interpreter::items::{date_new, is_number, item_at, slot_since, told, waiting_by_slot};
+use sdd_interpreter::items::{date_new, is_number};
 use sdd_interpreter::owners::{take_sole, value_of};
 use sdd_interpreter::participants::under;
 use sdd_interpreter::turns::{in_place_step_at, raw_step_at};
@@ -60,9 +60,9 @@ pub fn drop_owner(
     let Some(attending) = stage.hand.places.get(name.0) else {
         return Ok(Reply::Invalid);
     };
-    let names = stage.hand.names.len();
+    let names = stage.hand.log.names.len();
     stage.hand.world.is_whole();
-    let waited = waiting_by_slot(stage.hand.alloc, &stage.hand.world, names)?;
+    let waited = stage.hand.log.waiting_by_slot(&stage.hand.world)?;
     let Some(held) = stage.hand.owners.take(owner.0) else {
         return Ok(Reply::Invalid);
     };
@@ -74,9 +74,9 @@ pub fn drop_owner(
             return Ok(Reply::Refused(refused));
         }
     };
-    let line = stage.hand.moment;
+    let line = stage.hand.log.moment;
     date_new(
-        &mut stage.hand.dates,
+        &mut stage.hand.log.dates,
         &stage.hand.world,
         waited.as_slice(),
         line,
@@ -97,7 +97,7 @@ pub fn put_out_raw(stage: &mut Interpreter, name: PlaceName, owner: OwnerName) -
     stage.hand.world.is_whole();
     let slot = slot_of_sole(&owner);
     raw_step_at(&mut stage.hand.world, &attending.place, GoRaw { owner });
-    Reply::Raw(item_at(stage.hand.names.as_slice(), slot))
+    Reply::Raw(stage.hand.log.item_at(slot))
 }
 
 /// `P unraw I`: the owner of an item that is out as raw, or none. Refused where memory for its name is, and then nothing has changed.
@@ -111,14 +111,11 @@ pub fn take_back_raw(
     let Some(attending) = stage.hand.places.get(name.0) else {
         return Ok(Reply::Invalid);
     };
-    stage.hand.owners.make_room()?;
     stage.hand.world.is_whole();
-    let slots = stage.hand.slots.as_slice();
-    let names = stage.hand.names.as_slice();
-    let dates = stage.hand.dates.as_slice();
-    let Some(slot) = slot_since(&stage.hand.world, slots, names, dates, item, 0) else {
+    let Some(slot) = stage.hand.log.slot_since(&stage.hand.world, item, 0) else {
         return Ok(Reply::Invalid);
     };
+    stage.hand.owners.make_room()?;
     match raw_step_at(&mut stage.hand.world, &attending.place, ComeBack { slot }) {
         Some(owner) => {
             let name = stage.hand.owners.give(AnyOwner::Sole(owner));
@@ -136,10 +133,7 @@ pub fn see(stage: &mut Interpreter, name: PlaceName, item: ItemName, guard: Guar
         return Reply::Invalid;
     };
     stage.hand.world.is_whole();
-    let slots = stage.hand.slots.as_slice();
-    let names = stage.hand.names.as_slice();
-    let dates = stage.hand.dates.as_slice();
-    let Some(slot) = slot_since(&stage.hand.world, slots, names, dates, item, 0) else {
+    let Some(slot) = stage.hand.log.slot_since(&stage.hand.world, item, 0) else {
         return Reply::Invalid;
     };
     let guard = &held.guard;
@@ -147,5 +141,5 @@ pub fn see(stage: &mut Interpreter, name: PlaceName, item: ItemName, guard: Guar
     let Some(value) = raw_step_at(&mut stage.hand.world, place, SeeRaw { slot, guard }) else {
         return Reply::Nothing;
     };
-    told(value, names)
+    stage.hand.log.told(value)
 }

@@ -7,7 +7,7 @@ ghost use Rattle.sdd_script_text.specs.Actions as action;
 
 use sdd_interpreter::Interpreter;
 use sdd_interpreter::commands::stacks::{CloseStack, MakeStack, PourStack};
-use sdd_interpreter::items::{date_new, waiting_by_slot};
+use sdd_interpreter::items::date_new;
 use sdd_interpreter::participants::{under, under_any};
 use sdd_interpreter::turns::{cell_step_at, list_step_at};
 use sdd_script_text::{Call, GuardName, PlaceName, Reply, StackName};
@@ -20,11 +20,11 @@ pub fn make_stack(stage: &mut Interpreter, name: PlaceName) -> Result<Reply, All
     let Some(attending) = stage.hand.places.get(name.0) else {
         return Ok(Reply::Invalid);
     };
-    stage.hand.stacks.make_room()?;
+    stage.hand.lists.stacks.make_room()?;
     stage.hand.world.is_whole();
     match cell_step_at(&mut stage.hand.world, &attending.place, MakeStack) {
         Ok(stack) => {
-            let name = stage.hand.stacks.give(stack);
+            let name = stage.hand.lists.stacks.give(stack);
             Ok(Reply::Stack(StackName(name)))
         }
         Err(refused) => Ok(Reply::Refused(refused)),
@@ -43,8 +43,8 @@ pub fn pour(
     let Some((attending, held)) = under(&stage.hand.places, &stage.hand.guards, name, guard) else {
         return Ok(Reply::Invalid);
     };
-    stage.hand.stacks.make_room()?;
-    let Some(stack) = stage.hand.stacks.get(stack.0) else {
+    stage.hand.lists.stacks.make_room()?;
+    let Some(stack) = stage.hand.lists.stacks.get(stack.0) else {
         return Ok(Reply::Invalid);
     };
     stage.hand.world.is_whole();
@@ -57,7 +57,7 @@ pub fn pour(
         },
     ) {
         Ok(all) => {
-            let name = stage.hand.stacks.give(all);
+            let name = stage.hand.lists.stacks.give(all);
             Ok(Reply::Stack(StackName(name)))
         }
         Err(refused) => Ok(Reply::Refused(refused)),
@@ -76,13 +76,12 @@ pub fn close_stack(
     let Some((attending, held)) = under_any(&stage.hand.places, &stage.hand.guards, name) else {
         return Ok(Reply::Invalid);
     };
-    let Some(_) = stage.hand.stacks.get(stack.0) else {
+    let Some(_) = stage.hand.lists.stacks.get(stack.0) else {
         return Ok(Reply::Invalid);
     };
     stage.hand.world.is_whole();
-    let slots = stage.hand.names.len();
-    let waited = waiting_by_slot(stage.hand.alloc, &stage.hand.world, slots)?;
-    let Some(taken) = stage.hand.stacks.take(stack.0) else {
+    let waited = stage.hand.log.waiting_by_slot(&stage.hand.world)?;
+    let Some(taken) = stage.hand.lists.stacks.take(stack.0) else {
         unreachable!()
     };
     list_step_at(
@@ -93,9 +92,9 @@ pub fn close_stack(
             guard: &held.guard,
         },
     );
-    let line = stage.hand.moment;
+    let line = stage.hand.log.moment;
     date_new(
-        &mut stage.hand.dates,
+        &mut stage.hand.log.dates,
         &stage.hand.world,
         waited.as_slice(),
         line,

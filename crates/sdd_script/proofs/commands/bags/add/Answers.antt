@@ -1,4 +1,4 @@
-use Rattle.sdd_script.proofs.Words.{◌≡◌, length, arith, rules, At, desk_of, Does, invalid}
+use Rattle.sdd_script.proofs.Words.{rules, At, desk_of, Does, invalid}
 use Rattle.sdd_script_text.specs.Actions as call
 use Rattle.sdd_script_text.specs.declared.answer.Reply.TheVariants as reply
 use Rattle.sdd_script.proofs.BagActs.{acts-added, acts-given_back, no-bag, put-so}
@@ -17,20 +17,29 @@ returns-in_default-get c = record {
 }
 
 pub list_step_at-taken-requires-clause-asked : goal.list_step_at-taken-requires-clause-asked
-list_step_at-taken-requires-clause-asked c = (search rules, reader-is c.stage.inside.hand c.stage.invariant c.args.guard.0 _ _ c.in-Some.ensures.found.1 c.in-Some.ensures.found.2, search rules)
+list_step_at-taken-requires-clause-asked c = (
+  search rules,
+  reader-is c.stage.inside.hand c.stage.invariant c.args.guard.0 _ _ c.in-Some.ensures.found.1
+      c.in-Some.ensures.found.2,
+  search rules,
+)
 
 added : (c : goal.After-drop-free) → Does (desk_of c.stage.inside.hand) (At c.args.name (call.Add c.args.bag c.args.number c.args.guard)) reply.Done
-    (record c.stage.inside.hand { world = c.list_step_at-taken.new.world; bags = c.put_back.new.self; names = c.forget_new.new.names })
+    (record c.stage.inside.hand {
+      world = c.list_step_at-taken.new.world;
+      lists = record c.stage.inside.hand.lists { bags = c.put_back.new.self };
+      log = record c.stage.inside.hand.log { names = c.forget_new.new.names };
+    })
 added c =
     let h = c.stage.inside.hand in let bag = c.list_step_at-taken.result.0 in
     let line = rw (← c.stage.view_is) at c.requires.line in
     let did = rw c.in-Ok.is at c.list_step_at-taken.ensures.done.1 in
-    let put = put-so h.bags.entries.items c.take.new.self.entries.items c.put_back.new.self.entries.items c.args.bag.0 bag c.in-Some-take.ensures.spent
+    let put = put-so h.lists.bags.entries.items c.take.new.self.entries.items c.put_back.new.self.entries.items c.args.bag.0 bag c.in-Some-take.ensures.spent
     c.put_back.ensures.back in
-    let long : c.len-slots.result ≡ length c.stage.inside.hand.names.items = search rules in
-    let free_so : AreFreeSo c.stage.inside.hand c.in_ok-free.free.items = λ s lt. c.in_ok-free.ensures.each s (omega (arith, lt, long)) in
+    let free_so : AreFreeSo c.stage.inside.hand c.in_ok-free.free.items = c.in_ok-free.ensures.each in
     acts-added h c.stage.invariant c.is_whole.ensures c.args.name _ c.in-Some.ensures.found.0 c.args.bag _ c.in-Some-take.ensures.taken bag did.0
-    c.put_back.new.self.entries put c.list_step_at-taken.new.world c.list_step_at-taken.ensures.done.0 c.args.guard c.in-Some.ensures.valid line c.args.number did
+    c.put_back.new.self.entries put c.list_step_at-taken.new.world c.list_step_at-taken.ensures.done.0 c.args.guard c.in-Some.ensures.valid line c.args.number
+    did
     c.in_ok-free.free.items free_so c.forget_new.new.names (rw c.as_slice.ensures.value at c.forget_new.ensures.names, c.forget_new.ensures.long)
 
 pub invariant_of-stage : goal.invariant_of-stage
@@ -42,16 +51,17 @@ returns-in-Ok c = record { acts = rw (← c.stage.view_is) (added c).1 }
 pub invariant_of-stage-in-Err : goal.invariant_of-stage-in-Err
 invariant_of-stage-in-Err c =
     let h = c.stage.inside.hand in
-    let put = put-so h.bags.entries.items c.take.new.self.entries.items c.put_back.new.self.entries.items c.args.bag.0 c.list_step_at-taken.result.0
+    let put = put-so h.lists.bags.entries.items c.take.new.self.entries.items c.put_back.new.self.entries.items c.args.bag.0 c.list_step_at-taken.result.0
     c.in-Some-take.ensures.spent c.put_back.ensures.back in
     (acts-given_back h c.stage.invariant c.is_whole.ensures c.args.name _ c.in-Some.ensures.found.0 c.args.bag _ c.in-Some-take.ensures.taken
-    c.list_step_at-taken.result.0 c.list_step_at-taken.new.world c.put_back.new.self.entries put c.args.guard c.in-Some.ensures.valid c.args.number c.in-Err.refused
+    c.list_step_at-taken.result.0 c.list_step_at-taken.new.world c.put_back.new.self.entries put c.args.guard c.in-Some.ensures.valid c.args.number
+    c.in-Err.refused
     (rw c.in-Err.is at c.list_step_at-taken.ensures.done.1)).0
 
 pub returns : goal.returns
 returns c =
     let h = c.stage.inside.hand in
-    let put = put-so h.bags.entries.items c.take.new.self.entries.items c.put_back.new.self.entries.items c.args.bag.0 c.list_step_at-taken.result.0
+    let put = put-so h.lists.bags.entries.items c.take.new.self.entries.items c.put_back.new.self.entries.items c.args.bag.0 c.list_step_at-taken.result.0
     c.in-Some-take.ensures.spent c.put_back.ensures.back in
     record {
       acts = rw (← c.stage.view_is) (acts-given_back h c.stage.invariant c.is_whole.ensures c.args.name _ c.in-Some.ensures.found.0 c.args.bag _

@@ -1,4 +1,4 @@
-use Rattle.sdd_script.proofs.Words.{◌≡◌, length, arith, rules, At, desk_of, Does, invalid}
+use Rattle.sdd_script.proofs.Words.{At, desk_of, Does, invalid, with_dates}
 use Rattle.sdd_script_text.specs.Actions as call
 use Rattle.sdd_script_text.specs.declared.answer.Reply.TheVariants as reply
 use Rattle.sdd_script.proofs.BagActs.{acts-closed, no-bag}
@@ -16,12 +16,12 @@ returns-in_default-get c = record {
 }
 
 closed : (c : goal.After-drop-waited) → Does (desk_of c.stage.inside.hand) (At c.args.name (call.CloseBag c.args.bag)) reply.Done
-    (record c.stage.inside.hand { world = c.bag_closed_at.new.world; bags = c.take.new.self; dates = c.date_new.new.dates })
+    (record (with_dates c.stage.inside.hand c.date_new.new.dates)
+    { world = c.bag_closed_at.new.world; lists = record c.stage.inside.hand.lists { bags = c.take.new.self } })
 closed c =
     let h = c.stage.inside.hand in
     let found = c.in-Some.ensures in
-    let long : c.len-slots.result ≡ length c.stage.inside.hand.names.items = search rules in
-    let told_so : AreTold c.stage.inside.hand c.in_ok-waited.waited.items = λ s lt. c.in_ok-waited.ensures.each s (omega (arith, lt, long)) in
+    let told_so : AreTold c.stage.inside.hand c.in_ok-waited.waited.items = c.in_ok-waited.ensures.each in
     acts-closed h c.stage.invariant c.is_whole.ensures c.args.name _ found.0 c.args.bag _ c.in-Some-take.ensures.taken
     c.in_ok-waited.waited.items told_so c.bag_closed_at.new.world c.take.new.self.entries c.date_new.new.dates (found.2.0, found.2.2)
     c.bag_closed_at.ensures.closed c.in-Some-take.ensures.spent (rw c.as_slice.ensures.value at c.date_new.ensures.dated, c.date_new.ensures.long)

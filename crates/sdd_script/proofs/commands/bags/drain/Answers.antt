@@ -1,4 +1,4 @@
-use Rattle.sdd_script.proofs.Words.{◌≡◌, length, arith, rules, List, ℕ, subst, sym, At, desk_of, Does, invalid, IsNonDecreasing, IsPermutation, IsNonDecreasingBy-from_sort, ◌∙◌, Some, length-append, primary_of, overflow_of}
+use Rattle.sdd_script.proofs.Words.{◌≡◌, arith, rules, List, ℕ, subst, sym, At, desk_of, Does, invalid, IsNonDecreasing, IsPermutation, IsNonDecreasingBy-from_sort, ◌∙◌, Some, length-append, primary_of, overflow_of, with_dates}
 use Rattle.sdd_script_text.specs.Actions as call
 use Rattle.sdd_script_text.specs.declared.answer.Reply.TheVariants as reply
 use Rattle.sdd_script.proofs.BagActs.{acts-drained, no-bag, put-so}
@@ -30,14 +30,14 @@ list_step_at-taken-requires-clause-asked c =
 
 drained : (c : goal.After-drop-waited) → Does (desk_of c.stage.inside.hand) (At c.args.name (call.Drain c.args.bag c.args.guard))
     (reply.Numbers c.of.result)
-    (record c.stage.inside.hand { world = c.list_step_at-taken.new.world; bags = c.put_back.new.self; dates = c.date_new.new.dates })
+    (record (with_dates c.stage.inside.hand c.date_new.new.dates)
+    { world = c.list_step_at-taken.new.world; lists = record c.stage.inside.hand.lists { bags = c.put_back.new.self } })
 drained c =
     let h = c.stage.inside.hand in let bag = c.list_step_at-taken.result.0 in let numbers = c.list_step_at-taken.result.1.items in
     let did = c.list_step_at-taken.ensures.done.1 in
-    let put = put-so h.bags.entries.items c.take.new.self.entries.items c.put_back.new.self.entries.items c.args.bag.0 bag c.in-Some-take.ensures.spent
+    let put = put-so h.lists.bags.entries.items c.take.new.self.entries.items c.put_back.new.self.entries.items c.args.bag.0 bag c.in-Some-take.ensures.spent
     c.put_back.ensures.back in
-    let long : c.len-slots.result ≡ length c.stage.inside.hand.names.items = search rules in
-    let told_so : AreTold c.stage.inside.hand c.in_ok-waited.waited.items = λ s lt. c.in_ok-waited.ensures.each s (omega (arith, lt, long)) in
+    let told_so : AreTold c.stage.inside.hand c.in_ok-waited.waited.items = c.in_ok-waited.ensures.each in
     acts-drained h c.stage.invariant c.is_whole.ensures c.args.name _ c.in-Some.ensures.found.0 c.args.bag _ c.in-Some-take.ensures.taken bag did.cells
     c.put_back.new.self.entries put c.list_step_at-taken.new.world c.list_step_at-taken.ensures.done.0 c.args.guard c.in-Some.ensures.valid
     c.in_ok-waited.waited.items told_so c.date_new.new.dates (rw c.as_slice.ensures.value at c.date_new.ensures.dated, c.date_new.ensures.long) numbers

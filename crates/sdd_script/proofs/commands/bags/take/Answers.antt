@@ -1,4 +1,4 @@
-use Rattle.sdd_script.proofs.Words.{◌≡◌, Some, length, slice_set, ap, ◌∙◌, arith, rules, At, NumberBag, desk_of, Does, invalid}
+use Rattle.sdd_script.proofs.Words.{Some, slice_set, ap, ◌∙◌, rules, At, NumberBag, desk_of, Does, invalid, with_dates}
 use Rattle.sdd_script_text.specs.Actions as call
 use Rattle.sdd_script_text.specs.declared.answer.Reply.TheVariants as reply
 use Rattle.sdd_script.proofs.BagActs.{acts-dated-as-before, acts-empty, acts-took, no-bag, put-so}
@@ -17,20 +17,26 @@ returns-in_default-get c = record {
 }
 
 pub list_step_at-taken-requires-clause-asked : goal.list_step_at-taken-requires-clause-asked
-list_step_at-taken-requires-clause-asked c = (search rules, reader-is c.stage.inside.hand c.stage.invariant c.args.guard.0 _ _ c.in-Some.ensures.found.1 c.in-Some.ensures.found.2, search rules)
+list_step_at-taken-requires-clause-asked c = (
+  search rules,
+  reader-is c.stage.inside.hand c.stage.invariant c.args.guard.0 _ _ c.in-Some.ensures.found.1
+      c.in-Some.ensures.found.2,
+  search rules,
+)
 
 took : (c : goal.After-drop-waited) → Does (desk_of c.stage.inside.hand) (At c.args.name (call.Take c.args.bag c.args.guard))
     (reply.Value c.in-Some-number.number)
-    (record c.stage.inside.hand { world = c.list_step_at-taken.new.world; bags = c.put_back.new.self; dates = c.date_new.new.dates })
+    (record (with_dates c.stage.inside.hand c.date_new.new.dates)
+    { world = c.list_step_at-taken.new.world; lists = record c.stage.inside.hand.lists { bags = c.put_back.new.self } })
 took c =
     let h = c.stage.inside.hand in let bag = c.list_step_at-taken.result.0 in
     let did = rw c.in-Some-number.is at c.list_step_at-taken.ensures.done.1 in
-    let put = put-so h.bags.entries.items c.take.new.self.entries.items c.put_back.new.self.entries.items c.args.bag.0 bag c.in-Some-take.ensures.spent
+    let put = put-so h.lists.bags.entries.items c.take.new.self.entries.items c.put_back.new.self.entries.items c.args.bag.0 bag c.in-Some-take.ensures.spent
     c.put_back.ensures.back in
-    let long : c.len-slots.result ≡ length c.stage.inside.hand.names.items = search rules in
-    let told_so : AreTold c.stage.inside.hand c.in_ok-waited.waited.items = λ s lt. c.in_ok-waited.ensures.each s (omega (arith, lt, long)) in
+    let told_so : AreTold c.stage.inside.hand c.in_ok-waited.waited.items = c.in_ok-waited.ensures.each in
     acts-took h c.stage.invariant c.is_whole.ensures c.args.name _ c.in-Some.ensures.found.0 c.args.bag _ c.in-Some-take.ensures.taken bag did.0
-    c.put_back.new.self.entries put c.list_step_at-taken.new.world c.list_step_at-taken.ensures.done.0 c.args.guard c.in-Some.ensures.valid c.in_ok-waited.waited.items
+    c.put_back.new.self.entries put c.list_step_at-taken.new.world c.list_step_at-taken.ensures.done.0 c.args.guard c.in-Some.ensures.valid
+    c.in_ok-waited.waited.items
     told_so c.date_new.new.dates (rw c.as_slice.ensures.value at c.date_new.ensures.dated, c.date_new.ensures.long) c.in-Some-number.number did
 
 pub invariant_of-stage : goal.invariant_of-stage
@@ -40,15 +46,15 @@ pub returns-in-Some-number : goal.returns-in-Some-number
 returns-in-Some-number c = record { acts = rw (← c.stage.view_is) (took c).1 }
 
 nothing : (c : goal.After-drop-waited-2) → Does (desk_of c.stage.inside.hand) (At c.args.name (call.Take c.args.bag c.args.guard)) reply.Nothing
-    (record c.stage.inside.hand { world = c.list_step_at-taken.new.world; bags = c.put_back.new.self; dates = c.date_new.new.dates })
+    (record (with_dates c.stage.inside.hand c.date_new.new.dates)
+    { world = c.list_step_at-taken.new.world; lists = record c.stage.inside.hand.lists { bags = c.put_back.new.self } })
 nothing c =
     let h = c.stage.inside.hand in
     let none = rw c.in-None.is at c.list_step_at-taken.ensures.done.1 in
-    let put = put-so h.bags.entries.items c.take.new.self.entries.items c.put_back.new.self.entries.items c.args.bag.0 c.list_step_at-taken.result.0
+    let put = put-so h.lists.bags.entries.items c.take.new.self.entries.items c.put_back.new.self.entries.items c.args.bag.0 c.list_step_at-taken.result.0
     c.in-Some-take.ensures.spent c.put_back.ensures.back in
-    let same = put ∙ ap (λ (x : NumberBag). slice_set h.bags.entries.items c.args.bag.0 (Some x)) none.1 in
-    let long : c.len-slots.result ≡ length c.stage.inside.hand.names.items = search rules in
-    let told_so : AreTold c.stage.inside.hand c.in_ok-waited.waited.items = λ s lt. c.in_ok-waited.ensures.each s (omega (arith, lt, long)) in
+    let same = put ∙ ap (λ (x : NumberBag). slice_set h.lists.bags.entries.items c.args.bag.0 (Some x)) none.1 in
+    let told_so : AreTold c.stage.inside.hand c.in_ok-waited.waited.items = c.in_ok-waited.ensures.each in
     acts-dated-as-before h c.stage.invariant c.is_whole.ensures c.args.name _ c.in-Some.ensures.found.0 c.args.bag _ c.in-Some-take.ensures.taken
     c.in_ok-waited.waited.items told_so c.list_step_at-taken.new.world c.put_back.new.self.entries c.date_new.new.dates none.2 same
     (rw c.as_slice.ensures.value at c.date_new.ensures.dated, c.date_new.ensures.long) (At c.args.name (call.Take c.args.bag c.args.guard)) reply.Nothing

@@ -17,11 +17,11 @@ returns-in_default-get c = record {
 }
 
 tried : (c : goal.Joined-pushed) → Does (desk_of c.stage.inside.hand) (At c.args.name (call.Try c.args.bag c.args.number)) c.match-pushed.result
-    (record c.stage.inside.hand { bags = c.put_back.new.self })
+    (record c.stage.inside.hand { lists = record c.stage.inside.hand.lists { bags = c.put_back.new.self } })
 tried c =
     let h = c.stage.inside.hand in let new = c.try_push-pushed.new.self in
     let there = got h.places c.args.name.0 _ c.in-Some.ensures in let mine = c.in-Some-take.ensures.taken in
-    let put = put-so h.bags.entries.items c.take.new.self.entries.items c.put_back.new.self.entries.items c.args.bag.0 new c.in-Some-take.ensures.spent
+    let put = put-so h.lists.bags.entries.items c.take.new.self.entries.items c.put_back.new.self.entries.items c.args.bag.0 new c.in-Some-take.ensures.spent
     c.put_back.ensures.back in
     elim c.match-pushed.branch [
       | in-Ok w ↦
@@ -31,7 +31,7 @@ tried c =
           c.args.number (record { room = did.pushed.0; more = did.pushed.1; others = did.overflow })))
       | in-Err w ↦
           (let back = w.in-Err.ensures.pushed in
-          let same = put ∙ ap (λ (x : NumberBag). slice_set h.bags.entries.items c.args.bag.0 (Some x)) back.2 in
+          let same = put ∙ ap (λ (x : NumberBag). slice_set h.lists.bags.entries.items c.args.bag.0 (Some x)) back.2 in
           rw w.result-is (acts-as-before h c.stage.invariant c.is_whole.ensures c.args.name _ there c.args.bag _ mine h.world c.put_back.new.self.entries
           refl same (At c.args.name (call.Try c.args.bag c.args.number)) (reply.Kept _)
           (acts-kept h c.stage.invariant c.is_whole.ensures c.args.name _ there c.args.bag _ mine c.args.number _ back.0 back.1)))

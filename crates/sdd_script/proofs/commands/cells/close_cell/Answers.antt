@@ -1,4 +1,4 @@
-use Rattle.sdd_script.proofs.Words.{sym, At, desk_of, Does, here, nobody}
+use Rattle.sdd_script.proofs.Words.{sym, At, desk_of, Does, here, nobody, with_dates}
 use Rattle.sdd_script_text.specs.Actions as call
 use Rattle.sdd_script_text.specs.declared.answer.Reply.TheVariants as reply
 use Rattle.sdd_script.proofs.CellActs.{acts-cell_closed, held-within}
@@ -13,7 +13,7 @@ date_if_waiting-requires c =
     (held-within c.args.name (here c.args.name.0 c.stage.invariant c.is_whole.ensures c.in-Some.ensures) c.args.cell _ (sym c.in-Some-take.ensures.taken))
 
 closed : (c : goal.After-date_if_waiting) → Does (desk_of c.stage.inside.hand) (At c.args.name (call.CloseCell c.args.cell)) reply.Done
-    (record c.stage.inside.hand { world = c.item_step_at.new.world; cells = c.take.new.self; dates = c.date_if_waiting.new.dates })
+    (record (with_dates c.stage.inside.hand c.date_if_waiting.new.dates) { world = c.item_step_at.new.world; cells = c.take.new.self })
 closed c =
     acts-cell_closed c.args.name (here c.args.name.0 c.stage.invariant c.is_whole.ensures c.in-Some.ensures) c.args.cell _ (sym c.in-Some-take.ensures.taken) _
     c.take.new.self.entries c.date_if_waiting.new.dates c.in-Some-take.ensures.spent (rw c.cell_step_at-held.ensures.done.1 at c.item_step_at.ensures.done)

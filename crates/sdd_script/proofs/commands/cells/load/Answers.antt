@@ -1,21 +1,19 @@
-use Rattle.sdd_script.proofs.Words.{ℕ, List, None, Option, IsSome, slice_index_or, refl, sym, ◌∙◌, ap, is_some, subst, IfSome, option_map, item_in, desk_of, still, under}
+use Rattle.sdd_script.proofs.Words.{refl, sym, ap, is_some, desk_of, still, under}
 use Rattle.sdd_script.proofs.CellActs.{is-cell}
 use Rattle.sdd_script.proofs.ExchangeActs.{seen-named}
 use Rattle.sdd_script.proofs.commands.cells.load.Goals as goal
 
 pub item_seen-item-requires : goal.item_seen-item-requires
 item_seen-item-requires c = record {
-  named = subst (λ (names : List (Option ℕ)). IfSome c.cell_step_at-loaded.result.held (λ j. IsSome (slice_index_or names j None)))
-      (sym c.as_slice.ensures.value) (seen-named c.args.name (under c.args.name.0 c.stage.invariant c.is_whole.ensures c.in-Some.ensures.found.0) c.args.cell _
-      c.cell_step_at-loaded.result (sym c.in-Some-get.ensures) c.cell_step_at-loaded.ensures.done.0 _ refl);
+  named = seen-named c.args.name (under c.args.name.0 c.stage.invariant c.is_whole.ensures c.in-Some.ensures.found.0) c.args.cell _
+      c.cell_step_at-loaded.result (sym c.in-Some-get.ensures) c.cell_step_at-loaded.ensures.done.0 _ refl;
 }
 
 pub returns : goal.returns
 returns c =
     let h = c.stage.inside.hand in
     let own = is-cell h c.args.cell.0 _ (sym c.in-Some-get.ensures) c.cell_step_at-loaded.ensures.done.0 in
-    let told = c.item_seen-item.ensures ∙ ap (λ names. option_map (item_in names) c.cell_step_at-loaded.result.held) c.as_slice.ensures.value in
     record {
       acts = rw (← c.stage.view_is, c.cell_step_at-loaded.ensures.done.1)
-          (still (desk_of h) _ _ ((c.in-Some.ensures.valid, ap is_some own.named), ((_, _, own, told, refl), refl)));
+          (still (desk_of h) _ _ ((c.in-Some.ensures.valid, ap is_some own.named), ((_, _, own, c.item_seen-item.ensures, refl), refl)));
     }

@@ -1,4 +1,4 @@
-use Rattle.sdd_script.proofs.Words.{◌≡◌, ℕ, Option, None, Some, [], Vec, World, slice_index_or, slice_set, is_some, refl, length, sym, ap, ◌∙◌, arith, PrivateCollector, Val, At, Answers, Environment, IsTied, collector_holding, desk_of, number-is, answers-plain, attends, goes, invalid, here, restored, still-as}
+use Rattle.sdd_script.proofs.Words.{◌≡◌, ℕ, Option, None, Some, [], Vec, World, slice_index_or, slice_set, is_some, refl, sym, ap, ◌∙◌, PrivateCollector, Val, At, Answers, Environment, IsTied, collector_holding, desk_of, number-is, answers-plain, attends, goes, invalid, here, restored, still-as, with_dates}
 use Rattle.sdd_space.specs.Collector.{collector_of}
 use Rattle.sdd_script_model.proofs.WaitingFor.{found-inside}
 use Rattle.sdd_script_text.specs.Actions as call
@@ -10,12 +10,12 @@ use Rattle.sdd_script.proofs.commands.collectors.close_collector.Goals as goal
 one : (x y : PrivateCollector Val) (o : Option (PrivateCollector Val)) → Some x ≡ o → Some y ≡ o → x ≡ y
 one x y o e f = let both : Some x ≡ Some y = e ∙ sym f in cc
 
-pub found_for-requires : goal.found_for-requires
-found_for-requires c =
+pub items_for-requires : goal.items_for-requires
+items_for-requires c =
     let s = c.stage.invariant.sound.stocked in
     record {
-      small = rw c.as_slice-names.ensures.value s.few;
-      named = rw (c.as_slice-names.ensures.value, c.number_of_collector-collected.ensures)
+      small = s.few;
+      named = rw c.number_of_collector-collected.ensures
           (found-inside (desk_of c.stage.inside.hand) s c.is_whole.ensures (collector_of c.in-Some-get.held.now));
     }
 
@@ -56,18 +56,18 @@ returns-in-Err c =
     }
 
 abbrev left : goal.After-drop-waited-2 → Environment
-left c = record c.stage.inside.hand { world = c.collector_step_at.new.world; collectors = c.take.new.self; dates = c.date_new.new.dates }
+left c = record (with_dates c.stage.inside.hand c.date_new.new.dates) { world = c.collector_step_at.new.world; collectors = c.take.new.self }
 
 closed : (c : goal.After-drop-waited-2) → IsTied (left c) × Answers (desk_of c.stage.inside.hand) (At c.args.name (call.CloseCollector c.args.collector))
     (record { reply = reply.Done; reclaimed = c.in_ok-gone.gone.items; ran = [] }) (desk_of (left c))
 closed c =
     let took = c.in-Some-take.ensures in
     let same = one c.in-Some-get.held.now c.in-Some-take.held _ c.in-Some-get.ensures took.taken in
-    let moved = rw (c.as_slice-names.ensures.value, c.number_of_collector-collected.ensures, same) at c.in_ok-gone.ensures.items in
+    let moved = rw (c.number_of_collector-collected.ensures, same) at c.in_ok-gone.ensures.items in
     let closed = c.in_default-collector_step_at.ensures.done.1 in
     answers-closed c.args.name (here c.args.name.0 c.stage.invariant c.is_whole.ensures c.in-Some.ensures) c.args.collector c.in-Some-take.held took.taken
     closed.0 closed.1 c.collector_step_at.new.world c.take.new.self.entries c.date_new.new.dates closed.2 took.spent _
-    (λ s lt. c.in_ok-waited.ensures.each s (omega (arith, lt, ap length c.as_slice-names.ensures.value)))
+    c.in_ok-waited.ensures.each
     (rw c.as_slice.ensures.value at c.date_new.ensures.dated, c.date_new.ensures.long) c.in_ok-gone.gone.items moved c.in_ok-gone.ensures.ascending
 
 pub invariant_of-stage-2 : goal.invariant_of-stage-2

@@ -1,4 +1,4 @@
-use Rattle.sdd_script.proofs.Words.{At, desk_of, Does, invalid, under}
+use Rattle.sdd_script.proofs.Words.{At, desk_of, Does, invalid, under, with_dates}
 use Rattle.sdd_script_text.specs.Actions as call
 use Rattle.sdd_script.proofs.CollectorActs.{acts-collected, no-collector, owner-dated}
 use Rattle.sdd_script.proofs.commands.collectors.collect.Goals as goal
@@ -18,7 +18,7 @@ date_if_waiting-requires c =
 
 collected : (c : goal.After-date_if_waiting) → Does (desk_of c.stage.inside.hand)
     (At c.args.name (call.Collect c.args.owner c.args.guard c.args.collector)) c.collector_step_at-reply.result
-    (record c.stage.inside.hand { world = c.collector_step_at-reply.new.world; owners = c.take.new.self; dates = c.date_if_waiting.new.dates })
+    (record (with_dates c.stage.inside.hand c.date_if_waiting.new.dates) { world = c.collector_step_at-reply.new.world; owners = c.take.new.self })
 collected c =
     acts-collected c.args.name (under c.args.name.0 c.stage.invariant c.is_whole.ensures c.in-Some.ensures.found.0) c.args.owner c.args.guard c.args.collector
     _ _ _ _ c.collector_step_at-reply.new.world c.take.new.self.entries c.date_if_waiting.new.dates c.in-Some.ensures.valid

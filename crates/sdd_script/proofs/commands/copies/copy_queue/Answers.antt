@@ -19,7 +19,8 @@ returns-in_default-get c = record {
 }
 
 pub copy_queue_at-requires-clause-queue : goal.copy_queue_at-requires-clause-queue
-copy_queue_at-requires-clause-queue c = queue-home c.stage.inside.hand c.args.queue.0 _ (rw c.make_room.ensures.kept at c.in-Some-get-2.ensures) c.stage.invariant
+copy_queue_at-requires-clause-queue c = queue-home c.stage.inside.hand c.args.queue.0 _ (rw c.make_room.ensures.kept at c.in-Some-get-2.ensures)
+    c.stage.invariant
 
 pub copy_queue_at-requires-clause-numbers : goal.copy_queue_at-requires-clause-numbers
 copy_queue_at-requires-clause-numbers c =
@@ -38,17 +39,15 @@ refused : (c : goal.After-drop-room-in-Err) → Does (desk_of c.stage.inside.han
     (reply.Refused c.in-Err.refused)
     (record c.stage.inside.hand {
       world = c.copy_queue_at.new.world;
-      queues = c.make_room.new.self;
-      slots = c.reserve.new.self;
-      names = c.forget_new.new.names;
-      dates = c.date_new.new.dates;
+      lists = record c.stage.inside.hand.lists { queues = c.make_room.new.self };
+      log = record c.stage.inside.hand.log { slots = c.reserve.new.self; names = c.forget_new.new.names; dates = c.date_new.new.dates };
     })
 refused c =
     let h = c.stage.inside.hand in
     let mine = (rw c.make_room.ensures.kept at c.in-Some-get-2.ensures) in
     let line = rw (← c.stage.view_is) at c.requires.line in
     let its = queue-entries h c.stage.invariant c.args.queue.0 _ mine in
-    let most : c.len-most.result ≡ length c.stage.inside.hand.names.items = search rules in
+    let most : c.len-most.result ≡ length c.stage.inside.hand.log.names.items = search rules in
     let free_so : AreFreeSo c.stage.inside.hand c.in_ok-free.free.items = λ s lt. c.in_ok-free.ensures.each s (omega (arith, lt, most)) in
     let told_so : AreTold c.stage.inside.hand c.in_ok-waited.waited.items = λ s lt. c.in_ok-waited.ensures.each s (omega (arith, lt, most)) in
     acts-queue_refused h c.stage.invariant c.is_whole.ensures c.args.name _ c.in-Some.ensures.found.0 line c.args.queue _ mine c.args.guard
@@ -107,7 +106,7 @@ name_all-requires-clause-room c =
     let f = queue-filled h c.stage.invariant c.is_whole.ensures c.args.name _ c.in-Some.ensures.found.0 line c.args.queue _ mine c.args.guard
     c.in-Some.ensures.valid c.copy_queue_at.new.world c.in-Ok.copy
     (c.in-Ok.ensures.copied its.0 its.1 its.2.queue) in
-    let most : c.len-most.result ≡ length c.stage.inside.hand.names.items = search rules in
+    let most : c.len-most.result ≡ length c.stage.inside.hand.log.names.items = search rules in
     let few : length f.entries ≤ c.len-most.result = omega (arith, f.few, most) in
     let written : c.as_slice-2.result.now ≡ entry_slots f.entries =
     c.as_slice-2.ensures.value ∙ c.slots_at-slots.ensures.slots f.entries f.newest f.has f.plain few in
@@ -124,7 +123,7 @@ name_all-requires-clause-inside c =
     let f = queue-filled h c.stage.invariant c.is_whole.ensures c.args.name _ c.in-Some.ensures.found.0 line c.args.queue _ mine c.args.guard
     c.in-Some.ensures.valid c.copy_queue_at.new.world c.in-Ok.copy
     (c.in-Ok.ensures.copied its.0 its.1 its.2.queue) in
-    let most : c.len-most.result ≡ length c.stage.inside.hand.names.items = search rules in
+    let most : c.len-most.result ≡ length c.stage.inside.hand.log.names.items = search rules in
     let few : length f.entries ≤ c.len-most.result = omega (arith, f.few, most) in
     let written : c.as_slice-2.result.now ≡ entry_slots f.entries =
     c.as_slice-2.ensures.value ∙ c.slots_at-slots.ensures.slots f.entries f.newest f.has f.plain few in
@@ -132,7 +131,12 @@ name_all-requires-clause-inside c =
 
 copied : (c : goal.After-drop-waited-2) → Does (desk_of c.stage.inside.hand) (At c.args.name (call.CloneList (list.Queue c.args.queue) c.args.guard))
     (reply.Queue (record { 0 = c.give-name.result }))
-    (record c.stage.inside.hand { world = c.slots_at-slots.new.world; queues = c.give-name.new.self; slots = c.name_all.new.slots; names = c.name_all.new.names })
+    (record c.stage.inside.hand {
+      world = c.slots_at-slots.new.world;
+      lists = record c.stage.inside.hand.lists { queues = c.give-name.new.self };
+      log = record
+          c.stage.inside.hand.log { slots = c.name_all.new.slots; names = c.name_all.new.names };
+    })
 copied c =
     let h = c.stage.inside.hand in
     let mine = (rw c.make_room.ensures.kept at c.in-Some-get-2.ensures) in
@@ -141,7 +145,7 @@ copied c =
     let f = queue-filled h c.stage.invariant c.is_whole.ensures c.args.name _ c.in-Some.ensures.found.0 line c.args.queue _ mine c.args.guard
     c.in-Some.ensures.valid c.copy_queue_at.new.world c.in-Ok.copy
     (c.in-Ok.ensures.copied its.0 its.1 its.2.queue) in
-    let most : c.len-most.result ≡ length c.stage.inside.hand.names.items = search rules in
+    let most : c.len-most.result ≡ length c.stage.inside.hand.log.names.items = search rules in
     let few : length f.entries ≤ c.len-most.result = omega (arith, f.few, most) in
     let written : c.as_slice-2.result.now ≡ entry_slots f.entries =
     c.as_slice-2.ensures.value ∙ c.slots_at-slots.ensures.slots f.entries f.newest f.has f.plain few in

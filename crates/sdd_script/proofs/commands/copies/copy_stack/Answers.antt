@@ -18,7 +18,8 @@ returns-in_default-get c = record {
 }
 
 pub copy_stack_at-requires-clause-stack : goal.copy_stack_at-requires-clause-stack
-copy_stack_at-requires-clause-stack c = stack-home c.stage.inside.hand c.stage.invariant c.args.stack.0 _ (rw c.make_room.ensures.kept at c.in-Some-get-2.ensures)
+copy_stack_at-requires-clause-stack c = stack-home c.stage.inside.hand c.stage.invariant c.args.stack.0 _
+    (rw c.make_room.ensures.kept at c.in-Some-get-2.ensures)
 
 pub copy_stack_at-requires-clause-numbers : goal.copy_stack_at-requires-clause-numbers
 copy_stack_at-requires-clause-numbers c =
@@ -36,17 +37,15 @@ refused : (c : goal.After-drop-room-in-Err) → Does (desk_of c.stage.inside.han
     (reply.Refused c.in-Err.refused)
     (record c.stage.inside.hand {
       world = c.copy_stack_at.new.world;
-      stacks = c.make_room.new.self;
-      slots = c.reserve.new.self;
-      names = c.forget_new.new.names;
-      dates = c.date_new.new.dates;
+      lists = record c.stage.inside.hand.lists { stacks = c.make_room.new.self };
+      log = record c.stage.inside.hand.log { slots = c.reserve.new.self; names = c.forget_new.new.names; dates = c.date_new.new.dates };
     })
 refused c =
     let h = c.stage.inside.hand in
     let mine = (rw c.make_room.ensures.kept at c.in-Some-get-2.ensures) in
     let line = rw (← c.stage.view_is) at c.requires.line in
     let its = stack-entries h c.stage.invariant c.args.stack.0 _ mine in
-    let most : c.len-most.result ≡ length c.stage.inside.hand.names.items = search rules in
+    let most : c.len-most.result ≡ length c.stage.inside.hand.log.names.items = search rules in
     let free_so : AreFreeSo c.stage.inside.hand c.in_ok-free.free.items = λ s lt. c.in_ok-free.ensures.each s (omega (arith, lt, most)) in
     let told_so : AreTold c.stage.inside.hand c.in_ok-waited.waited.items = λ s lt. c.in_ok-waited.ensures.each s (omega (arith, lt, most)) in
     acts-stack_refused h c.stage.invariant c.is_whole.ensures c.args.name _ c.in-Some.ensures.found.0 line c.args.stack _ mine c.args.guard
@@ -105,7 +104,7 @@ name_all-requires-clause-room c =
     let f = stack-filled h c.stage.invariant c.is_whole.ensures c.args.name _ c.in-Some.ensures.found.0 line c.args.stack _ mine c.args.guard
     c.in-Some.ensures.valid c.copy_stack_at.new.world c.in-Ok.copy
     (c.in-Ok.ensures.copied its.0 its.1.list) in
-    let most : c.len-most.result ≡ length c.stage.inside.hand.names.items = search rules in
+    let most : c.len-most.result ≡ length c.stage.inside.hand.log.names.items = search rules in
     let few : length f.entries ≤ c.len-most.result = omega (arith, f.few, most) in
     let written : c.as_slice-2.result.now ≡ entry_slots f.entries =
     c.as_slice-2.ensures.value ∙ c.slots_at-slots.ensures.slots f.entries None f.has f.plain few in
@@ -122,7 +121,7 @@ name_all-requires-clause-inside c =
     let f = stack-filled h c.stage.invariant c.is_whole.ensures c.args.name _ c.in-Some.ensures.found.0 line c.args.stack _ mine c.args.guard
     c.in-Some.ensures.valid c.copy_stack_at.new.world c.in-Ok.copy
     (c.in-Ok.ensures.copied its.0 its.1.list) in
-    let most : c.len-most.result ≡ length c.stage.inside.hand.names.items = search rules in
+    let most : c.len-most.result ≡ length c.stage.inside.hand.log.names.items = search rules in
     let few : length f.entries ≤ c.len-most.result = omega (arith, f.few, most) in
     let written : c.as_slice-2.result.now ≡ entry_slots f.entries =
     c.as_slice-2.ensures.value ∙ c.slots_at-slots.ensures.slots f.entries None f.has f.plain few in
@@ -130,7 +129,12 @@ name_all-requires-clause-inside c =
 
 copied : (c : goal.After-drop-waited-2) → Does (desk_of c.stage.inside.hand) (At c.args.name (call.CloneList (list.Stack c.args.stack) c.args.guard))
     (reply.Stack (record { 0 = c.give-name.result }))
-    (record c.stage.inside.hand { world = c.slots_at-slots.new.world; stacks = c.give-name.new.self; slots = c.name_all.new.slots; names = c.name_all.new.names })
+    (record c.stage.inside.hand {
+      world = c.slots_at-slots.new.world;
+      lists = record c.stage.inside.hand.lists { stacks = c.give-name.new.self };
+      log = record
+          c.stage.inside.hand.log { slots = c.name_all.new.slots; names = c.name_all.new.names };
+    })
 copied c =
     let h = c.stage.inside.hand in
     let mine = (rw c.make_room.ensures.kept at c.in-Some-get-2.ensures) in
@@ -139,7 +143,7 @@ copied c =
     let f = stack-filled h c.stage.invariant c.is_whole.ensures c.args.name _ c.in-Some.ensures.found.0 line c.args.stack _ mine c.args.guard
     c.in-Some.ensures.valid c.copy_stack_at.new.world c.in-Ok.copy
     (c.in-Ok.ensures.copied its.0 its.1.list) in
-    let most : c.len-most.result ≡ length c.stage.inside.hand.names.items = search rules in
+    let most : c.len-most.result ≡ length c.stage.inside.hand.log.names.items = search rules in
     let few : length f.entries ≤ c.len-most.result = omega (arith, f.few, most) in
     let written : c.as_slice-2.result.now ≡ entry_slots f.entries =
     c.as_slice-2.ensures.value ∙ c.slots_at-slots.ensures.slots f.entries None f.has f.plain few in

@@ -1,4 +1,4 @@
-use Rattle.sdd_script.proofs.Words.{◌≡◌, length, map, ap, ◌∙◌, arith, rules, option_map, At, owner_holding, desk_of, Does, does, goes, popping}
+use Rattle.sdd_script.proofs.Words.{length, map, ap, ◌∙◌, option_map, At, owner_holding, desk_of, Does, does, goes, popping, with_dates}
 use Rattle.sdd_script_text.specs.declared.answer.Reply.TheVariants as reply
 use Rattle.sdd_script.proofs.ContainerActs.{entries-of, list-home, no-list}
 use Rattle.sdd_script.proofs.EntryActs.{acts-drained, acts-pop_kept, acts-pop_refused, acts-popped, kept-home, kept-number, pop-invalid, popped-counts, popped-home_slots}
@@ -69,12 +69,11 @@ returns-in-Err-Kept c = record { acts = rw (← c.stage.view_is) (kept c).1 }
 
 drained : (c : goal.After-drop-waited-in_default-popped) → Does (desk_of c.stage.inside.hand)
     (At c.args.name (popping c.args.list c.args.first c.args.guard)) reply.Nothing
-    (record c.stage.inside.hand { world = c.pop_at.new.world; owners = c.make_room.new.self; dates = c.date_new.new.dates })
+    (record (with_dates c.stage.inside.hand c.date_new.new.dates) { world = c.pop_at.new.world; owners = c.make_room.new.self })
 drained c =
     let h = c.stage.inside.hand in
     let its = entries-of h c.stage.invariant c.args.list _ c.in-Some-list_named.ensures in
-    let long : c.len-slots.result ≡ length c.stage.inside.hand.names.items = search rules in
-    let told_so : AreTold c.stage.inside.hand c.in_ok-waited.waited.items = λ s lt. c.in_ok-waited.ensures.each s (omega (arith, lt, long)) in
+    let told_so : AreTold c.stage.inside.hand c.in_ok-waited.waited.items = c.in_ok-waited.ensures.each in
     let did = rw c.in_default-popped.is at c.in-Ok.ensures.popped its.entries its.second its.has in
     acts-drained h c.stage.invariant c.is_whole.ensures c.args.name _ c.in-Some.ensures.found.0 c.args.guard c.in-Some.ensures.valid
     c.args.list _ c.in-Some-list_named.ensures c.args.first c.pop_at.new.world did c.in_ok-waited.waited.items told_so c.make_room.new.self.entries
@@ -99,12 +98,11 @@ number_owned-number-requires-2 c =
 
 popped : (c : goal.After-drop-waited-2) → Does (desk_of c.stage.inside.hand) (At c.args.name (popping c.args.list c.args.first c.args.guard))
     (reply.Popped (record { 0 = c.give-name-2.result }) c.number_owned-number-2.result)
-    (record c.stage.inside.hand { world = c.pop_at.new.world; owners = c.give-name-2.new.self; dates = c.date_new.new.dates })
+    (record (with_dates c.stage.inside.hand c.date_new.new.dates) { world = c.pop_at.new.world; owners = c.give-name-2.new.self })
 popped c =
     let h = c.stage.inside.hand in
     let its = entries-of h c.stage.invariant c.args.list _ c.in-Some-list_named.ensures in
-    let long : c.len-slots.result ≡ length c.stage.inside.hand.names.items = search rules in
-    let told_so : AreTold c.stage.inside.hand c.in_ok-waited.waited.items = λ s lt. c.in_ok-waited.ensures.each s (omega (arith, lt, long)) in
+    let told_so : AreTold c.stage.inside.hand c.in_ok-waited.waited.items = c.in_ok-waited.ensures.each in
     let did = rw c.in-Some-popped.is at c.in-Ok.ensures.popped its.entries its.second its.has in
     acts-popped h c.stage.invariant c.is_whole.ensures c.args.name _ c.in-Some.ensures.found.0 c.args.guard c.in-Some.ensures.valid
     c.args.list _ c.in-Some-list_named.ensures c.args.first c.pop_at.new.world c.in-Some-popped.owner did c.in_ok-waited.waited.items told_so

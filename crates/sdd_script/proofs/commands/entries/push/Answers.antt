@@ -23,7 +23,12 @@ push_at-requires-clause-list c = list-home c.stage.inside.hand c.stage.invariant
 
 refused : (c : goal.After-drop-waited) → Does (desk_of c.stage.inside.hand)
     (At c.args.name (pushing c.args.list c.args.number c.args.newest c.args.guard)) (reply.Refused c.in-Err-Some.refused)
-    (record c.stage.inside.hand { world = c.push_at.new.world; owners = c.make_room.new.self; slots = c.reserve.new.self })
+    (record c.stage.inside.hand {
+      world = c.push_at.new.world;
+      owners = c.make_room.new.self;
+      log = record c.stage.inside.hand.log
+          { slots = c.reserve.new.self };
+    })
 refused c =
     let h = c.stage.inside.hand in
     let its = entries-of h c.stage.invariant c.args.list _ c.in-Some-list_named.ensures in
@@ -43,7 +48,12 @@ returns-in-Err-Some c = record { acts = rw (← c.stage.view_is) (refused c).1 }
 
 kept : (c : goal.After-drop-waited-in-Err-None) → Does (desk_of c.stage.inside.hand)
     (At c.args.name (pushing c.args.list c.args.number c.args.newest c.args.guard)) (reply.Kept c.args.number)
-    (record c.stage.inside.hand { world = c.push_at.new.world; owners = c.make_room.new.self; slots = c.reserve.new.self })
+    (record c.stage.inside.hand {
+      world = c.push_at.new.world;
+      owners = c.make_room.new.self;
+      log = record c.stage.inside.hand.log
+          { slots = c.reserve.new.self };
+    })
 kept c =
     let h = c.stage.inside.hand in
     let its = entries-of h c.stage.invariant c.args.list _ c.in-Some-list_named.ensures in
@@ -68,15 +78,18 @@ index_mut-requires c =
     let free = slot-free h c.stage.invariant c.is_whole.ensures c.args.name _ c.in-Some.ensures.found.0 c.args.guard c.in-Some.ensures.valid
     c.args.list _ c.in-Some-list_named.ensures c.args.newest c.args.number c.push_at.new.world c.in-Ok.owner
     (c.in-Ok.ensures.pushed its.entries its.second its.has) in
-    omega (arith, free, c.slot_of_share-slot.ensures, c.stage.inside.hand.names.ok.0)
+    omega (arith, free, c.slot_of_share-slot.ensures, c.stage.inside.hand.log.names.ok.0)
 
 abbrev left : goal.After-drop-waited-2 → Environment
 left c = record c.stage.inside.hand {
   world = c.push_at.new.world;
   owners = c.give-name.new.self;
-  slots = c.push_reserved.new.self;
-  names = with_item c.stage.inside.hand.names c.slot_of_share-slot.result (Some c.len-item.result);
-  dates = c.date_new.new.dates;
+  log = record c.stage.inside.hand.log {
+    slots = c.push_reserved.new.self;
+    names = with_item c.stage.inside.hand.log.names c.slot_of_share-slot.result
+        (Some c.len-item.result);
+    dates = c.date_new.new.dates;
+  };
 }
 
 pushed : (c : goal.After-drop-waited-2) → Does (desk_of c.stage.inside.hand)
@@ -85,18 +98,17 @@ pushed : (c : goal.After-drop-waited-2) → Does (desk_of c.stage.inside.hand)
 pushed c =
     let h = c.stage.inside.hand in
     let its = entries-of h c.stage.invariant c.args.list _ c.in-Some-list_named.ensures in
-    let next : c.len-item.result ≡ length c.stage.inside.hand.slots.items = search rules in
+    let next : c.len-item.result ≡ length c.stage.inside.hand.log.slots.items = search rules in
     let slot : c.slot_of_share-slot.result ≡ slot_of c.in-Ok.owner = c.slot_of_share-slot.ensures in
-    let long : c.len-slots.result ≡ length c.stage.inside.hand.names.items = search rules in
-    let told_so : AreTold c.stage.inside.hand c.in_ok-waited.waited.items = λ s lt. c.in_ok-waited.ensures.each s (omega (arith, lt, long)) in
+    let told_so : AreTold c.stage.inside.hand c.in_ok-waited.waited.items = c.in_ok-waited.ensures.each in
     acts-pushed h c.stage.invariant c.is_whole.ensures c.args.name _ c.in-Some.ensures.found.0 c.args.guard c.in-Some.ensures.valid
     c.args.list _ c.in-Some-list_named.ensures c.args.newest c.args.number c.push_at.new.world c.in-Ok.owner
     (c.in-Ok.ensures.pushed its.entries its.second its.has) c.in_ok-waited.waited.items told_so c.give-name.new.self.entries c.push_reserved.new.self
-    (with_item c.stage.inside.hand.names c.slot_of_share-slot.result (Some c.len-item.result)) c.date_new.new.dates (record { 0 = c.give-name.result })
+    (with_item c.stage.inside.hand.log.names c.slot_of_share-slot.result (Some c.len-item.result)) c.date_new.new.dates (record { 0 = c.give-name.result })
     (record { 0 = c.len-item.result }) (rw c.make_room.ensures.kept at c.give-name.ensures.given)
     (rw (c.reserve.ensures.items, slot) at c.push_reserved.ensures.items)
-    (ap (λ (n : ℕ). slice_set c.stage.inside.hand.names.items c.slot_of_share-slot.result (Some n)) next
-    ∙ ap (λ k. slice_set c.stage.inside.hand.names.items k (Some (length c.stage.inside.hand.slots.items))) slot)
+    (ap (λ (n : ℕ). slice_set c.stage.inside.hand.log.names.items c.slot_of_share-slot.result (Some n)) next
+    ∙ ap (λ k. slice_set c.stage.inside.hand.log.names.items k (Some (length c.stage.inside.hand.log.slots.items))) slot)
     (rw c.as_slice.ensures.value at c.date_new.ensures.dated, c.date_new.ensures.long)
     (c.give-name.ensures.name ∙ ap length c.make_room.ensures.kept) next
 

@@ -1,4 +1,4 @@
-use Rattle.sdd_script.proofs.Words.{◌≡◌, ℕ, List, None, Option, IsSome, slice_index_or, refl, sym, ◌∙◌, subst, IfSome, At, cell_kind, desk_of, Does, goes, still-as, under, invalid}
+use Rattle.sdd_script.proofs.Words.{◌≡◌, refl, sym, ◌∙◌, At, cell_kind, desk_of, Does, goes, still-as, under, invalid}
 use Rattle.sdd_script_text.specs.Actions as call
 use Rattle.sdd_script_text.specs.declared.answer.Reply.TheVariants as reply
 use Rattle.sdd_script.proofs.CellActs.{named-home}
@@ -12,7 +12,7 @@ pub exchange_at-requires-clause-stays : goal.exchange_at-requires-clause-stays
 exchange_at-requires-clause-stays c =
     let h = c.stage.inside.hand in
     let at = under c.args.name.0 c.stage.invariant c.is_whole.ensures c.in-Some.ensures.found.0 in
-    let compared = rw (c.as_slice-slots.ensures.value, c.as_slice-names.ensures.value, c.as_slice-dates.ensures.value) at c.in-Some-slot_compared.ensures in
+    let compared = c.in-Some-slot_compared.ensures in
     rw (compared.1 ∙ slot-compared h c.args.item) (compared-stays c.args.name at c.args.guard.0 _
     c.in-Some.ensures.found.1 c.in-Some.ensures.found.2 c.args.item
     (compares c.args.name at c.args.item compared.0))
@@ -38,7 +38,7 @@ exchanged : (c : goal.After-give_filling-name) → Does (desk_of c.stage.inside.
 exchanged c =
     let h = c.stage.inside.hand in
     let at = under c.args.name.0 c.stage.invariant c.is_whole.ensures c.in-Some.ensures.found.0 in
-    let compared = rw (c.as_slice-slots.ensures.value, c.as_slice-names.ensures.value, c.as_slice-dates.ensures.value) at c.in-Some-slot_compared.ensures in
+    let compared = c.in-Some-slot_compared.ensures in
     let same = seen-as _ _ _ c.args.was refl (compared.1 ∙ slot-compared h c.args.item) in
     let out = c.in-Ok.ensures.exchanged in
     let fits = rw c.ownership.ensures at c.if-not-fits.ensures in
@@ -60,13 +60,10 @@ put_back-requires c =
 
 pub item_seen-requires : goal.item_seen-requires
 item_seen-requires c =
-    let h = c.stage.inside.hand in
     let out = c.in-Err.ensures.exchanged in
-    let all = seen-named c.args.name (under c.args.name.0 c.stage.invariant c.is_whole.ensures c.in-Some.ensures.found.0) c.args.cell c.in-Some-get.holder.now
-    c.in-Err.seen (sym c.in-Some-get.ensures) out.1 c.in-Err.seen.held refl in
     record {
-      named = subst (λ (names : List (Option ℕ)). IfSome c.in-Err.seen.held (λ s. IsSome (slice_index_or names s None)))
-          (sym c.as_slice-names.ensures.value) all;
+      named = seen-named c.args.name (under c.args.name.0 c.stage.invariant c.is_whole.ensures c.in-Some.ensures.found.0) c.args.cell c.in-Some-get.holder.now
+          c.in-Err.seen (sym c.in-Some-get.ensures) out.1 c.in-Err.seen.held refl;
     }
 
 -- where it differs, the desk is as it was
@@ -88,7 +85,7 @@ pub returns-in-Err : goal.returns-in-Err
 returns-in-Err c =
     let h = c.stage.inside.hand in
     let at = under c.args.name.0 c.stage.invariant c.is_whole.ensures c.in-Some.ensures.found.0 in
-    let compared = rw (c.as_slice-slots.ensures.value, c.as_slice-names.ensures.value, c.as_slice-dates.ensures.value) at c.in-Some-slot_compared.ensures in
+    let compared = c.in-Some-slot_compared.ensures in
     let same = seen-as _ _ _ c.args.was refl (compared.1 ∙ slot-compared h c.args.item) in
     let out = c.in-Err.ensures.exchanged in
     let fits = rw c.ownership.ensures at c.if-not-fits.ensures in
@@ -97,5 +94,5 @@ returns-in-Err c =
           (differs c.args.name at c.args.cell c.in-Some-get.holder.now c.in-Err.seen
           (sym c.in-Some-get.ensures) out.1 c.args.owner c.args.tag (fits.0 refl) c.args.guard c.args.item c.args.was c.item_seen.result
           c.in-Some.ensures.valid (compares c.args.name at c.args.item compared.0) (λ e. out.2 (e ∙ sym same))
-          (rw c.as_slice-names.ensures.value at c.item_seen.ensures)));
+          c.item_seen.ensures));
     }

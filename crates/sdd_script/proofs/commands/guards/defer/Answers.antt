@@ -8,11 +8,13 @@ pub overflow_add-stage : goal.overflow_add-stage
 overflow_add-stage c = let line = rw (← c.stage.view_is) at c.requires.line in omega (arith, line.jobs)
 
 deferred : (c : goal.After-stage-3-1) → Does (desk_of c.stage.inside.hand) (At c.args.name (call.Defer c.args.guard))
-    (reply.Job (record { 0 = c.stage.inside.hand.jobs })) (record c.stage.inside.hand {
+    (reply.Job (record { 0 = c.stage.inside.hand.log.jobs })) (record c.stage.inside.hand {
       world = c.defer_at.new.world;
-      deferred = with_item c.stage.inside.hand.deferred c.in-Ok.place c.stage.inside.hand.jobs;
-      job_dates = with_item c.stage.inside.hand.job_dates c.in-Ok.place c.stage.inside.hand.moment;
-      jobs = c.stage.inside.hand.jobs + 1;
+      log = record c.stage.inside.hand.log {
+        deferred = with_item c.stage.inside.hand.log.deferred c.in-Ok.place c.stage.inside.hand.log.jobs;
+        job_dates = with_item c.stage.inside.hand.log.job_dates c.in-Ok.place c.stage.inside.hand.log.moment;
+        jobs = c.stage.inside.hand.log.jobs + 1;
+      };
     })
 deferred c =
     let at = under c.args.name.0 c.stage.invariant c.is_whole.ensures c.in-Some.ensures.found.0 in

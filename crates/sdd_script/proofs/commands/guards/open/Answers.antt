@@ -1,24 +1,19 @@
-use Rattle.sdd_script.proofs.Words.{length, refl, ap, ◌∙◌, arith, At, Answers, Environment, IsTied, desk_of, slots_among, answers-plain, attends, here, place-is, sits, still, places-inside}
+use Rattle.sdd_script.proofs.Words.{length, refl, ap, ◌∙◌, At, Answers, Environment, IsTied, desk_of, slots_among, answers-plain, attends, here, place-is, sits, still, places-inside, with_dates}
 use Rattle.sdd_script_text.specs.Actions as call
 use Rattle.sdd_script_text.specs.declared.answer.Reply.TheVariants as reply
 use Rattle.sdd_script_model.proofs.Gone.{slots-inside}
 use Rattle.sdd_script.proofs.GuardActs.{noted-is, answers-opened}
 use Rattle.sdd_script.proofs.commands.guards.open.Goals as goal
 
-pub jobs_among-requires : goal.jobs_among-requires
-jobs_among-requires c =
+pub due-requires : goal.due-requires
+due-requires c =
+    let d = desk_of c.stage.inside.hand in
     let at = here c.args.name.0 c.stage.invariant c.is_whole.ensures c.in-Some.ensures in
     record {
-      inside = rw (c.as_slice-deferred.ensures.value, c.reclaims_next-waiting.ensures)
-          (places-inside (desk_of c.stage.inside.hand) at.tied.sound at.whole _ (sits at));
+      small = at.tied.sound.stocked.few;
+      named = slots-inside d _ at.tied.sound.stocked c.is_whole.ensures _ (ap slots_among c.reclaims_next-waiting.ensures);
+      inside = rw c.reclaims_next-waiting.ensures (places-inside d at.tied.sound at.whole _ (sits at));
     }
-
-pub items_among-requires : goal.items_among-requires
-items_among-requires c =
-    let d = desk_of c.stage.inside.hand in
-    let s = c.stage.invariant.sound.stocked in
-    let found = ap slots_among c.reclaims_next-waiting.ensures in
-    record { named = rw c.as_slice-names.ensures.value (slots-inside d _ s c.is_whole.ensures _ found) }
 
 pub returns-in-Err : goal.returns-in-Err
 returns-in-Err c =
@@ -29,29 +24,31 @@ returns-in-Err c =
           (still (desk_of c.stage.inside.hand) _ _ (attends at, rw (place-is at) (refused.1, refl))) (λ s e. e) (λ k e. e));
     }
 
-abbrev left : goal.After-drop-waited-2 → Environment
-left c = record c.stage.inside.hand {
+abbrev left : goal.After-drop-due-2 → Environment
+left c = record (with_dates c.stage.inside.hand c.date_new.new.dates) {
   world = c.guard_step_at.new.world;
   places = c.note_opening.new.places;
   guards = c.give-name.new.self;
-  dates = c.date_new.new.dates;
 }
 
-opened : (c : goal.After-drop-waited-2) → IsTied (left c) × Answers (desk_of c.stage.inside.hand) (At c.args.name call.Open)
-    (record { reply = reply.Guard (record { 0 = c.give-name.result }) c.in-Ok.opened.1; reclaimed = c.in_ok-due.due.items; ran = c.in_ok-ran.ran.items })
+opened : (c : goal.After-drop-due-2) → IsTied (left c) × Answers (desk_of c.stage.inside.hand) (At c.args.name call.Open)
+    (record {
+      reply = reply.Guard (record { 0 = c.give-name.result }) c.in-Ok.opened.1;
+      reclaimed = c.in_ok-due.due.items.items;
+      ran = c.in_ok-due.due.jobs.items;
+    })
     (desk_of (left c))
 opened c =
     let at = here c.args.name.0 c.stage.invariant c.is_whole.ensures c.in-Some.ensures in
     let noted = noted-is c.args.name at _ _ c.is_open-is_nested.ensures c.note_opening.ensures in
     let given = rw c.make_room.ensures.kept at c.give-name.ensures.given in
-    let moved = rw c.as_slice-names.ensures.value at c.in_ok-due.ensures.items in
-    let jobs = rw (c.as_slice-deferred.ensures.value, c.reclaims_next-waiting.ensures) at c.in_ok-ran.ensures.named in
+    let moved = c.in_ok-due.ensures.items.0 in
+    let jobs = rw c.reclaims_next-waiting.ensures at c.in_ok-due.ensures.jobs.0 in
     answers-opened c.args.name at _ c.note_opening.new.places.entries c.give-name.new.self.entries c.date_new.new.dates _ _
     (ap slots_among c.reclaims_next-waiting.ensures) noted given c.index-place.ensures c.in-Ok.ensures.done.0 refl refl c.in-Ok.ensures.done.1.1
-    (rw (← c.stage.view_is) at c.requires.line) _
-    (λ s lt. c.in_ok-waited.ensures.each s (omega (arith, lt, ap length c.as_slice-names.ensures.value)))
-    (rw c.as_slice.ensures.value at c.date_new.ensures.dated, c.date_new.ensures.long) c.in_ok-due.due.items _ _ moved c.in_ok-due.ensures.ascending
-    c.in-Ok.ensures.done.1.0 (c.give-name.ensures.name ∙ ap length c.make_room.ensures.kept) c.in-Ok.ensures.done.1.2 _ jobs c.in_ok-ran.ensures.ascending
+    (rw (← c.stage.view_is) at c.requires.line) _ c.in_ok-due.ensures.each
+    (rw c.as_slice.ensures.value at c.date_new.ensures.dated, c.date_new.ensures.long) c.in_ok-due.due.items.items _ _ moved c.in_ok-due.ensures.items.1
+    c.in-Ok.ensures.done.1.0 (c.give-name.ensures.name ∙ ap length c.make_room.ensures.kept) c.in-Ok.ensures.done.1.2 _ jobs c.in_ok-due.ensures.jobs.1
 
 pub invariant_of-stage-2 : goal.invariant_of-stage-2
 invariant_of-stage-2 c = (opened c).0

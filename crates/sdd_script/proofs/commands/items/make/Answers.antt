@@ -10,7 +10,7 @@ returns-in-Some-refuses_item c =
     let h = c.stage.inside.hand in
     let put = there-to-put h c.args.value (λ missing. false≢true (c.if-is_missing.ensures.1 missing)) in
     record {
-      acts = rw (← c.stage.view_is, c.make_room.ensures.kept, c.reserve.ensures.items) (still (desk_of h) _ _ (refused-meets c.args.name
+      acts = rw (← c.stage.view_is) (still (desk_of h) _ _ (refused-meets c.args.name
           (here c.args.name.0 c.stage.invariant c.is_whole.ensures c.in-Some.ensures) c.args.ownership c.args.value _ put c.in-Some-refuses_item.ensures));
     }
 
@@ -28,23 +28,25 @@ abbrev left : goal.After-give-name → Environment
 left c = record c.stage.inside.hand {
   world = c.item_step_at-owner.new.world;
   owners = c.give-name.new.self;
-  slots = c.push_reserved.new.self;
-  names = with_item c.stage.inside.hand.names c.slot-slot.result (Some c.len-item.result);
+  log = record c.stage.inside.hand.log {
+    slots = c.push_reserved.new.self;
+    names = with_item c.stage.inside.hand.log.names c.slot-slot.result (Some c.len-item.result);
+  };
 }
 
 made : (c : goal.After-give-name) → IsTied (left c) × Acts (desk_of c.stage.inside.hand) (At c.args.name (making c.args.ownership c.args.value))
     (reply.Item (record { 0 = c.give-name.result }) (record { 0 = c.len-item.result })) (desk_of (left c))
 made c =
     let m = c.item_step_at-owner.ensures.done in
-    let next : c.len-item.result ≡ length c.stage.inside.hand.slots.items = search rules in
+    let next : c.len-item.result ≡ length c.stage.inside.hand.log.slots.items = search rules in
     let slot : c.slot-slot.result ≡ m.0 = sym (first-slot c.args.ownership m.0 _ _ (ap (λ x. slot_of (Some x)) (sym m.3) ∙ c.slot-slot.ensures)) in
     let long = becomes-long _ _ c.args.value _ c.in-Some-body_from.ensures.becomes in
     acts-made c.args.name (here c.args.name.0 c.stage.invariant c.is_whole.ensures c.in-Some.ensures) c.args.value
     m.0 m.1 m.2 c.args.ownership _ c.body_from.new.owners.entries _ _ _ _ c.in-Some-body_from.body _ _
     (rw c.make_room.ensures.kept at c.in-Some-body_from.ensures.becomes)
     m.6 m.4 m.5 m.7 m.8 m.9 m.3 c.give-name.ensures.given (rw (c.reserve.ensures.items, slot) at c.push_reserved.ensures.items)
-    (ap (λ (n : ℕ). slice_set c.stage.inside.hand.names.items c.slot-slot.result (Some n)) next
-    ∙ ap (λ k. slice_set c.stage.inside.hand.names.items k (Some (length c.stage.inside.hand.slots.items))) slot)
+    (ap (λ (n : ℕ). slice_set c.stage.inside.hand.log.names.items c.slot-slot.result (Some n)) next
+    ∙ ap (λ k. slice_set c.stage.inside.hand.log.names.items k (Some (length c.stage.inside.hand.log.slots.items))) slot)
     (c.give-name.ensures.name ∙ long ∙ ap length c.make_room.ensures.kept) next
 
 pub invariant_of-stage-2 : goal.invariant_of-stage-2

@@ -21,5 +21,5 @@ loop-slot-preserved c =
 pub returns-clause-gone : goal.returns-clause-gone
 returns-clause-gone c =
     let was = c.loop-slot.invariant in
-    let same = ap (λ (x : Environment). length x.names.items) was.rest in
+    let same = ap (λ (x : Environment). length x.log.names.items) was.rest in
     none-raw c.loop-slot.hand _ was.goes.ending (λ k lt. was.gone k (omega (arith, lt, same, c.loop-slot-test.false, c.len-slot-end.ensures)))

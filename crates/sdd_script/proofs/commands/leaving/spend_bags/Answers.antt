@@ -21,7 +21,7 @@ bag_closed_at-requires-clause-reader c = reader-still c.loop-bag.invariant.goes 
 pub loop-bag-preserved-in_default : goal.loop-bag-preserved-in_default
 loop-bag-preserved-in_default c =
     let now = c.in_default.ensures in
-    spends-next (λ u v. refl) c.loop-bag.invariant (record c.loop-bag.hand { bags = c.take.new.self })
+    spends-next (λ u v. refl) c.loop-bag.invariant (record c.loop-bag.hand { lists = record c.loop-bag.hand.lists { bags = c.take.new.self } })
     (goes-then c.loop-bag.invariant.goes (goes-same _ _ c.loop-bag.invariant.goes.ending _ (rw (still-spent _ _ _ now.spent now.taken) refl))) now.spent refl
 
 pub loop-bag-preserved : goal.loop-bag-preserved

@@ -4,5 +4,5 @@ use Rattle.sdd_script.proofs.commands.leaving.spend_bags.Given as goal
 
 abbrev pub invariant-loop-bag : goal.invariant-loop-bag
 invariant-loop-bag l =
-    Spends (λ old new. GoesOn old new (index_of l.place)) (λ h. h.bags.entries.items)
-    (λ old new. record old { world = new.world; bags = new.bags }) l.initial.hand l.hand l.bag
+    Spends (λ old new. GoesOn old new (index_of l.place)) (λ h. h.lists.bags.entries.items)
+    (λ old new. record old { world = new.world; lists = record old.lists { bags = new.lists.bags } }) l.initial.hand l.hand l.bag

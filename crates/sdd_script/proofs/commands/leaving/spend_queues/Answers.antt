@@ -19,7 +19,7 @@ pub loop-queue-preserved-in_default : goal.loop-queue-preserved-in_default
 loop-queue-preserved-in_default c =
     let was = c.loop-queue.invariant in
     let now = c.in_default.ensures in
-    spends-next (λ u v. refl) was (record c.loop-queue.hand { queues = c.take.new.self })
+    spends-next (λ u v. refl) was (record c.loop-queue.hand { lists = record c.loop-queue.hand.lists { queues = c.take.new.self } })
     (goes-then was.goes (goes-same c.loop-queue.hand _ was.goes.ending _ (rw (still-spent _ _ _ now.spent now.taken) refl))) now.spent refl
 
 pub loop-queue-preserved : goal.loop-queue-preserved

@@ -19,7 +19,7 @@ pub loop-stack-preserved-in_default : goal.loop-stack-preserved-in_default
 loop-stack-preserved-in_default c =
     let was = c.loop-stack.invariant in
     let now = c.in_default.ensures in
-    spends-next (λ u v. refl) was (record c.loop-stack.hand { stacks = c.take.new.self })
+    spends-next (λ u v. refl) was (record c.loop-stack.hand { lists = record c.loop-stack.hand.lists { stacks = c.take.new.self } })
     (goes-then was.goes (goes-same c.loop-stack.hand _ was.goes.ending _ (rw (still-spent _ _ _ now.spent now.taken) refl))) now.spent refl
 
 pub loop-stack-preserved : goal.loop-stack-preserved

@@ -4,5 +4,5 @@ use Rattle.sdd_script.proofs.commands.leaving.spend_stacks.Given as goal
 
 abbrev pub invariant-loop-stack : goal.invariant-loop-stack
 invariant-loop-stack l =
-    Spends (λ old new. GoesOn old new (index_of l.place)) (λ h. h.stacks.entries.items)
-    (λ old new. record old { world = new.world; stacks = new.stacks }) l.initial.hand l.hand l.stack
+    Spends (λ old new. GoesOn old new (index_of l.place)) (λ h. h.lists.stacks.entries.items)
+    (λ old new. record old { world = new.world; lists = record old.lists { stacks = new.lists.stacks } }) l.initial.hand l.hand l.stack

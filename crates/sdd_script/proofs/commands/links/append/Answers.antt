@@ -1,4 +1,4 @@
-use Rattle.sdd_script.proofs.Words.{◌≢◌, inl, is_some, slice_index_or, ap, ◌∙◌, At, IsTrue, IsLooseEntry, slot_at, desk_of, Share, Does, stays-here, invalid, no-shared, points, points-not, name-given, under}
+use Rattle.sdd_script.proofs.Words.{◌≢◌, inl, is_some, ap, At, IsTrue, IsLooseEntry, slot_at, desk_of, Share, Does, stays-here, invalid, no-shared, points, points-not, name-given, under}
 use Rattle.sdd_script_text.specs.Actions as call
 use Rattle.sdd_script_text.specs.declared.answer.Reply.TheVariants as reply
 use Rattle.sdd_space.specs.Shared.{slot_of}
@@ -14,11 +14,11 @@ returns-in_default c = record {
 
 pub slot_since-requires-clause-inside : goal.slot_since-requires-clause-inside
 slot_since-requires-clause-inside c s some =
-    rw (c.as_slice-slots.ensures.value, c.as_slice-names.ensures.value) (name-given _ c.stage.invariant.sound.stocked s some)
+    name-given _ c.stage.invariant.sound.stocked s some
 
 pub returns-in_default-slot_since : goal.returns-in_default-slot_since
 returns-in_default-slot_since c =
-    let cannot = rw (c.as_slice-slots.ensures.value, c.as_slice-names.ensures.value, c.as_slice-dates.ensures.value) at c.in_default-slot_since.ensures in
+    let cannot = c.in_default-slot_since.ensures in
     record {
       acts = rw (← c.stage.view_is)
           (invalid _ _ _ (λ valid. points-not c.stage.inside.hand c.args.name.0 _ c.in-Some.ensures.found.0 c.args.item.0 cannot valid.1));
@@ -39,7 +39,7 @@ pub returns-then-not-is_loose_beside : goal.returns-then-not-is_loose_beside
 returns-then-not-is_loose_beside c =
     let h = c.stage.inside.hand in
     let x = c.in-Some-shared_of.owned.now in
-    let slot = c.in-Some-slot_since.ensures.1 ∙ ap (λ slots. slice_index_or slots c.args.item.0 0) c.as_slice-slots.ensures.value in
+    let slot = c.in-Some-slot_since.ensures.1 in
     let loose = rw (c.slot_of_share.ensures, slot) at c.is_loose_beside.ensures.loose.1 in
     let cannot : IsLooseEntry h.world (slot_of x) × (slot_of x ≢ slot_at (desk_of h) c.args.item.0) → ⊥ =
     λ both. (let yes : IsTrue c.is_loose_beside.result = loose both in let is = c.if-not-is_loose_beside.true in cc) in
@@ -51,8 +51,8 @@ returns-then-not-is_loose_beside c =
 pub value_shown-entry-requires-clause-stays : goal.value_shown-entry-requires-clause-stays
 value_shown-entry-requires-clause-stays c =
     let found = c.in-Some.ensures.found in
-    let can = rw (c.as_slice-slots.ensures.value, c.as_slice-names.ensures.value, c.as_slice-dates.ensures.value) at c.in-Some-slot_since.ensures.0 in
-    let slot = c.in-Some-slot_since.ensures.1 ∙ ap (λ slots. slice_index_or slots c.args.item.0 0) c.as_slice-slots.ensures.value in
+    let can = c.in-Some-slot_since.ensures.0 in
+    let slot = c.in-Some-slot_since.ensures.1 in
     rw (c.is_loose_beside.ensures.world, slot) (stays-here (under c.args.name.0 c.stage.invariant c.is_whole.ensures found.0) c.args.guard.0
     c.args.item.0 _ found.1 found.2 (points c.stage.inside.hand c.args.name.0 _ found.0 c.args.item.0 can))
 
@@ -60,9 +60,9 @@ pub list_step_at-requires-clause-asked : goal.list_step_at-requires-clause-asked
 list_step_at-requires-clause-asked c =
     let h = c.stage.inside.hand in
     let found = c.in-Some.ensures.found in
-    let slot = c.in-Some-slot_since.ensures.1 ∙ ap (λ slots. slice_index_or slots c.args.item.0 0) c.as_slice-slots.ensures.value in
+    let slot = c.in-Some-slot_since.ensures.1 in
     let can = points h c.args.name.0 _ found.0 c.args.item.0
-    (rw (c.as_slice-slots.ensures.value, c.as_slice-names.ensures.value, c.as_slice-dates.ensures.value) at c.in-Some-slot_since.ensures.0) in
+    c.in-Some-slot_since.ensures.0 in
     let shown = rw (c.is_loose_beside.ensures.world, slot) at c.value_shown-entry.ensures.shown in
     let taken = c.in-Some-take_shared.ensures.0 in
     let loose = loose-taken h c.stage.invariant c.is_whole.ensures c.args.owner.0 c.in-Some-shared_of.owned.now c.in-Some-shared_of.ensures
@@ -82,9 +82,9 @@ put : (c : goal.In-None) → Does (desk_of c.stage.inside.hand)
 put c =
     let h = c.stage.inside.hand in
     let found = c.in-Some.ensures.found in
-    let slot = c.in-Some-slot_since.ensures.1 ∙ ap (λ slots. slice_index_or slots c.args.item.0 0) c.as_slice-slots.ensures.value in
+    let slot = c.in-Some-slot_since.ensures.1 in
     let can = points h c.args.name.0 _ found.0 c.args.item.0
-    (rw (c.as_slice-slots.ensures.value, c.as_slice-names.ensures.value, c.as_slice-dates.ensures.value) at c.in-Some-slot_since.ensures.0) in
+    c.in-Some-slot_since.ensures.0 in
     let shown = rw (c.is_loose_beside.ensures.world, slot) at c.value_shown-entry.ensures.shown in
     let taken = c.in-Some-take_shared.ensures.0 in
     let loose = loose-taken h c.stage.invariant c.is_whole.ensures c.args.owner.0 c.in-Some-shared_of.owned.now c.in-Some-shared_of.ensures
@@ -107,9 +107,9 @@ back : (c : goal.After-put_back) → Does (desk_of c.stage.inside.hand)
 back c =
     let h = c.stage.inside.hand in
     let found = c.in-Some.ensures.found in
-    let slot = c.in-Some-slot_since.ensures.1 ∙ ap (λ slots. slice_index_or slots c.args.item.0 0) c.as_slice-slots.ensures.value in
+    let slot = c.in-Some-slot_since.ensures.1 in
     let can = points h c.args.name.0 _ found.0 c.args.item.0
-    (rw (c.as_slice-slots.ensures.value, c.as_slice-names.ensures.value, c.as_slice-dates.ensures.value) at c.in-Some-slot_since.ensures.0) in
+    c.in-Some-slot_since.ensures.0 in
     let shown = rw (c.is_loose_beside.ensures.world, slot) at c.value_shown-entry.ensures.shown in
     let taken = c.in-Some-take_shared.ensures.0 in
     let loose = loose-taken h c.stage.invariant c.is_whole.ensures c.args.owner.0 c.in-Some-shared_of.owned.now c.in-Some-shared_of.ensures

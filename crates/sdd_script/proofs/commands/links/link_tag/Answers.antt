@@ -1,4 +1,4 @@
-use Rattle.sdd_script.proofs.Words.{slice_index_or, ap, ◌∙◌, stays-here, invalid, points, points-not, name-given, under}
+use Rattle.sdd_script.proofs.Words.{stays-here, invalid, points, points-not, name-given, under}
 use Rattle.sdd_script.proofs.LinkActs.{acts-link_told}
 use Rattle.sdd_script.proofs.commands.links.link_tag.Goals as goal
 
@@ -10,11 +10,11 @@ returns-in_default c = record {
 
 pub slot_since-requires-clause-inside : goal.slot_since-requires-clause-inside
 slot_since-requires-clause-inside c s some =
-    rw (c.as_slice-slots.ensures.value, c.as_slice-names.ensures.value) (name-given _ c.stage.invariant.sound.stocked s some)
+    name-given _ c.stage.invariant.sound.stocked s some
 
 pub returns-in_default-slot_since : goal.returns-in_default-slot_since
 returns-in_default-slot_since c =
-    let cannot = rw (c.as_slice-slots.ensures.value, c.as_slice-names.ensures.value, c.as_slice-dates.ensures.value) at c.in_default-slot_since.ensures in
+    let cannot = c.in_default-slot_since.ensures in
     record {
       acts = rw (← c.stage.view_is) (invalid _ _ _ (λ valid. points-not c.stage.inside.hand c.args.name.0 _ c.in-Some.ensures.0 c.args.item.0 cannot valid.1));
     }
@@ -22,16 +22,16 @@ returns-in_default-slot_since c =
 pub value_shown-entry-requires-clause-stays : goal.value_shown-entry-requires-clause-stays
 value_shown-entry-requires-clause-stays c =
     let found = c.in-Some.ensures in
-    let can = rw (c.as_slice-slots.ensures.value, c.as_slice-names.ensures.value, c.as_slice-dates.ensures.value) at c.in-Some-slot_since.ensures.0 in
-    let slot = c.in-Some-slot_since.ensures.1 ∙ ap (λ slots. slice_index_or slots c.args.item.0 0) c.as_slice-slots.ensures.value in
+    let can = c.in-Some-slot_since.ensures.0 in
+    let slot = c.in-Some-slot_since.ensures.1 in
     rw slot (stays-here (under c.args.name.0 c.stage.invariant c.is_whole.ensures found.0) found.2.0 c.args.item.0 _ found.2.1 found.1
     (points c.stage.inside.hand c.args.name.0 _ found.0 c.args.item.0 can))
 
 pub returns : goal.returns
 returns c =
     let found = c.in-Some.ensures in
-    let can = rw (c.as_slice-slots.ensures.value, c.as_slice-names.ensures.value, c.as_slice-dates.ensures.value) at c.in-Some-slot_since.ensures.0 in
-    let slot = c.in-Some-slot_since.ensures.1 ∙ ap (λ slots. slice_index_or slots c.args.item.0 0) c.as_slice-slots.ensures.value in
+    let can = c.in-Some-slot_since.ensures.0 in
+    let slot = c.in-Some-slot_since.ensures.1 in
     let shown = rw slot at c.value_shown-entry.ensures.shown in
     let done = rw c.value_shown-entry.ensures.world at c.cell_step_at.ensures.done in
     record {

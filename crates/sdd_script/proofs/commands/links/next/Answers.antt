@@ -1,4 +1,4 @@
-use Rattle.sdd_script.proofs.Words.{length, slice_index_or, ap, ◌∙◌, arith, At, desk_of, Does, stays-here, invalid, points, points-not, name-given, under}
+use Rattle.sdd_script.proofs.Words.{At, desk_of, Does, stays-here, invalid, points, points-not, name-given, under, with_dates}
 use Rattle.sdd_core.specs.declared.tag.Tag.TheVariants.{None as no_tag}
 use Rattle.sdd_script_text.specs.Actions as call
 use Rattle.sdd_script_text.specs.declared.answer.Reply.TheVariants as reply
@@ -14,11 +14,11 @@ returns-in_default c = record {
 
 pub slot_since-requires-clause-inside : goal.slot_since-requires-clause-inside
 slot_since-requires-clause-inside c s some =
-    rw (c.as_slice-slots.ensures.value, c.as_slice-names.ensures.value) (name-given _ c.stage.invariant.sound.stocked s some)
+    name-given _ c.stage.invariant.sound.stocked s some
 
 pub returns-in_default-slot_since : goal.returns-in_default-slot_since
 returns-in_default-slot_since c =
-    let cannot = rw (c.as_slice-slots.ensures.value, c.as_slice-names.ensures.value, c.as_slice-dates.ensures.value) at c.in_default-slot_since.ensures in
+    let cannot = c.in_default-slot_since.ensures in
     record {
       acts = rw (← c.stage.view_is)
           (invalid _ _ _ (λ valid. points-not c.stage.inside.hand c.args.name.0 _ c.in-Some.ensures.found.0 c.args.item.0 cannot valid.1));
@@ -27,8 +27,8 @@ returns-in_default-slot_since c =
 pub value_shown-entry-requires-clause-stays : goal.value_shown-entry-requires-clause-stays
 value_shown-entry-requires-clause-stays c =
     let found = c.in-Some.ensures.found in
-    let can = rw (c.as_slice-slots.ensures.value, c.as_slice-names.ensures.value, c.as_slice-dates.ensures.value) at c.in-Some-slot_since.ensures.0 in
-    let slot = c.in-Some-slot_since.ensures.1 ∙ ap (λ slots. slice_index_or slots c.args.item.0 0) c.as_slice-slots.ensures.value in
+    let can = c.in-Some-slot_since.ensures.0 in
+    let slot = c.in-Some-slot_since.ensures.1 in
     rw slot (stays-here (under c.args.name.0 c.stage.invariant c.is_whole.ensures found.0) c.args.guard.0 c.args.item.0 _ found.1 found.2
     (points c.stage.inside.hand c.args.name.0 _ found.0 c.args.item.0 can))
 
@@ -36,10 +36,10 @@ pub list_step_at-next-requires-clause-asked : goal.list_step_at-next-requires-cl
 list_step_at-next-requires-clause-asked c =
     let h = c.stage.inside.hand in
     let found = c.in-Some.ensures.found in
-    let slot = c.in-Some-slot_since.ensures.1 ∙ ap (λ slots. slice_index_or slots c.args.item.0 0) c.as_slice-slots.ensures.value in
+    let slot = c.in-Some-slot_since.ensures.1 in
     let shown = rw slot at c.value_shown-entry.ensures.shown in
     let can = points h c.args.name.0 _ found.0 c.args.item.0
-    (rw (c.as_slice-slots.ensures.value, c.as_slice-names.ensures.value, c.as_slice-dates.ensures.value) at c.in-Some-slot_since.ensures.0) in
+    c.in-Some-slot_since.ensures.0 in
     let its = behind h c.stage.invariant c.is_whole.ensures c.args.name _ found.0 c.args.item c.value_shown-entry.result.now shown can in
     rw c.value_shown-entry.ensures.world (
       c.value_shown-entry.ensures.home,
@@ -52,32 +52,32 @@ item_seen-item-requires c =
     let h = c.stage.inside.hand in
     let found = c.in-Some.ensures.found in
     let value = c.value_shown-entry.result.now in
-    let slot = c.in-Some-slot_since.ensures.1 ∙ ap (λ slots. slice_index_or slots c.args.item.0 0) c.as_slice-slots.ensures.value in
+    let slot = c.in-Some-slot_since.ensures.1 in
     let shown = rw slot at c.value_shown-entry.ensures.shown in
     let can = points h c.args.name.0 _ found.0 c.args.item.0
-    (rw (c.as_slice-slots.ensures.value, c.as_slice-names.ensures.value, c.as_slice-dates.ensures.value) at c.in-Some-slot_since.ensures.0) in
+    c.in-Some-slot_since.ensures.0 in
     let its = behind h c.stage.invariant c.is_whole.ensures c.args.name _ found.0 c.args.item value shown can in
     let did = rw c.value_shown-entry.ensures.world at c.list_step_at-next.ensures.done in
     record {
-      named = rw c.as_slice-2.ensures.value (next-named h c.stage.invariant c.is_whole.ensures c.args.name _ found.0 c.args.item value shown can
-          c.list_step_at-next.result (did its.0 its.1 its.2.list).0);
+      named = next-named h c.stage.invariant c.is_whole.ensures c.args.name _ found.0 c.args.item value shown can
+          c.list_step_at-next.result (did its.0 its.1 its.2.list).0;
     }
 
 told : (c : goal.After-drop-waited) → Does (desk_of c.stage.inside.hand) (At c.args.name (call.Next c.args.item c.args.guard))
     (reply.Pointer c.item_seen-item.result no_tag)
-    (record c.stage.inside.hand { world = c.list_step_at-next.new.world; dates = c.date_new.new.dates })
+    (record (with_dates c.stage.inside.hand c.date_new.new.dates) { world = c.list_step_at-next.new.world })
 told c =
     let h = c.stage.inside.hand in
     let found = c.in-Some.ensures.found in
     let can = points h c.args.name.0 _ found.0 c.args.item.0
-    (rw (c.as_slice-slots.ensures.value, c.as_slice-names.ensures.value, c.as_slice-dates.ensures.value) at c.in-Some-slot_since.ensures.0) in
-    let slot = c.in-Some-slot_since.ensures.1 ∙ ap (λ slots. slice_index_or slots c.args.item.0 0) c.as_slice-slots.ensures.value in
+    c.in-Some-slot_since.ensures.0 in
+    let slot = c.in-Some-slot_since.ensures.1 in
     let shown = rw slot at c.value_shown-entry.ensures.shown in
     let did = rw c.value_shown-entry.ensures.world at c.list_step_at-next.ensures.done in
-    let told_so : AreTold h c.in_ok-waited.waited.items = λ s lt. c.in_ok-waited.ensures.each s (omega (arith, lt, ap length c.as_slice-names.ensures.value)) in
+    let told_so : AreTold h c.in_ok-waited.waited.items = c.in_ok-waited.ensures.each in
     acts-next h c.stage.invariant c.is_whole.ensures c.args.name _ found.0 c.args.item c.value_shown-entry.result.now shown can c.args.guard
     c.in_ok-waited.waited.items c.list_step_at-next.new.world c.date_new.new.dates c.list_step_at-next.result c.item_seen-item.result
-    c.in-Some.ensures.valid told_so did (rw c.as_slice-2.ensures.value at c.item_seen-item.ensures)
+    c.in-Some.ensures.valid told_so did c.item_seen-item.ensures
     (rw c.as_slice.ensures.value at c.date_new.ensures.dated, c.date_new.ensures.long)
 
 pub invariant_of-stage : goal.invariant_of-stage

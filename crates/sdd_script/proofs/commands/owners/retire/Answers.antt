@@ -1,4 +1,4 @@
-use Rattle.sdd_script.proofs.Words.{ap, is_some, refl, map-set, sole_slot, At, desk_of, owner_holding, Does, attends, here, leaves, place-is, sits, named as named-as, retired-leaves, nobody}
+use Rattle.sdd_script.proofs.Words.{ap, is_some, refl, map-set, sole_slot, At, desk_of, owner_holding, Does, attends, here, leaves, place-is, sits, named as named-as, retired-leaves, nobody, with_dates}
 use Rattle.std.specs.Vec.{with_item}
 use Rattle.sdd_script_text.specs.Actions as call
 use Rattle.sdd_script_text.specs.declared.answer.Reply.TheVariants as reply
@@ -8,10 +8,9 @@ pub returns-in_default : goal.returns-in_default
 returns-in_default c = record { acts = rw (← c.stage.view_is) (nobody c.stage.inside.hand c.args.name _ c.in_default.ensures (λ valid. valid.0)) }
 
 retired : (c : goal.After-stage-1) → Does (desk_of c.stage.inside.hand) (At c.args.name (call.Retire c.args.owner)) reply.Done
-    (record c.stage.inside.hand {
+    (record (with_dates c.stage.inside.hand (with_item c.stage.inside.hand.log.dates c.slot_of_sole-slot.result c.stage.inside.hand.log.moment)) {
       world = c.item_step_at.new.world;
       owners = c.take_sole.new.owners;
-      dates = with_item c.stage.inside.hand.dates c.slot_of_sole-slot.result c.stage.inside.hand.moment;
     })
 retired c =
     let at = here c.args.name.0 c.stage.invariant c.is_whole.ensures c.in-Some.ensures in

@@ -1,4 +1,4 @@
-use Rattle.sdd_script.proofs.Words.{slice_index_or, ap, refl, ◌∙◌, At, desk_of, owner_holding, Does, leaves, next, points, sits, stays-here, there-apart, under, shared-leaves}
+use Rattle.sdd_script.proofs.Words.{refl, At, desk_of, owner_holding, Does, leaves, next, points, sits, stays-here, there-apart, under, shared-leaves}
 use Rattle.sdd_script_text.specs.Actions as call
 use Rattle.sdd_script_text.specs.declared.answer.Reply.TheVariants as reply
 use Rattle.sdd_script.proofs.Making.{shared-more}
@@ -7,19 +7,16 @@ use Rattle.sdd_script.proofs.commands.owners.upgrade.Goals as goal
 pub share_item-requires-clause-stays : goal.share_item-requires-clause-stays
 share_item-requires-clause-stays c =
     let found = c.in-Some.ensures.found in
-    let can = rw (c.as_slice-slots.ensures.value, c.as_slice-names.ensures.value, c.as_slice-dates.ensures.value) at c.in-Some-slot_since.ensures.0 in
-    let slot = c.in-Some-slot_since.ensures.1 ∙ ap (λ slots. slice_index_or slots c.args.item.0 0) c.as_slice-slots.ensures.value in
-    rw slot (stays-here (under c.args.name.0 c.stage.invariant c.is_whole.ensures found.0) c.args.guard.0 c.args.item.0 _ found.1 found.2
-    (points c.stage.inside.hand c.args.name.0 _ found.0 c.args.item.0 can))
+    rw c.in-Some-slot_since.ensures.1 (stays-here (under c.args.name.0 c.stage.invariant c.is_whole.ensures found.0) c.args.guard.0 c.args.item.0 _
+    found.1 found.2 (points c.stage.inside.hand c.args.name.0 _ found.0 c.args.item.0 c.in-Some-slot_since.ensures.0))
 
 shared : (c : goal.After-give-name) → Does (desk_of c.stage.inside.hand) (At c.args.name (call.Upgrade c.args.item c.args.guard))
     (reply.Owner (record { 0 = c.give-name.result })) (record c.stage.inside.hand { world = c.share_item.new.world; owners = c.give-name.new.self })
 shared c =
     let d = desk_of c.stage.inside.hand in
     let at = under c.args.name.0 c.stage.invariant c.is_whole.ensures c.in-Some.ensures.found.0 in
-    let can = rw (c.as_slice-slots.ensures.value, c.as_slice-names.ensures.value, c.as_slice-dates.ensures.value) at c.in-Some-slot_since.ensures.0 in
-    let point = points c.stage.inside.hand c.args.name.0 _ at.there c.args.item.0 can in
-    let slot = c.in-Some-slot_since.ensures.1 ∙ ap (λ slots. slice_index_or slots c.args.item.0 0) c.as_slice-slots.ensures.value in
+    let point = points c.stage.inside.hand c.args.name.0 _ at.there c.args.item.0 c.in-Some-slot_since.ensures.0 in
+    let slot = c.in-Some-slot_since.ensures.1 in
     let owner = rw (c.in-Ok-Some.field-0-is, slot) at c.in-Ok-Some.ensures.owner in
     let out = rw (c.in-Ok-Some.field-0-is, slot) at c.in-Ok-Some.ensures.shared in
     let more =

@@ -1,4 +1,4 @@
-use Rattle.sdd_script.proofs.Words.{◌≡◌, length, sym, ◌∙◌, arith, rules, At, desk_of, Does, invalid, no-queue, queue-home}
+use Rattle.sdd_script.proofs.Words.{sym, ◌∙◌, At, desk_of, Does, invalid, no-queue, queue-home, with_dates}
 use Rattle.sdd_script_text.specs.Actions as call
 use Rattle.sdd_script_text.specs.declared.answer.Reply.TheVariants as reply
 use Rattle.sdd_script.proofs.QueueActs.{acts-queue_closed}
@@ -26,12 +26,12 @@ list_step_at-requires-clause-asked c = (
 )
 
 closed : (c : goal.After-drop-waited) → Does (desk_of c.stage.inside.hand) (At c.args.name (call.CloseQueue c.args.queue)) reply.Done
-    (record c.stage.inside.hand { world = c.list_step_at.new.world; queues = c.take.new.self; dates = c.date_new.new.dates })
+    (record (with_dates c.stage.inside.hand c.date_new.new.dates)
+    { world = c.list_step_at.new.world; lists = record c.stage.inside.hand.lists { queues = c.take.new.self } })
 closed c =
     let h = c.stage.inside.hand in
     let found = c.in-Some.ensures in
-    let long : c.len-slots.result ≡ length c.stage.inside.hand.names.items = search rules in
-    let told_so : AreTold c.stage.inside.hand c.in_ok-waited.waited.items = λ s lt. c.in_ok-waited.ensures.each s (omega (arith, lt, long)) in
+    let told_so : AreTold c.stage.inside.hand c.in_ok-waited.waited.items = c.in_ok-waited.ensures.each in
     acts-queue_closed h c.stage.invariant c.is_whole.ensures c.args.name _ found.0 c.args.queue _ c.in-Some-take.ensures.taken
     c.in_ok-waited.waited.items told_so c.list_step_at.new.world c.take.new.self.entries c.date_new.new.dates (found.2.0, found.2.2)
     c.list_step_at.ensures.done c.in-Some-take.ensures.spent (rw c.as_slice.ensures.value at c.date_new.ensures.dated, c.date_new.ensures.long)

@@ -1,4 +1,4 @@
-use Rattle.sdd_script.proofs.Words.{◌≡◌, sym, arith, At, owner_holding, desk_of, Does, goes, here, restored, still-as, nobody}
+use Rattle.sdd_script.proofs.Words.{◌≡◌, sym, At, owner_holding, desk_of, Does, goes, here, restored, still-as, nobody, with_dates}
 use Rattle.sdd_script_text.specs.Actions as call
 use Rattle.sdd_script.proofs.RawActs.{acts-dropped, drop-refused}
 use Rattle.sdd_script.proofs.commands.raw.drop_owner.Goals as goal
@@ -7,12 +7,12 @@ pub returns-in_default : goal.returns-in_default
 returns-in_default c = record { acts = rw (← c.stage.view_is) (nobody c.stage.inside.hand c.args.name _ c.in_default.ensures (λ valid. valid.0)) }
 
 went : (c : goal.After-drop-waited-2) → Does (desk_of c.stage.inside.hand) (At c.args.name (call.Drop c.args.owner)) c.in-Ok.reply
-    (record c.stage.inside.hand { world = c.in_place_step_at.new.world; owners = c.take.new.self; dates = c.date_new.new.dates })
+    (record (with_dates c.stage.inside.hand c.date_new.new.dates) { world = c.in_place_step_at.new.world; owners = c.take.new.self })
 went c =
     let took = c.in-Some-take.ensures in
     acts-dropped c.args.name (here c.args.name.0 c.stage.invariant c.is_whole.ensures c.in-Some.ensures) c.args.owner _
     (sym took.taken) _ c.in_ok-waited.waited.items c.in_place_step_at.new.world c.take.new.self.entries c.date_new.new.dates
-    (λ s lt. c.in_ok-waited.ensures.each s (omega (arith, lt, c.len-names.ensures)))
+    c.in_ok-waited.ensures.each
     c.in-Ok.ensures.done took.spent (rw c.as_slice.ensures.value at c.date_new.ensures.dated, c.date_new.ensures.long)
 
 pub invariant_of-stage-2 : goal.invariant_of-stage-2

@@ -9,15 +9,14 @@ pub returns-in_default : goal.returns-in_default
 returns-in_default c = record { acts = rw (← c.stage.view_is) (nobody c.stage.inside.hand c.args.name _ c.in_default.ensures (λ valid. valid.0)) }
 
 -- the item has a name
-has-name : (h : Environment) → IsTied h → (k s : ℕ) → s ≡ k → standing_at h.world k ≡ Some Owned → IsSome (slice_index_or h.names.items s None)
+has-name : (h : Environment) → IsTied h → (k s : ℕ) → s ≡ k → standing_at h.world k ≡ Some Owned → IsSome (slice_index_or h.log.names.items s None)
 has-name h t k s is stands =
     rw is (name-some (desk_of h) t.sound.stocked k (ap is_out stands)
     (off-standing (desk_of h) h.world (named (desk_of h)) t.sound.ledger (λ n b es at holds. holds) k
     (λ sole. absurd (let never : Some Owned ≡ Some (Shared 1) = sym stands ∙ sole in cc))))
 
 pub item_at-requires : goal.item_at-requires
-item_at-requires c =
-    rw c.as_slice.ensures.value (has-name c.stage.inside.hand c.stage.invariant _ _ c.slot_of_sole-slot.ensures c.raw_step_at.ensures.done.0)
+item_at-requires c = has-name c.stage.inside.hand c.stage.invariant _ _ c.slot_of_sole-slot.ensures c.raw_step_at.ensures.done.0
 
 went : (c : goal.After-item_at) → Does (desk_of c.stage.inside.hand) (At c.args.name (call.Raw c.args.owner))
     (reply.Raw c.item_at.result) (record c.stage.inside.hand { world = c.raw_step_at.new.world; owners = c.take_sole.new.owners })
@@ -26,10 +25,9 @@ went c =
     let took = c.in-Some-take_sole.ensures in
     let done = c.raw_step_at.ensures.done in
     let its = ap sole_slot (named-as owner_holding c.stage.inside.hand.owners.entries.items c.args.owner.0 took.0) in
-    let name = c.item_at.ensures ∙ ap (λ names. item_in names c.slot_of_sole-slot.result) c.as_slice.ensures.value in
     leaves at refl (simp (done.1, took.1, map-set))
     (raw-leaves (desk_of c.stage.inside.hand) at.tied.sound at.whole _ _ (sits at) c.args.owner.0 its done.0)
-    ((attends at, ap is_some its), (_, its, name ∙ ap (item_in c.stage.inside.hand.names.items) c.slot_of_sole-slot.ensures, refl))
+    ((attends at, ap is_some its), (_, its, c.item_at.ensures ∙ ap (item_in c.stage.inside.hand.log.names.items) c.slot_of_sole-slot.ensures, refl))
 
 pub invariant_of-stage-2 : goal.invariant_of-stage-2
 invariant_of-stage-2 c = (went c).0

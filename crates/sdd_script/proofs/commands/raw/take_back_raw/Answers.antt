@@ -1,4 +1,4 @@
-use Rattle.sdd_script.proofs.Words.{slice_index_or, ap, refl, ◌∙◌, map_push, At, owner_holding, desk_of, Does, attends, here, leaves, next, sits, back-leaves, nobody}
+use Rattle.sdd_script.proofs.Words.{refl, map_push, At, owner_holding, desk_of, Does, attends, here, leaves, next, sits, back-leaves, nobody}
 use Rattle.sdd_script_text.specs.Actions as call
 use Rattle.sdd_script_text.specs.declared.answer.Reply.TheVariants as reply
 use Rattle.sdd_script.proofs.RawActs.{there-from}
@@ -11,12 +11,11 @@ back : (c : goal.After-give-name) → Does (desk_of c.stage.inside.hand) (At c.a
     (reply.Owner (record { 0 = c.give-name.result })) (record c.stage.inside.hand { world = c.raw_step_at.new.world; owners = c.give-name.new.self })
 back c =
     let at = here c.args.name.0 c.stage.invariant c.is_whole.ensures c.in-Some.ensures in
-    let can = rw (c.as_slice-slots.ensures.value, c.as_slice-names.ensures.value, c.as_slice-dates.ensures.value) at c.in-Some-slot_since.ensures.0 in
-    let slot = c.in-Some-slot_since.ensures.1 ∙ ap (λ slots. slice_index_or slots c.args.item.0 0) c.as_slice-slots.ensures.value in
-    let done = rw slot at c.in-Some-raw_step_at.ensures.done in
+    let there = there-from c.stage.inside.hand c.args.item.0 c.in-Some-slot_since.ensures.0 in
+    let done = rw c.in-Some-slot_since.ensures.1 at c.in-Some-raw_step_at.ensures.done in
     leaves at refl (simp (done.1.1, c.give-name.ensures.given, c.make_room.ensures.kept, map_push, done.0.0, done.0.1))
     (back-leaves (desk_of c.stage.inside.hand) at.tied.sound at.whole _ _ (sits at) done.1.0)
-    ((attends at, there-from c.stage.inside.hand c.args.item.0 can), (done.1.0, (next owner_holding c.give-name.ensures.name c.make_room.ensures.kept, refl)))
+    ((attends at, there), (done.1.0, (next owner_holding c.give-name.ensures.name c.make_room.ensures.kept, refl)))
 
 pub invariant_of-stage-in-Some-raw_step_at : goal.invariant_of-stage-in-Some-raw_step_at
 invariant_of-stage-in-Some-raw_step_at c = (back c).0

@@ -32,7 +32,7 @@ returns-in-Err c =
     }
 
 refused : (c : goal.In-Err) → Does (desk_of c.stage.inside.hand) (At c.args.name (call.All c.args.stack c.args.guard)) (reply.Refused NoCell)
-    (record c.stage.inside.hand { world = c.list_step_at.new.world; stacks = c.make_room.new.self })
+    (record c.stage.inside.hand { world = c.list_step_at.new.world; lists = record c.stage.inside.hand.lists { stacks = c.make_room.new.self } })
 refused c =
     let h = c.stage.inside.hand in
     let mine = rw c.make_room.ensures.kept at c.in-Some-get.ensures in
@@ -48,7 +48,7 @@ invariant_of-stage-in-Err c = (refused c).0
 
 poured : (c : goal.After-give-name) → Does (desk_of c.stage.inside.hand) (At c.args.name (call.All c.args.stack c.args.guard))
     (reply.Stack (record { 0 = c.give-name.result }))
-    (record c.stage.inside.hand { world = c.list_step_at.new.world; stacks = c.give-name.new.self })
+    (record c.stage.inside.hand { world = c.list_step_at.new.world; lists = record c.stage.inside.hand.lists { stacks = c.give-name.new.self } })
 poured c =
     let h = c.stage.inside.hand in
     let mine = rw c.make_room.ensures.kept at c.in-Some-get.ensures in
