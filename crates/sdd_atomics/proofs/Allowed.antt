@@ -11,7 +11,7 @@ use Rattle.atomic_table.specs.Table.{State, step, Allows, Enters, carried_after}
 use Rattle.sdd_witness.specs.Steps.{AllowsBeside}
 use Rattle.atomic_table.specs.declared.shared.Seat.{Seat}
 use Rattle.sdd_shared_values.specs.declared.value_fraction.ValueFraction.{ValueFraction}
-use Rattle.sdd_shared_values.specs.SharedValues.{IsNoValueCode, lot}
+use Rattle.sdd_shared_values.specs.SharedValues.{IsNoValueCode, content}
 use Rattle.sdd_shared_values.specs.ValueFractions.{FractionContent}
 use Rattle.sdd_shared_values.specs.Bank.{Comes, Leaves, AllowsDeal}
 use Rattle.sdd_rights.specs.declared.views.EpochView.{EpochView}
@@ -22,34 +22,34 @@ use Rattle.sdd_domain_invariant.specs.Codes.{free_word, owned_word, raw_word, wa
 use Rattle.sdd_domain_invariant.proofs.Codes.{one_left}
 use Rattle.sdd_domain_invariant.specs.Epoch.{HasPlace, IsClosed, IsOpen, Scans}
 use Rattle.sdd_rights.specs.Views.{nobody, owner_of}
-use Rattle.sdd_domain_invariant.specs.EpochSteps.{Keeps, passed_by, knowing, scanning, IsNext, Registers, Reads, Counts, Publishes, Ends, Locks, LooksAtLock, LooksAtState, LooksAtCount, Advances, Unlocks}
+use Rattle.sdd_domain_invariant.specs.Epoch.EpochSteps.{Keeps, passed_by, knowing, scanning, IsNext, Registers, Reads, Counts, Publishes, Ends, Locks, LooksAtLock, LooksAtState, LooksAtCount, Advances, Unlocks}
 use Rattle.sdd_domain_invariant.specs.Slots.{Owns, Holds}
-use Rattle.sdd_domain_invariant.specs.SlotSteps.{blank, changed, OnEpoch, PublishesAll, IsDue, LooksAtSlot, TakesHold, LetsGo, TriesHold, SharesAgain, LooksForGuard, AtSlot}
-use Rattle.sdd_domain_invariant.specs.Barred.{IsNobodys, Bars, LooksForValue}
+use Rattle.sdd_domain_invariant.specs.Slots.SlotSteps.{blank, changed, OnEpoch, PublishesAll, IsDue, LooksAtSlot, TakesHold, LetsGo, TriesHold, SharesAgain, LooksForGuard, AtSlot}
+use Rattle.sdd_domain_invariant.specs.Epoch.Barred.{IsNobodys, Bars, LooksForValue}
 use Rattle.sdd_domain_invariant.proofs.Epoch as epochs
-use Rattle.sdd_domain_invariant.proofs.EpochSteps as over
-use Rattle.sdd_domain_invariant.proofs.Barred.{Spares}
+use Rattle.sdd_domain_invariant.proofs.Epoch.EpochSteps as over
+use Rattle.sdd_domain_invariant.proofs.Epoch.Barred.{Spares}
 use Rattle.sdd_domain_invariant.proofs.Sums.{is_same}
-use Rattle.sdd_domain_invariant.specs.FractionsAtHome.{CarriedFractions, Moves, spare}
-use Rattle.sdd_domain_invariant.specs.BankInvariant.{IsBank, banked, founder, one_where}
-use Rattle.sdd_domain_invariant.specs.FilledInvariant.{HasRecord}
-use Rattle.sdd_domain_invariant.specs.Records.{IsIn}
-use Rattle.sdd_domain_invariant.specs.KindsInvariant.{written}
+use Rattle.sdd_domain_invariant.specs.Fractions.FractionsAtHome.{CarriedFractions, Moves, spare}
+use Rattle.sdd_domain_invariant.specs.Fractions.BankInvariant.{IsBank, banked, founder, one_where}
+use Rattle.sdd_domain_invariant.specs.Slots.FilledInvariant.{HasRecord}
+use Rattle.sdd_domain_invariant.specs.Slots.Records.{IsIn}
+use Rattle.sdd_domain_invariant.specs.Slots.KindsInvariant.{written}
 use Rattle.sdd_rights.specs.declared.views.ShownValue.{ShownValue}
-use Rattle.sdd_domain_invariant.proofs.SlotSteps.{less_one}
+use Rattle.sdd_domain_invariant.proofs.Slots.SlotSteps.{less_one}
 use Rattle.sdd_domain_invariant.specs.DomainInvariant.{DomainInvariant}
-use Rattle.sdd_domain_invariant.specs.FractionSteps.{SeatState, CarriesAll, IsValue, CarriesSeen, ClaimsAll, FillsSlot, EntersUnit, TakesOut, TakesHeld, IsDeposit, RetiresOne, ReleasesOne, LeavesOne, GivesAll, DiscardsAll, SeesOwned, LearnsOwned, ClosesHome, EndsAll, OfSlot, AddsSeen, IsStill}
-use Rattle.sdd_domain_invariant.proofs.Lift.{lift_epoch, lift_publish, lift_end}
-use Rattle.sdd_domain_invariant.proofs.Steps.{own_place}
-use Rattle.sdd_domain_invariant.proofs.Steps as steps
-use Rattle.sdd_domain_invariant.proofs.RawSteps as raw
-use Rattle.sdd_domain_invariant.proofs.Upgrading as upgrading
-use Rattle.sdd_domain_invariant.specs.RawSteps.{TurnsRawOne, RegainsOne, SeesRawOne}
-use Rattle.sdd_domain_invariant.proofs.Telling.{one_moved}
-use Rattle.sdd_domain_invariant.proofs.Tokens.{enters}
+use Rattle.sdd_domain_invariant.specs.Fractions.FractionSteps.{SeatState, CarriesAll, IsValue, CarriesSeen, ClaimsAll, FillsSlot, EntersUnit, TakesOut, TakesHeld, IsDeposit, RetiresOne, ReleasesOne, LeavesOne, GivesAll, DiscardsAll, SeesOwned, LearnsOwned, ClosesHome, EndsAll, OfSlot, AddsSeen, IsStill}
+use Rattle.sdd_domain_invariant.proofs.TableSteps.{lift_epoch, lift_publish, lift_end}
+use Rattle.sdd_domain_invariant.proofs.Fractions.FractionSteps.{own_place}
+use Rattle.sdd_domain_invariant.proofs.Fractions.FractionSteps as steps
+use Rattle.sdd_domain_invariant.proofs.Raw.RawSteps as raw
+use Rattle.sdd_domain_invariant.proofs.Slots.OwnerUpgrade as upgrading
+use Rattle.sdd_domain_invariant.specs.Raw.RawSteps.{TurnsRawOne, RegainsOne, SeesRawOne}
+use Rattle.sdd_domain_invariant.proofs.Slots.RecordSteps.{one_moved}
+use Rattle.sdd_domain_invariant.proofs.Seats.{enters}
 use Rattle.sdd_atomics.specs.declared.domain_table.DomainTable.{DomainTable}
 use Rattle.sdd_atomics.specs.declared.domain_table.TableLayout.{TableLayout}
-use Rattle.sdd_atomics.specs.DomainTable.{book_of, sizes_of}
+use Rattle.sdd_atomics.specs.DomainTable.{gamma_of, sizes_of}
 use Rattle.sdd_atomics.specs.DomainSeat.{Sits, Told, IsSame, IsSameBut, Stepped, Taught, Moved, HousesMoved, WatchesOwned, RecallsOwned, HasPublished, shown_last}
 
 -- which of two it is now a number tells, and what holds of both holds of it
@@ -64,7 +64,7 @@ had v a b w x c hit miss one two z = dite (ℕ_discrete x c) (λ e. one (subst H
 one_slot_moved : (w : View) (i j : ℕ) → Moves w i → Moves w j → i ≡ j
 one_slot_moved w i j m m' = one_moved w j i m' m
 
--- who has all stakes in a slot sees by the last what it shows
+-- who has all fractions in a slot sees by the last what it shows
 last_shown : (γ i n o : ℕ) (value : Gv) (rest xs : CarriedFractions) → CarriesAll γ i n o (IsValue value) rest xs → shown_last xs ≡ value
 last_shown γ i n o value rest [] row = absurd row
 last_shown γ i n o value rest (x ∷ xs) row = row.1.1.1
@@ -79,12 +79,12 @@ first_owned : View → ℕ
 first_owned w = elim w.slots.owns [ [] ↦ 0 | i ∷ is ↦ i ]
 
 first_value : View → Gv
-first_value w = elim w.stakes.owns [ [] ↦ gnil | r ∷ rs ↦ r.value ]
+first_value w = elim w.fractions.owns [ [] ↦ gnil | r ∷ rs ↦ r.value ]
 
 first_shared : View → Bool
-first_shared w = elim w.stakes.owns [ [] ↦ false | r ∷ rs ↦ r.shared ]
+first_shared w = elim w.fractions.owns [ [] ↦ false | r ∷ rs ↦ r.shared ]
 
--- an owner's token tells of one slot, how many its owners may be and one value
+-- an owner's seat tells of one slot, how many its owners may be and one value
 module _ (i j : ℕ) (a b : Bool) (g h : Gv) (e : owner_of i a g ≡ owner_of j b h) where
   owner_slot : i ≡ j
   unfolding first_owned
@@ -102,7 +102,7 @@ module _ (i j : ℕ) (a b : Bool) (g h : Gv) (e : owner_of i a g ≡ owner_of j 
   pub owner_told : (R : ℕ → Bool → Gv → Type 0) → R i a g → R j b h
   owner_told R = subst (λ (t : ℕ × Bool × Gv). R t.0 t.1 t.2) (λ d. (owner_slot d, owner_shared d, owner_value d))
 
--- a new token
+-- a new seat
 pub may_sit : (γ : ℕ) (sizes : Sizes) (slots i : ℕ)
     → Enters (DomainInvariant γ sizes) slots i (λ r w. Sits (step {S = ValueFraction} slots i 0 0 none) (founder sizes γ, []) r (w, []))
 may_sit γ sizes slots i = enters γ sizes slots i (λ r w. Sits (step {S = ValueFraction} slots i 0 0 none) (founder sizes γ, []) r (w, [])) (λ r. refl)
@@ -142,7 +142,7 @@ module _ (γ : ℕ) (sizes : Sizes) (slots id : ℕ) (me : SeatState) where
       inr (h.kept.parts.epoch.unused one (ap (λ (q : ℕ). get_or s.words (state_word sizes q) 0) first ∙ free)))
       (λ ne. inl (subst HasPlace ((t p refl).1 ne) placed))
 
-  -- the token knows the sizes, so that what a step tells by these it tells by those
+  -- the seat knows the sizes, so that what a step tells by these it tells by those
   by_sizes : (f : ℕ → ℕ) (i : ℕ) (told : Sizes → ℕ → SeatState → Type 0) → me.0.sizes ≡ sizes → May i f (told sizes) → May i f (told me.0.sizes)
   by_sizes f i told same = subst (λ (z : Sizes). May i f (told z)) (sym same)
 
@@ -159,7 +159,8 @@ module _ (γ : ℕ) (sizes : Sizes) (slots id : ℕ) (me : SeatState) where
       (over.registers sizes id p me.0 none_yet clean inside) (λ r w t. (refl, t))))
 
   pub may_read : May global_word (λ x. x) (Told (OnEpoch Reads) me)
-  may_read = may_epoch Reads global_word (λ x. x) (inl (omega arith), omega arith) (λ _ w t z. subst HasPlace t.0 z) (λ _ w t _. ap (λ (u : EpochView). u.place) t.0)
+  may_read = may_epoch Reads global_word (λ x. x) (inl (omega arith), omega arith) (λ _ w t z. subst HasPlace t.0 z) (λ _ w t _. ap (λ
+      (u : EpochView). u.place) t.0)
       (λ _ w t z. subst HasPlace (sym t.0) z) (λ s h at p low e was. omega arith) (epochs.reads sizes id v)
 
   pub may_write : (i c : ℕ) → IsClosed v → i ≡ count_word sizes v.place → v.place < sizes.participants → May i (λ _. c) (λ _. Told (OnEpoch Counts) me c)
@@ -170,11 +171,14 @@ module _ (γ : ℕ) (sizes : Sizes) (slots id : ℕ) (me : SeatState) where
   pub may_publish : (i : ℕ) → IsClosed v → v.count ≡ v.known → i ≡ state_word sizes v.place → v.place < sizes.participants
       → May i (λ _. 2) (λ _. Told PublishesAll me 2)
   may_publish i shut low is inside = subst (λ (i : ℕ). May i (λ _. 2) (λ _. Told PublishesAll me 2)) (sym is)
-      (lift_publish γ sizes slots id me (state_word sizes v.place) 2 (Told PublishesAll me) (inr (omega arith), omega arith) (omega arith) (over.publishes sizes id me.0 shut low inside)
+      (lift_publish γ sizes slots id me (state_word sizes v.place) 2 (Told PublishesAll me) (
+        inr (omega arith),
+        omega arith,
+      ) (omega arith) (over.publishes sizes id me.0 shut low inside)
       (λ w t. ((let live : 0 < w.state = (let e = ap (λ (u : EpochView). u.state) t.1 in omega arith) in live), ap (λ (u : EpochView). u.place) t.1))
       (own_place γ sizes id me.0 (omega arith) 2) (λ w t. (refl, t)))
 
-  pub may_end : (i : ℕ) → IsClosed v → i ≡ state_word sizes v.place → v.place < sizes.participants → me.0.stakes.moves ≡ None → me.0.slots.over ≡ None
+  pub may_end : (i : ℕ) → IsClosed v → i ≡ state_word sizes v.place → v.place < sizes.participants → me.0.fractions.moves ≡ None → me.0.slots.over ≡ None
       → May i (λ _. 3) (λ _. Told EndsAll me 3)
   may_end i shut is inside rests within = subst (λ (i : ℕ). May i (λ _. 3) (λ _. Told EndsAll me 3)) (sym is)
       (lift_end γ sizes slots id me (Told EndsAll me 3) inside shut rests within
@@ -237,16 +241,17 @@ module _ (γ : ℕ) (sizes : Sizes) (slots id : ℕ) (me : SeatState) where
       (epochs.advances sizes id v next))
 
   pub may_unlock : Scans v → May lock_word (λ _. 0) (λ _. Told (OnEpoch Unlocks) me 0)
-  may_unlock mine = may_store_epoch Unlocks lock_word 0 (inl (omega arith), omega arith) (λ w t z. subst HasPlace t z) (λ w t _. ap (λ (u : EpochView). u.place) t)
+  may_unlock mine = may_store_epoch Unlocks lock_word 0 (inl (omega arith), omega arith) (λ w t z. subst HasPlace t z) (λ w t _. ap (λ
+      (u : EpochView). u.place) t)
       (λ w t z. subst HasPlace (sym t) z) (λ s h at p low e was. absurd (omega arith)) (epochs.unlocks sizes id v mine)
 
-  -- by a participant, which knows the table's sizes and its book
-  module _ (same : me.0.sizes ≡ sizes) (book : me.0.stakes.book ≡ γ) (live : HasPlace v) where
+  -- by a participant, which knows the table's sizes and its ghost map
+  module _ (same : me.0.sizes ≡ sizes) (gamma : me.0.fractions.gamma ≡ γ) (live : HasPlace v) where
     abbrev Own : ℕ → (ℕ → ℕ) → (ℕ → SeatState → Type 0) → Type 0
-    Own = Allows (DomainInvariant me.0.stakes.book me.0.sizes) slots id me
+    Own = Allows (DomainInvariant me.0.fractions.gamma me.0.sizes) slots id me
 
     as_known : (i j : ℕ) (f : ℕ → ℕ) (told : ℕ → ℕ → SeatState → Type 0) → i ≡ j → Own j f (told j) → May i f (told i)
-    as_known i j f told is = subst (λ (t : ℕ × Sizes × ℕ). Allows (DomainInvariant t.0 t.1) slots id me t.2 f (told t.2)) (λ d. (book d, same d, sym is d))
+    as_known i j f told is = subst (λ (t : ℕ × Sizes × ℕ). Allows (DomainInvariant t.0 t.1) slots id me t.2 f (told t.2)) (λ d. (gamma d, same d, sym is d))
 
     at_place : (p : ℕ) → state_word sizes p ≡ state_word me.0.sizes p
     at_place p = ap (λ (z : Sizes). state_word z p) (sym same)
@@ -254,11 +259,11 @@ module _ (γ : ℕ) (sizes : Sizes) (slots id : ℕ) (me : SeatState) where
     near_place : v.place < sizes.participants → v.place < me.0.sizes.participants
     near_place near = let e = ap (λ (z : Sizes). z.participants) same in omega arith
 
-    pub may_close : (i : ℕ) → i ≡ state_word sizes v.place → IsOpen v → ¬ (Scans v) → v.place < sizes.participants → me.0.stakes.moves ≡ None
-        → CarriesSeen γ sizes.participants v.place me.0.stakes.sees me.1 → May i (λ _. 1) (λ _. ClosesHome me 1)
-    may_close i is is_open free near rests purse = as_known i (state_word me.0.sizes v.place) (λ _. 1) (λ _ _. ClosesHome me 1) (is ∙ at_place v.place)
+    pub may_close : (i : ℕ) → i ≡ state_word sizes v.place → IsOpen v → ¬ (Scans v) → v.place < sizes.participants → me.0.fractions.moves ≡ None
+        → CarriesSeen γ sizes.participants v.place me.0.fractions.sees me.1 → May i (λ _. 1) (λ _. ClosesHome me 1)
+    may_close i is is_open free near rests carries = as_known i (state_word me.0.sizes v.place) (λ _. 1) (λ _ _. ClosesHome me 1) (is ∙ at_place v.place)
         (steps.closes slots id me live is_open free (near_place near) rests
-        (subst (λ (t : ℕ × Sizes). CarriesSeen t.0 t.1.participants v.place me.0.stakes.sees me.1) (λ d. (sym book d, sym same d)) purse))
+        (subst (λ (t : ℕ × Sizes). CarriesSeen t.0 t.1.participants v.place me.0.fractions.sees me.1) (λ d. (sym gamma d, sym same d)) carries))
 
     pub may_look_for_guard : (i place : ℕ) → i ≡ state_word sizes place → place < sizes.participants → place ≡ me.0.slots.looked
         → May i (λ x. x) (Told (LooksForGuard i) me)
@@ -266,8 +271,8 @@ module _ (γ : ℕ) (sizes : Sizes) (slots id : ℕ) (me : SeatState) where
         (steps.looks_for_guard slots id me live place (let e = ap (λ (z : Sizes). z.participants) same in omega arith) next)
 
     row_as_known : (slot o : ℕ) (Is : Gv → Type 0) (rest : CarriedFractions) → CarriesAll γ slot sizes.participants o Is rest me.1
-        → CarriesAll me.0.stakes.book slot me.0.sizes.participants o Is rest me.1
-    row_as_known slot o Is rest = subst (λ (t : ℕ × Sizes). CarriesAll t.0 slot t.1.participants o Is rest me.1) (λ d. (sym book d, sym same d))
+        → CarriesAll me.0.fractions.gamma slot me.0.sizes.participants o Is rest me.1
+    row_as_known slot o Is rest = subst (λ (t : ℕ × Sizes). CarriesAll t.0 slot t.1.participants o Is rest me.1) (λ d. (sym gamma d, sym same d))
 
     -- with the bank
     module _ (bd : ℕ) (slot : ℕ) (inside : slot < sizes.slots) where
@@ -277,9 +282,9 @@ module _ (γ : ℕ) (sizes : Sizes) (slots id : ℕ) (me : SeatState) where
 
       deal_known : (Goes : List FractionContent → FractionContent → List FractionContent → Type 0) (Offered : FractionContent → Type 0)
           (Then : FractionContent → SeatState → Type 0)
-          → AllowsDeal (DomainInvariant me.0.stakes.book me.0.sizes) Goes IsBank banked slots id me bd Offered Then → Deals Goes Offered Then
+          → AllowsDeal (DomainInvariant me.0.fractions.gamma me.0.sizes) Goes IsBank banked slots id me bd Offered Then → Deals Goes Offered Then
       deal_known Goes Offered Then =
-          subst (λ (t : ℕ × Sizes). AllowsDeal (DomainInvariant t.0 t.1) Goes IsBank banked slots id me bd Offered Then) (λ d. (book d, same d))
+          subst (λ (t : ℕ × Sizes). AllowsDeal (DomainInvariant t.0 t.1) Goes IsBank banked slots id me bd Offered Then) (λ d. (gamma d, same d))
 
       known_slot : slot < me.0.sizes.slots
       known_slot = let e = ap (λ (z : Sizes). z.slots) same in omega arith
@@ -289,17 +294,21 @@ module _ (γ : ℕ) (sizes : Sizes) (slots id : ℕ) (me : SeatState) where
 
       pub may_house : Moves me.0 slot → Owns me.0 slot → (shared : Bool)
           → (¬ (Holds me.0 slot) → counts_owners (written me.0 slot) ≡ one_where shared) → (value : Gv) (rest : CarriedFractions)
-          → CarriesAll γ slot n (spare n) (IsValue value) rest me.1 → (l : FractionContent) → l ≡ lot γ slot l.round value (spare n - 1)
+          → CarriesAll γ slot n (spare n) (IsValue value) rest me.1 → (l : FractionContent) → l ≡ content γ slot l.lifetime value (spare n - 1)
           → Deals Comes (λ k. k ≡ l) (λ _. HousesMoved shared me)
       may_house moves mine shared kind value rest row l is = deal_known Comes (λ k. k ≡ l) (λ _. HousesMoved shared me) (λ s b h long at there ours ne.
-          let known = subst (λ (z : Sizes). CarriesAll me.0.stakes.book slot me.0.sizes.participants (spare z.participants) (IsValue value) rest me.1)
+          let known = subst (λ (z : Sizes). CarriesAll me.0.fractions.gamma slot me.0.sizes.participants (spare z.participants) (IsValue value) rest me.1)
           (sym same)
           (row_as_known slot (spare n) (IsValue value) rest row) in
-          let lot_known = subst (λ (t : ℕ × Sizes). l ≡ lot t.0 slot l.round value (spare t.1.participants - 1)) (λ d. (sym book d, sym same d)) is in
-          let a = steps.houses slots id me live slot known_slot bd moves mine shared kind value rest known l lot_known s b h long at there ours ne in record {
+          let content_known = subst (λ (t : ℕ × Sizes). l ≡ content t.0 slot l.lifetime value (spare t.1.participants - 1)) (λ d. (
+            sym gamma d,
+            sym same d,
+          )) is in
+          let a = steps.houses slots id me live slot known_slot bd moves mine shared kind value rest known l content_known s b h long at there ours ne in
+          record {
             view = a.view;
             bank = a.bank;
-            lot = a.lot;
+            content = a.content;
             act = a.act;
             valid = a.valid;
             holds = a.holds;
@@ -310,29 +319,30 @@ module _ (γ : ℕ) (sizes : Sizes) (slots id : ℕ) (me : SeatState) where
                 (λ d. (one_slot_moved me.0 slot other moves m d, sym (last_shown γ slot n (spare n) value rest me.1 row) d)) a.then;
           })
 
-      pub may_enter_unit : (others : List ℕ) → me.0.slots.drawn ≡ slot ∷ others → (l : FractionContent) → l ≡ lot γ slot l.round l.shown 1
-          → IsIn me.0.stakes.owns slot l.shown
+      pub may_enter_unit : (others : List ℕ) → me.0.slots.drawn ≡ slot ∷ others → (l : FractionContent) → l ≡ content γ slot l.lifetime l.shown 1
+          → IsIn me.0.fractions.owns slot l.shown
           → Deals Comes (λ k. k ≡ l) (λ _. EntersUnit me)
       may_enter_unit others drawn l is told = deal_known Comes (λ k. k ≡ l) (λ _. EntersUnit me)
           (steps.enters_unit slots id me live slot known_slot bd others drawn l
-          (subst (λ (b : ℕ). l ≡ lot b slot l.round l.shown 1) (sym book) is) told)
+          (subst (λ (b : ℕ). l ≡ content b slot l.lifetime l.shown 1) (sym gamma) is) told)
 
-      pub may_take_out : me.0.stakes.moves ≡ None → IsDue me.0 slot → Deals Leaves (λ _. Unit {0}) (λ l me'. TakesOut slot me me' × IsDeposit slot me l)
+      pub may_take_out : me.0.fractions.moves ≡ None → IsDue me.0 slot → Deals Leaves (λ _. Unit {0}) (λ l me'. TakesOut slot me me' × IsDeposit slot me l)
       may_take_out rests due = deal_known Leaves (λ _. Unit {0}) (λ l me'. TakesOut slot me me' × IsDeposit slot me l)
           (steps.takes_out slots id me live slot known_slot bd rests due)
 
-      pub may_take_held : me.0.stakes.moves ≡ None → me.0.slots.owns ≡ slot ∷ [] → me.0.slots.drawn ≡ [] → Holds me.0 slot → n ≤ me.0.slots.looked
+      pub may_take_held : me.0.fractions.moves ≡ None → me.0.slots.owns ≡ slot ∷ [] → me.0.slots.drawn ≡ [] → Holds me.0 slot → n ≤ me.0.slots.looked
           → Deals Leaves (λ _. Unit {0}) (λ l me'. TakesHeld slot me me' × IsDeposit slot me l)
       may_take_held rests mine drawn held all = deal_known Leaves (λ _. Unit {0}) (λ l me'. TakesHeld slot me me' × IsDeposit slot me l)
           (steps.takes_held slots id me live slot known_slot bd rests mine drawn held
           (let e = ap (λ (z : Sizes). z.participants) same in omega arith))
 
-    -- beside an owner's token
-    beside_known : (jd : ℕ) (w : View) (told : SeatState → Type 0) → AllowsBeside (DomainInvariant me.0.stakes.book me.0.sizes) slots id me jd w told
+    -- beside an owner's seat
+    beside_known : (jd : ℕ) (w : View) (told : SeatState → Type 0) → AllowsBeside (DomainInvariant me.0.fractions.gamma me.0.sizes) slots id me jd w told
         → AllowsBeside (DomainInvariant γ sizes) slots id me jd w told
-    beside_known jd w told = subst (λ (t : ℕ × Sizes). AllowsBeside (DomainInvariant t.0 t.1) slots id me jd w told) (λ d. (book d, same d))
+    beside_known jd w told = subst (λ (t : ℕ × Sizes). AllowsBeside (DomainInvariant t.0 t.1) slots id me jd w told) (λ d. (gamma d, same d))
 
-    pub may_watch : (slot : ℕ) → slot < sizes.slots → IsOpen v → v.place < sizes.participants → me.0.stakes.moves ≡ None → (jd : ℕ) (shared : Bool) (value : Gv)
+    pub may_watch : (slot : ℕ) → slot < sizes.slots → IsOpen v → v.place < sizes.participants → me.0.fractions.moves ≡ None
+        → (jd : ℕ) (shared : Bool) (value : Gv)
         → AllowsBeside (DomainInvariant γ sizes) slots id me jd (owner_of slot shared value) (WatchesOwned (owner_of slot shared value) me)
     may_watch slot inside is_open near rests jd shared value =
         let within : slot < me.0.sizes.slots = (let e = ap (λ (z : Sizes). z.slots) same in omega arith) in
@@ -372,36 +382,36 @@ module _ (γ : ℕ) (sizes : Sizes) (slots id : ℕ) (me : SeatState) where
       at_slot f told = as_known i (slot_word me.0.sizes slot) f told there
 
       row_known : (Is : _ → Type 0) (rest : CarriedFractions) → CarriesAll γ slot sizes.participants 0 Is rest me.1
-          → CarriesAll me.0.stakes.book slot me.0.sizes.participants 0 Is rest me.1
+          → CarriesAll me.0.fractions.gamma slot me.0.sizes.participants 0 Is rest me.1
       row_known Is rest = row_as_known slot 0 Is rest
 
       pub all_looked : sizes.participants ≤ me.0.slots.looked → me.0.sizes.participants ≤ me.0.slots.looked
       all_looked all = let e = ap (λ (z : Sizes). z.participants) same in omega arith
 
-      pub may_claim : (y : ℕ) → alive y ≡ 1 → me.0.stakes.moves ≡ None → May i (λ x. either (eqb x (free_word 0)) y x)
+      pub may_claim : (y : ℕ) → alive y ≡ 1 → me.0.fractions.moves ≡ None → May i (λ x. either (eqb x (free_word 0)) y x)
           (OfSlot (λ slot. ClaimsAll slot (free_word 0) y) i me)
       may_claim y one rests = at_slot (λ x. either (eqb x (free_word 0)) y x) (λ j. OfSlot (λ slot. ClaimsAll slot (free_word 0) y) j me)
           (steps.claims slots id me live slot within y one rests)
 
       -- of an item that goes out as raw, or is out
-      pub may_turn_raw : me.0.slots.owns ≡ slot ∷ [] → ¬ (Holds me.0 slot) → me.0.slots.drawn ≡ [] → me.0.stakes.moves ≡ None → (value : Gv)
-          → HasRecord me.0.stakes.owns (record { slot = slot; shared = false; value = value })
+      pub may_turn_raw : me.0.slots.owns ≡ slot ∷ [] → ¬ (Holds me.0 slot) → me.0.slots.drawn ≡ [] → me.0.fractions.moves ≡ None → (value : Gv)
+          → HasRecord me.0.fractions.owns (record { slot = slot; shared = false; value = value })
           → May i (λ _. raw_word 0) (λ _. OfSlot TurnsRawOne i me (raw_word 0))
       may_turn_raw mine free drawn rests value told = at_slot (λ _. raw_word 0) (λ j _. OfSlot TurnsRawOne j me (raw_word 0))
           (raw.turns_raw slots id me live slot within mine free drawn rests value told)
 
-      pub may_regain : me.0.stakes.moves ≡ None → May i (λ x. either (eqb x (raw_word 0)) (owned_word 0) x)
+      pub may_regain : me.0.fractions.moves ≡ None → May i (λ x. either (eqb x (raw_word 0)) (owned_word 0) x)
           (OfSlot (λ slot. RegainsOne slot (raw_word 0) (owned_word 0)) i me)
       may_regain rests = at_slot (λ x. either (eqb x (raw_word 0)) (owned_word 0) x) (λ j. OfSlot (λ slot. RegainsOne slot (raw_word 0) (owned_word 0)) j me)
           (raw.regains slots id me live slot within rests)
 
       -- one owner more of an item whose value nobody moves
-      pub may_add_seen : me.0.stakes.moves ≡ None → me.0.slots.over ≡ None → IsStill slot me.0 → (word : ℕ) → counts_owners word ≡ 1 → 0 < alive word
+      pub may_add_seen : me.0.fractions.moves ≡ None → me.0.slots.over ≡ None → IsStill slot me.0 → (word : ℕ) → counts_owners word ≡ 1 → 0 < alive word
           → alive word < most_owners → May i (λ x. either (eqb x word) (word + 1) x) (OfSlot (AddsSeen word) i me)
       may_add_seen rests free still word several left few = at_slot (λ x. either (eqb x word) (word + 1) x) (λ j. OfSlot (AddsSeen word) j me)
           (upgrading.adds_seen slots id me live rests slot within free still word several left few)
 
-      pub may_look_for_raw : IsOpen v → v.place < sizes.participants → me.0.stakes.moves ≡ None
+      pub may_look_for_raw : IsOpen v → v.place < sizes.participants → me.0.fractions.moves ≡ None
           → May i (λ x. x) (OfSlot (λ slot. SeesRawOne slot (raw_word 0)) i me)
       may_look_for_raw is_open near rests = at_slot (λ x. x) (λ j. OfSlot (λ slot. SeesRawOne slot (raw_word 0)) j me)
           (raw.sees_raw slots id me live slot within is_open (near_place near) rests)
@@ -409,19 +419,19 @@ module _ (γ : ℕ) (sizes : Sizes) (slots id : ℕ) (me : SeatState) where
       pub may_look : May i (λ x. x) (Told (AtSlot LooksAtSlot i) me)
       may_look = at_slot (λ x. x) (λ j. Told (AtSlot LooksAtSlot j) me) (steps.looks slots id me live slot within)
 
-      pub may_retire : me.0.slots.owns ≡ slot ∷ [] → ¬ (Holds me.0 slot) → me.0.slots.drawn ≡ [] → me.0.stakes.moves ≡ None → (value : Gv)
-          → HasRecord me.0.stakes.owns (record { slot = slot; shared = false; value = value }) → May i (λ _. waiting_word 0)
+      pub may_retire : me.0.slots.owns ≡ slot ∷ [] → ¬ (Holds me.0 slot) → me.0.slots.drawn ≡ [] → me.0.fractions.moves ≡ None → (value : Gv)
+          → HasRecord me.0.fractions.owns (record { slot = slot; shared = false; value = value }) → May i (λ _. waiting_word 0)
           (λ _. OfSlot RetiresOne i me (waiting_word 0))
       may_retire mine free drawn rests value told = at_slot (λ _. waiting_word 0) (λ j _. OfSlot RetiresOne j me (waiting_word 0))
           (steps.retires slots id me live slot within mine free drawn rests value told)
 
-      pub may_let_one_go : me.0.slots.owns ≡ slot ∷ [] → ¬ (Holds me.0 slot) → me.0.slots.drawn ≡ [] → me.0.stakes.moves ≡ None → (value : Gv)
-          → HasRecord me.0.stakes.owns (record { slot = slot; shared = true; value = value }) → May i less_one (OfSlot ReleasesOne i me)
+      pub may_let_one_go : me.0.slots.owns ≡ slot ∷ [] → ¬ (Holds me.0 slot) → me.0.slots.drawn ≡ [] → me.0.fractions.moves ≡ None → (value : Gv)
+          → HasRecord me.0.fractions.owns (record { slot = slot; shared = true; value = value }) → May i less_one (OfSlot ReleasesOne i me)
       may_let_one_go mine free drawn rests value told = at_slot less_one (λ j. OfSlot ReleasesOne j me)
           (steps.releases slots id me live slot within mine free drawn rests value told)
 
-      pub may_leave : (word : ℕ) → 1 < alive word → me.0.slots.owns ≡ slot ∷ [] → ¬ (Holds me.0 slot) → me.0.slots.drawn ≡ [] → me.0.stakes.moves ≡ None
-          → (value : Gv) → HasRecord me.0.stakes.owns (record { slot = slot; shared = true; value = value })
+      pub may_leave : (word : ℕ) → 1 < alive word → me.0.slots.owns ≡ slot ∷ [] → ¬ (Holds me.0 slot) → me.0.slots.drawn ≡ [] → me.0.fractions.moves ≡ None
+          → (value : Gv) → HasRecord me.0.fractions.owns (record { slot = slot; shared = true; value = value })
           → May i (λ x. either (eqb x word) (word - 1) x) (OfSlot (LeavesOne word) i me)
       may_leave word more mine free drawn rests value told = at_slot (λ x. either (eqb x word) (word - 1) x) (λ j. OfSlot (LeavesOne word) j me)
           (steps.leaves slots id me live slot within mine free drawn rests value told word more)
@@ -431,20 +441,21 @@ module _ (γ : ℕ) (sizes : Sizes) (slots id : ℕ) (me : SeatState) where
       may_give_back moves due rest row = at_slot (λ _. free_word 0) (λ j _. OfSlot GivesAll j me (free_word 0))
           (steps.gives_all slots id me live slot within moves due rest (row_known IsNoValueCode rest row))
 
-      pub may_hold : (value : Gv) → HasRecord me.0.stakes.owns (record { slot = slot; shared = false; value = value }) → me.0.slots.holds ≡ None
+      pub may_hold : (value : Gv) → HasRecord me.0.fractions.owns (record { slot = slot; shared = false; value = value }) → me.0.slots.holds ≡ None
           → May i (λ x. x) (Told (AtSlot TakesHold i) me)
       may_hold value told free = at_slot (λ x. x) (λ j. Told (AtSlot TakesHold j) me) (steps.takes_hold slots id me live slot within value told free)
 
-      pub may_let_go : Holds me.0 slot → me.0.stakes.moves ≡ None → ((r : ShownValue) → HasRecord me.0.stakes.owns r → r.slot ≡ slot → r.shared ≡ false)
+      pub may_let_go : Holds me.0 slot → me.0.fractions.moves ≡ None → ((r : ShownValue) → HasRecord me.0.fractions.owns r → r.slot ≡ slot → r.shared ≡ false)
           → May i (λ x. x) (Told (AtSlot LetsGo i) me)
       may_let_go held rests single = at_slot (λ x. x) (λ j. Told (AtSlot LetsGo j) me) (steps.lets_go slots id me live slot within held rests single)
 
-      pub may_try_hold : (value : Gv) → HasRecord me.0.stakes.owns (record { slot = slot; shared = true; value = value }) → me.0.slots.holds ≡ None
-          → me.0.stakes.moves ≡ None → May i (λ x. either (eqb x (shared_word 1)) held_word x) (Told (AtSlot TriesHold i) me)
+      pub may_try_hold : (value : Gv) → HasRecord me.0.fractions.owns (record { slot = slot; shared = true; value = value }) → me.0.slots.holds ≡ None
+          → me.0.fractions.moves ≡ None → May i (λ x. either (eqb x (shared_word 1)) held_word x) (Told (AtSlot TriesHold i) me)
       may_try_hold value told free rests = at_slot (λ x. either (eqb x (shared_word 1)) held_word x) (λ j. Told (AtSlot TriesHold j) me)
           (steps.tries_hold slots id me live slot within value told free rests)
 
-      pub may_share_again : Holds me.0 slot → me.0.stakes.moves ≡ None → ((r : ShownValue) → HasRecord me.0.stakes.owns r → r.slot ≡ slot → r.shared ≡ true)
+      pub may_share_again : Holds me.0 slot → me.0.fractions.moves ≡ None → ((r : ShownValue) → HasRecord me.0.fractions.owns r → r.slot ≡ slot
+          → r.shared ≡ true)
           → May i (λ _. shared_word 1) (λ _. Told (AtSlot SharesAgain i) me (shared_word 1))
       may_share_again held rests several = at_slot (λ _. shared_word 1) (λ j _. Told (AtSlot SharesAgain j) me (shared_word 1))
           (steps.shares_again slots id me live slot within (shared_word 1) one_left.0 held rests
@@ -455,22 +466,22 @@ module _ (γ : ℕ) (sizes : Sizes) (slots id : ℕ) (me : SeatState) where
       may_discard moves held all rest row = at_slot (λ _. free_word 0) (λ j _. OfSlot DiscardsAll j me (free_word 0))
           (steps.discards slots id me live slot within moves held (all_looked all) rest (row_known IsNoValueCode rest row))
 
--- the bank is of the board's plan
+-- the bank is of the table's layout
 pub as_banked : (b : DomainTable) (Goes : List FractionContent → FractionContent → List FractionContent → Type 0) (slots id : ℕ) (me : SeatState) (bd : ℕ)
     (Offered : FractionContent → Type 0)
-    (Then : FractionContent → SeatState → Type 0) → AllowsDeal (DomainInvariant (book_of b) (sizes_of b)) Goes IsBank banked slots id me bd Offered Then
-    → AllowsDeal (DomainInvariant b.bank.key.title.book b.bank.key.sizes) Goes IsBank banked slots id me bd Offered Then
+    (Then : FractionContent → SeatState → Type 0) → AllowsDeal (DomainInvariant (gamma_of b) (sizes_of b)) Goes IsBank banked slots id me bd Offered Then
+    → AllowsDeal (DomainInvariant b.bank.key.values_name.gamma b.bank.key.sizes) Goes IsBank banked slots id me bd Offered Then
 as_banked b Goes slots id me bd Offered Then =
-    subst (λ (k : TableLayout). AllowsDeal (DomainInvariant k.title.book k.sizes) Goes IsBank banked slots id me bd Offered Then) (sym b.banked.1)
+    subst (λ (k : TableLayout). AllowsDeal (DomainInvariant k.values_name.gamma k.sizes) Goes IsBank banked slots id me bd Offered Then) (sym b.banked.1)
 
--- the token after a step that takes or gives stakes
+-- the seat after a step that takes or gives fractions
 pub moved_at : (s t : Seat ValueFraction View) (r : ℕ) → t.table_id ≡ s.table_id → t.id ≡ s.id → (R : ℕ → SeatState → ℕ → SeatState → Type 0) (i slot : ℕ)
     (sizes : Sizes)
     → i ≡ slot_word sizes slot → s.me.0.sizes ≡ sizes → OfSlot R i s.me r t.me → Moved (R slot) s r t
 moved_at s t r home number R i slot sizes is same e = (home, number, e slot (is ∙ ap (λ (z : Sizes). slot_word z slot) (sym same)))
 
 module _ {S : Type 0} (s t : Seat S View) (r : ℕ) (home : t.table_id ≡ s.table_id) (number : t.id ≡ s.id) where
-  -- the token after a step, from what the step tells of it
+  -- the seat after a step, from what the step tells of it
   pub taught : (R : View → ℕ → View → Type 0) → Told R s.me r t.me → Taught R s r t
   taught R e = (home, number, e.0, e.1)
 
@@ -483,7 +494,7 @@ module _ {S : Type 0} (s t : Seat S View) (r : ℕ) (home : t.table_id ≡ s.tab
   pub told : (R : EpochView → ℕ → EpochView → Type 0) → Told (OnEpoch R) s.me r t.me → Stepped R s r t
   told R e = let w : EpochView = e.1.0 in let is : t.me.0 ≡ record s.me.0 { epoch = w } = e.1.1 in (
     (
-      (home, number, e.0, ap (λ (v : View). v.sizes) is, ap (λ (v : View). v.stakes) is, ap (λ (v : View). v.pledges) is, ap (λ (v : View). v.cells) is),
+      (home, number, e.0, ap (λ (v : View). v.sizes) is, ap (λ (v : View). v.fractions) is, ap (λ (v : View). v.pledges) is, ap (λ (v : View). v.cells) is),
       ap (λ (v : View). v.places) is,
       ap (λ (v : View). v.slots)
           is,
@@ -494,7 +505,7 @@ module _ {S : Type 0} (s t : Seat S View) (r : ℕ) (home : t.table_id ≡ s.tab
 
   pub published : Told PublishesAll s.me 2 t.me → HasPublished s t
   published e = let w : EpochView = e.1.0 in let is : t.me.0 ≡ record s.me.0 { epoch = w; slots = changed s.me.0 } = e.1.1 in (
-    (home, number, e.0, ap (λ (v : View). v.sizes) is, ap (λ (v : View). v.stakes) is, ap (λ (v : View). v.pledges) is, ap (λ (v : View). v.cells) is),
+    (home, number, e.0, ap (λ (v : View). v.sizes) is, ap (λ (v : View). v.fractions) is, ap (λ (v : View). v.pledges) is, ap (λ (v : View). v.cells) is),
     ap (λ (v : View). v.places) is,
     ap (λ (v : View). v.slots) is,
     ap (λ (v : View). v.words) is,

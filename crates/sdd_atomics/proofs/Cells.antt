@@ -17,16 +17,16 @@ use Rattle.sdd_rights.specs.contracts.views.View.{the_row}
 use Rattle.sdd_rights.specs.Views.{right_to}
 use Rattle.sdd_domain_invariant.specs.Words.{cell_word}
 use Rattle.sdd_domain_invariant.specs.Codes.{held_slots}
-use Rattle.sdd_domain_invariant.specs.CellWordSteps.{noting}
+use Rattle.sdd_domain_invariant.specs.Cells.CellWordSteps.{noting}
 use Rattle.sdd_domain_invariant.specs.Epoch.{HasPlace, IsOpen}
 use Rattle.sdd_domain_invariant.specs.DomainInvariant.{DomainInvariant}
-use Rattle.sdd_domain_invariant.specs.FilledInvariant.{HasRecord}
-use Rattle.sdd_domain_invariant.specs.PledgesInvariant.{pledging, freeing}
-use Rattle.sdd_domain_invariant.specs.FractionSteps.{SeatState}
-use Rattle.sdd_domain_invariant.specs.CellSteps.{put_in, brought_out, BringsOut, ClaimsCell, SwapsOne, ExchangesOne, FreesCell, FillsBare, RetagsOne, SwapsBare, IsBare, FindsCell, LooksInCell, SeesInCell, LearnsCell, OfCell}
+use Rattle.sdd_domain_invariant.specs.Slots.FilledInvariant.{HasRecord}
+use Rattle.sdd_domain_invariant.specs.Fractions.PledgesInvariant.{pledging, freeing}
+use Rattle.sdd_domain_invariant.specs.Fractions.FractionSteps.{SeatState}
+use Rattle.sdd_domain_invariant.specs.Cells.CellSteps.{put_in, brought_out, BringsOut, ClaimsCell, SwapsOne, ExchangesOne, FreesCell, FillsBare, RetagsOne, SwapsBare, IsBare, FindsCell, LooksInCell, SeesInCell, LearnsCell, OfCell}
 use Rattle.sdd_domain_invariant.proofs.Cells.{bare_open, owner_open}
-use Rattle.sdd_domain_invariant.proofs.CellSteps as cells
-use Rattle.sdd_domain_invariant.proofs.Fillings.{has_none}
+use Rattle.sdd_domain_invariant.proofs.Cells.CellSteps as cells
+use Rattle.sdd_domain_invariant.proofs.Slots.FilledInvariant.{has_none}
 use Rattle.sdd_domain_invariant.proofs.Codes.{held_which}
 use Rattle.atomic_table.specs.declared.shared.Seat.{Seat}
 use Rattle.sdd_shared_values.specs.declared.value_fraction.ValueFraction.{ValueFraction}
@@ -61,8 +61,8 @@ one_kind : (v : View) (cell other : ℕ) (a b : Bool) → v.cells.rights ≡ rec
 one_kind v cell other a b l m = sym (kind_flag a)
     ∙ (ap (λ (rs : List CellRight). is_shared (first_right (record { cell = cell; kind = cell_kind a }) rs).kind) (sym l ∙ m) ∙ kind_flag b)
 
-module _ (γ : ℕ) (sizes : Sizes) (slots id : ℕ) (me : SeatState) (same : me.0.sizes ≡ sizes) (book : me.0.stakes.book ≡ γ) (live : HasPlace me.0.epoch)
-    (rests : me.0.stakes.moves ≡ None) (cell : ℕ) (inside : cell < sizes.cells) (i : ℕ) (is : i ≡ cell_word cell) where
+module _ (γ : ℕ) (sizes : Sizes) (slots id : ℕ) (me : SeatState) (same : me.0.sizes ≡ sizes) (gamma : me.0.fractions.gamma ≡ γ) (live : HasPlace me.0.epoch)
+    (rests : me.0.fractions.moves ≡ None) (cell : ℕ) (inside : cell < sizes.cells) (i : ℕ) (is : i ≡ cell_word cell) where
   within : cell < me.0.sizes.cells
   within = let e = ap (λ (z : Sizes). z.cells) same in omega arith
 
@@ -73,8 +73,8 @@ module _ (γ : ℕ) (sizes : Sizes) (slots id : ℕ) (me : SeatState) (same : me
   May = Allows (DomainInvariant γ sizes) slots id me i
 
   as_known : (f : ℕ → ℕ) (told : ℕ → ℕ → SeatState → Type 0)
-      → Allows (DomainInvariant me.0.stakes.book me.0.sizes) slots id me (cell_word cell) f (told (cell_word cell)) → May f (told i)
-  as_known f told = subst (λ (t : ℕ × Sizes × ℕ). Allows (DomainInvariant t.0 t.1) slots id me t.2 f (told t.2)) (λ d. (book d, same d, sym there d))
+      → Allows (DomainInvariant me.0.fractions.gamma me.0.sizes) slots id me (cell_word cell) f (told (cell_word cell)) → May f (told i)
+  as_known f told = subst (λ (t : ℕ × Sizes × ℕ). Allows (DomainInvariant t.0 t.1) slots id me t.2 f (told t.2)) (λ d. (gamma d, same d, sym there d))
 
   pub may_look_in : May (λ x. x) (OfCell LooksInCell i me)
   may_look_in = as_known (λ x. x) (λ j. OfCell LooksInCell j me) (cells.looks_in slots id me live rests cell within)
@@ -84,13 +84,14 @@ module _ (γ : ℕ) (sizes : Sizes) (slots id : ℕ) (me : SeatState) (same : me
       (cells.sees_in slots id me live rests cell within is_open (let e = ap (λ (z : Sizes). z.participants) same in omega arith))
 
   module _ (y : ℕ) (owns : me.0.slots.owns ≡ held_slots y) (loose : me.0.slots.holds ≡ None) (drawn : me.0.slots.drawn ≡ []) (shared : Bool)
-      (given : (r : ShownValue) → HasRecord me.0.stakes.owns r → r.shared ≡ shared) (more : 0 < y) where
+      (given : (r : ShownValue) → HasRecord me.0.fractions.owns r → r.shared ≡ shared) (more : 0 < y) where
     pub may_claim : May (λ x. either (eqb x 0) y x) (OfCell (ClaimsCell y (cell_kind shared)) i me)
     may_claim = as_known (λ x. either (eqb x 0) y x) (λ j. OfCell (ClaimsCell y (cell_kind shared)) j me)
         (cells.claims slots id me live rests cell within y owns loose drawn shared given (cell_kind shared) (λ k. owner_open shared k cell) more
         (λ ws counts. cells.word_counted me.0.sizes ws shared y counts))
 
-    pub may_fill : (kind : CellKind) → IsBare kind → me.0.cells.rights ≡ record { cell = cell; kind = kind } ∷ [] → May (λ _. y) (OfCell (FillsBare y shared) i me)
+    pub may_fill : (kind : CellKind) → IsBare kind → me.0.cells.rights ≡ record { cell = cell; kind = kind } ∷ []
+        → May (λ _. y) (OfCell (FillsBare y shared) i me)
     may_fill kind bare mine = as_known (λ _. y) (λ j. OfCell (FillsBare y shared) j me)
         (cells.fills_bare slots id me live rests cell within y owns loose drawn shared given kind bare mine more)
 
@@ -117,14 +118,15 @@ module _ (γ : ℕ) (sizes : Sizes) (slots id : ℕ) (me : SeatState) (same : me
                 subst (λ (t : Bool). ExchangesOne old y t other me (get_or s.words (cell_word cell) 0) (a.0, carried_after me.1 a.1)) e (a.4 other where_is),
           ))
 
-  pub may_retag : (old y : ℕ) → held_slots y ≡ held_slots old → 0 < y → me.0.slots.holds ≡ None → May (λ x. either (eqb x old) y x) (OfCell (RetagsOne old y) i me)
+  pub may_retag : (old y : ℕ) → held_slots y ≡ held_slots old → 0 < y → me.0.slots.holds ≡ None
+      → May (λ x. either (eqb x old) y x) (OfCell (RetagsOne old y) i me)
   may_retag old y holds more loose = as_known (λ x. either (eqb x old) y x) (λ j. OfCell (RetagsOne old y) j me)
       (cells.retags slots id me live rests cell within old y holds more loose)
 
   module _ (y : ℕ) (none : held_slots y ≡ []) (more : 0 < y) (owns : me.0.slots.owns ≡ []) (loose : me.0.slots.holds ≡ None) (kind : CellKind) where
-    pub may_claim_bare : IsBare kind → me.0.slots.drawn ≡ [] → me.0.stakes.owns ≡ [] → May (λ x. either (eqb x 0) y x) (OfCell (ClaimsCell y kind) i me)
+    pub may_claim_bare : IsBare kind → me.0.slots.drawn ≡ [] → me.0.fractions.owns ≡ [] → May (λ x. either (eqb x 0) y x) (OfCell (ClaimsCell y kind) i me)
     may_claim_bare bare drawn told = as_known (λ x. either (eqb x 0) y x) (λ j. OfCell (ClaimsCell y kind) j me)
-        (cells.claims slots id me live rests cell within y (owns ∙ sym none) loose drawn false (λ r has. absurd (has_none r me.0.stakes.owns told has)) kind
+        (cells.claims slots id me live rests cell within y (owns ∙ sym none) loose drawn false (λ r has. absurd (has_none r me.0.fractions.owns told has)) kind
         (λ k. bare_open kind bare k cell) more
         (λ ws _. cells.fits_any me.0.sizes ws kind y none))
 
@@ -133,10 +135,10 @@ module _ (γ : ℕ) (sizes : Sizes) (slots id : ℕ) (me : SeatState) (same : me
     may_swap_bare bare p own shows = as_known (λ _. y) (λ j. OfCell (SwapsBare y) j me)
         (cells.swaps_bare slots id me live rests cell within kind p own shows y none more owns loose bare)
 
-  pub may_free : me.0.slots.owns ≡ [] → me.0.slots.holds ≡ None → me.0.slots.drawn ≡ [] → me.0.stakes.owns ≡ [] → (shared : Bool)
+  pub may_free : me.0.slots.owns ≡ [] → me.0.slots.holds ≡ None → me.0.slots.drawn ≡ [] → me.0.fractions.owns ≡ [] → (shared : Bool)
       → me.0.cells.rights ≡ record { cell = cell; kind = cell_kind shared } ∷ [] → May (λ _. 0) (FreesOwn i me)
   may_free owns loose drawn none shared mine = as_known (λ _. 0) (λ j. FreesOwn j me) (λ s h long at small.
-      let a = cells.frees slots id me live rests cell within owns loose drawn shared (λ r has. has_none r me.0.stakes.owns none has) mine s h long at small
+      let a = cells.frees slots id me live rests cell within owns loose drawn shared (λ r has. has_none r me.0.fractions.owns none has) mine s h long at small
       in (
         a.0,
         a.1,
@@ -147,10 +149,10 @@ module _ (γ : ℕ) (sizes : Sizes) (slots id : ℕ) (me : SeatState) (same : me
             (a.4 other where_is),
       ))
 
-  pub may_free_bare : me.0.slots.owns ≡ [] → me.0.slots.holds ≡ None → me.0.slots.drawn ≡ [] → me.0.stakes.owns ≡ []
+  pub may_free_bare : me.0.slots.owns ≡ [] → me.0.slots.holds ≡ None → me.0.slots.drawn ≡ [] → me.0.fractions.owns ≡ []
       → (kind : CellKind) → IsBare kind → me.0.cells.rights ≡ record { cell = cell; kind = kind } ∷ [] → May (λ _. 0) (FreesOwnBare i me)
   may_free_bare owns loose drawn none kind bare mine = as_known (λ _. 0) (λ j. FreesOwnBare j me) (λ s h long at small.
-      let a = cells.frees_bare slots id me live rests cell within owns loose drawn kind bare (λ r has. has_none r me.0.stakes.owns none has) mine s h long
+      let a = cells.frees_bare slots id me live rests cell within owns loose drawn kind bare (λ r has. has_none r me.0.fractions.owns none has) mine s h long
       at small in (
         a.0,
         a.1,
@@ -160,12 +162,12 @@ module _ (γ : ℕ) (sizes : Sizes) (slots id : ℕ) (me : SeatState) (same : me
       ))
 
 -- beside the right to a cell
-pub may_recall_cell : (γ : ℕ) (sizes : Sizes) (slots id : ℕ) (me : SeatState) → me.0.sizes ≡ sizes → me.0.stakes.book ≡ γ → HasPlace me.0.epoch
-    → me.0.stakes.moves ≡ None → (cell : ℕ) (shared : Bool) (jd : ℕ)
+pub may_recall_cell : (γ : ℕ) (sizes : Sizes) (slots id : ℕ) (me : SeatState) → me.0.sizes ≡ sizes → me.0.fractions.gamma ≡ γ → HasPlace me.0.epoch
+    → me.0.fractions.moves ≡ None → (cell : ℕ) (shared : Bool) (jd : ℕ)
     → AllowsBeside (DomainInvariant γ sizes) slots id me jd (right_to cell (cell_kind shared)) (RecallsCell (right_to cell (cell_kind shared)) me)
-may_recall_cell γ sizes slots id me same book live rests cell shared jd =
+may_recall_cell γ sizes slots id me same gamma live rests cell shared jd =
     subst (λ (t : ℕ × Sizes). AllowsBeside (DomainInvariant t.0 t.1) slots id me jd (right_to cell (cell_kind shared))
-    (RecallsCell (right_to cell (cell_kind shared)) me)) (λ d. (book d, same d)) (λ s h long at there.
+    (RecallsCell (right_to cell (cell_kind shared)) me)) (λ d. (gamma d, same d)) (λ s h long at there.
     let a = cells.recalls slots id me live rests jd cell shared s h long at there in (
       a.0,
       a.1,
@@ -239,17 +241,17 @@ module _ (me : SeatState) (p : Pledge) (y cell i : ℕ) (where_is : i ≡ cell_w
     d.2,
   )
 
--- the token after a step on a cell
+-- the seat after a step on a cell
 pub cell_moved : (s t : Seat ValueFraction View) (r : ℕ) → t.table_id ≡ s.table_id → t.id ≡ s.id → (R : ℕ → SeatState → ℕ → SeatState → Type 0) (i cell : ℕ)
     (sizes : Sizes) → i ≡ cell_word cell → s.me.0.sizes ≡ sizes → OfCell R i s.me r t.me → Moved (R cell) s r t
 cell_moved s t r home number R i cell sizes is same e = (home, number, e cell (is))
 
-pub may_find_cell : (γ : ℕ) (sizes : Sizes) (slots id : ℕ) (me : SeatState) → me.0.sizes ≡ sizes → me.0.stakes.book ≡ γ → HasPlace me.0.epoch
-    → me.0.stakes.moves ≡ None → (cell : ℕ) (kind : CellKind) (jd : ℕ)
+pub may_find_cell : (γ : ℕ) (sizes : Sizes) (slots id : ℕ) (me : SeatState) → me.0.sizes ≡ sizes → me.0.fractions.gamma ≡ γ → HasPlace me.0.epoch
+    → me.0.fractions.moves ≡ None → (cell : ℕ) (kind : CellKind) (jd : ℕ)
     → AllowsBeside (DomainInvariant γ sizes) slots id me jd (right_to cell kind) (FindsRight (right_to cell kind) me)
-may_find_cell γ sizes slots id me same book live rests cell kind jd =
+may_find_cell γ sizes slots id me same gamma live rests cell kind jd =
     subst (λ (t : ℕ × Sizes). AllowsBeside (DomainInvariant t.0 t.1) slots id me jd (right_to cell kind)
-    (FindsRight (right_to cell kind) me)) (λ d. (book d, same d)) (λ s h long at there.
+    (FindsRight (right_to cell kind) me)) (λ d. (gamma d, same d)) (λ s h long at there.
     let a = cells.finds_cell slots id me live rests jd cell kind s h long at there in (
       a.0,
       a.1,

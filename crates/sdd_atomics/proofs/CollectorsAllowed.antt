@@ -17,21 +17,21 @@ use Rattle.sdd_rights.specs.Views.{right_to}
 use Rattle.sdd_domain_invariant.specs.Words.{slot_word}
 use Rattle.sdd_domain_invariant.specs.Codes.{free_word, private_word, emptying_word, left_word}
 use Rattle.sdd_domain_invariant.specs.Collectors.{Closes, FoundEmptied}
-use Rattle.sdd_domain_invariant.specs.CollectorWordSteps.{collected, WaitsFor, HasWaiting}
+use Rattle.sdd_domain_invariant.specs.Collectors.CollectorWordSteps.{collected, WaitsFor, HasWaiting}
 use Rattle.sdd_domain_invariant.specs.Epoch.{HasPlace}
-use Rattle.sdd_domain_invariant.specs.CollectorSteps.{CollectsOne, LeavesOneToClose, GivesOnePrivateBack, ClosesOne, ClosesNone, EmptiesOne, EmptiesOwnOne}
+use Rattle.sdd_domain_invariant.specs.Collectors.CollectorSteps.{CollectsOne, LeavesOneToClose, GivesOnePrivateBack, ClosesOne, ClosesNone, EmptiesOne, EmptiesOwnOne}
 use Rattle.sdd_domain_invariant.specs.DomainInvariant.{DomainInvariant}
-use Rattle.sdd_domain_invariant.specs.FractionSteps.{SeatState, forgetting, OfSlot}
-use Rattle.sdd_domain_invariant.specs.PledgesInvariant.{pledging, freeing}
-use Rattle.sdd_domain_invariant.proofs.CollectorSteps as steps
+use Rattle.sdd_domain_invariant.specs.Fractions.FractionSteps.{SeatState, forgetting, OfSlot}
+use Rattle.sdd_domain_invariant.specs.Fractions.PledgesInvariant.{pledging, freeing}
+use Rattle.sdd_domain_invariant.proofs.Collectors.CollectorSteps as steps
 use Rattle.sdd_atomics.specs.DomainSeat.{Moved}
 use Rattle.sdd_atomics.specs.Emptying.{collector_named}
 use Rattle.sdd_atomics.specs.Collectors.{ClosesOwn, EndsOwn, LeavesWaiting, CollectsBy}
 use Rattle.sdd_atomics.proofs.Allowed.{moved_at}
 use Rattle.sdd_atomics.proofs.Allowed as allowed
-use Rattle.sdd_atomics.proofs.EmptyingAllowed.{collector_told}
+use Rattle.sdd_atomics.proofs.PrivateItemsAllowed.{collector_told}
 
--- the token after a slot was claimed for a close, or wasn't
+-- the seat after a slot was claimed for a close, or wasn't
 pub claimed_at : (s t : Seat ValueFraction View) (r : ℕ) → t.table_id ≡ s.table_id → t.id ≡ s.id → (collector word : ℕ) → word ≡ private_word collector
     → (i slot : ℕ) (sizes : Sizes) → i ≡ slot_word sizes slot → s.me.0.sizes ≡ sizes → OfSlot (EmptiesOne (collector_named word)) i s.me r t.me
     → Moved (EmptiesOne collector slot) s r t
@@ -51,10 +51,11 @@ abbrev first_cell_of : ℕ → List CellRight → ℕ
 first_cell_of k [] = k
 first_cell_of k (r ∷ rs) = r.cell
 
-module _ (γ : ℕ) (sizes : Sizes) (slots id : ℕ) (me : SeatState) (same : me.0.sizes ≡ sizes) (book : me.0.stakes.book ≡ γ) (live : HasPlace me.0.epoch) where
-  alone_known : (told : SeatState → Type 0) → AllowsAlone (DomainInvariant me.0.stakes.book me.0.sizes) slots id me told
+module _ (γ : ℕ) (sizes : Sizes) (slots id : ℕ) (me : SeatState) (same : me.0.sizes ≡ sizes) (gamma : me.0.fractions.gamma ≡ γ)
+    (live : HasPlace me.0.epoch) where
+  alone_known : (told : SeatState → Type 0) → AllowsAlone (DomainInvariant me.0.fractions.gamma me.0.sizes) slots id me told
       → AllowsAlone (DomainInvariant γ sizes) slots id me told
-  alone_known told = subst (λ (t : ℕ × Sizes). AllowsAlone (DomainInvariant t.0 t.1) slots id me told) (λ d. (book d, same d))
+  alone_known told = subst (λ (t : ℕ × Sizes). AllowsAlone (DomainInvariant t.0 t.1) slots id me told) (λ d. (gamma d, same d))
 
   -- it has one right, to the collector's cell
   pub may_begin_close : (collector : ℕ) → me.0.cells.rights ≡ record { cell = collector; kind = Raw } ∷ [] → me.0.slots.closes ≡ None
@@ -79,16 +80,17 @@ module _ (γ : ℕ) (sizes : Sizes) (slots id : ℕ) (me : SeatState) (same : me
         λ other had. subst (λ (c : ℕ). ClosesNone c me (a.0, carried_after me.1 a.1)) (ap (first_cell_of collector) (sym mine ∙ had)) a.4,
       ))
 
-  module _ (i slot : ℕ) (is : i ≡ slot_word sizes slot) (inside : slot < sizes.slots) (rests : me.0.stakes.moves ≡ None) where
+  module _ (i slot : ℕ) (is : i ≡ slot_word sizes slot) (inside : slot < sizes.slots) (rests : me.0.fractions.moves ≡ None) where
     abbrev May : (ℕ → ℕ) → (ℕ → SeatState → Type 0) → Type 0
     May = Allows (DomainInvariant γ sizes) slots id me i
 
     within : slot < me.0.sizes.slots
-    within = allowed.within γ sizes slots id me same book live i slot is inside
+    within = allowed.within γ sizes slots id me same gamma live i slot is inside
 
-    at_slot : (f : ℕ → ℕ) (told : ℕ → ℕ → SeatState → Type 0) → Allows (DomainInvariant me.0.stakes.book me.0.sizes) slots id me (slot_word me.0.sizes slot) f
+    at_slot : (f : ℕ → ℕ) (told : ℕ → ℕ → SeatState → Type 0) → Allows (DomainInvariant me.0.fractions.gamma me.0.sizes) slots id me
+        (slot_word me.0.sizes slot) f
         (told (slot_word me.0.sizes slot)) → May f (told i)
-    at_slot = allowed.at_slot γ sizes slots id me same book live i slot is inside
+    at_slot = allowed.at_slot γ sizes slots id me same gamma live i slot is inside
 
     pub may_claim_private : (collector : ℕ) → collector < 2 ^ 32 → Closes me.0 collector → sizes.participants ≤ me.0.slots.looked
         → me.0.slots.empties ≡ None → me.0.slots.left ≡ false → (word : ℕ) → word ≡ private_word collector
@@ -98,7 +100,7 @@ module _ (γ : ℕ) (sizes : Sizes) (slots id : ℕ) (me : SeatState) (same : me
         (λ d. (sym this d, sym (collector_told collector word this) d))
         (at_slot (λ x. either (eqb x (private_word collector)) emptying_word x) (λ j. OfSlot (EmptiesOne collector) j me)
         (steps.empties slots id me live slot within rests collector (omega arith) shuts
-        (allowed.all_looked γ sizes slots id me same book live i slot is inside all) idle fresh))
+        (allowed.all_looked γ sizes slots id me same gamma live i slot is inside all) idle fresh))
 
     pub may_claim_own_private : (collector : ℕ) → WaitsFor collector me.0 slot → collector < 2 ^ 32 → Closes me.0 collector
         → sizes.participants ≤ me.0.slots.looked → me.0.slots.empties ≡ None → me.0.slots.left ≡ false → (word : ℕ) → word ≡ private_word collector
@@ -108,7 +110,7 @@ module _ (γ : ℕ) (sizes : Sizes) (slots id : ℕ) (me : SeatState) (same : me
         (λ d. (sym this d, sym (collector_told collector word this) d))
         (at_slot (λ x. either (eqb x (private_word collector)) emptying_word x) (λ j. OfSlot (EmptiesOwnOne collector) j me)
         (steps.empties_own slots id me live slot within rests collector has (omega arith) shuts
-        (allowed.all_looked γ sizes slots id me same book live i slot is inside all) idle fresh))
+        (allowed.all_looked γ sizes slots id me same gamma live i slot is inside all) idle fresh))
 
     pub may_leave_to_close : (collector : ℕ) → WaitsFor collector me.0 slot
         → May (λ x. either (eqb x emptying_word) left_word x) (LeavesWaiting i me)

@@ -7,14 +7,14 @@ use Rattle.sdd_rights.specs.declared.views.Sizes.{Sizes}
 use Rattle.sdd_domain_invariant.specs.Words.{slot_word, most_waiting}
 use Rattle.sdd_domain_invariant.specs.Codes.{free_word, waiting_word}
 use Rattle.sdd_domain_invariant.specs.Epoch.{HasPlace}
-use Rattle.sdd_domain_invariant.specs.SlotSteps.{IsDue, LooksAtSlot, AtSlot}
+use Rattle.sdd_domain_invariant.specs.Slots.SlotSteps.{IsDue, LooksAtSlot, AtSlot}
 use Rattle.sdd_domain_invariant.specs.DomainInvariant.{DomainInvariant}
-use Rattle.sdd_domain_invariant.specs.FractionSteps.{SeatState, DefersJob, GivesPlace, OfSlot}
-use Rattle.sdd_domain_invariant.proofs.JobSteps as steps
+use Rattle.sdd_domain_invariant.specs.Fractions.FractionSteps.{SeatState, DefersJob, GivesPlace, OfSlot}
+use Rattle.sdd_domain_invariant.proofs.Jobs.JobSteps as steps
 use Rattle.sdd_atomics.specs.DomainSeat.{Told}
 
-module _ (γ : ℕ) (sizes : Sizes) (slots id : ℕ) (me : SeatState) (same : me.0.sizes ≡ sizes) (book : me.0.stakes.book ≡ γ) (live : HasPlace me.0.epoch)
-    (i place : ℕ) (is : i ≡ slot_word sizes place) (inside : (sizes.slots ≤ place) × (place < most_waiting sizes)) (rests : me.0.stakes.moves ≡ None) where
+module _ (γ : ℕ) (sizes : Sizes) (slots id : ℕ) (me : SeatState) (same : me.0.sizes ≡ sizes) (gamma : me.0.fractions.gamma ≡ γ) (live : HasPlace me.0.epoch)
+    (i place : ℕ) (is : i ≡ slot_word sizes place) (inside : (sizes.slots ≤ place) × (place < most_waiting sizes)) (rests : me.0.fractions.moves ≡ None) where
   abbrev May : (ℕ → ℕ) → (ℕ → SeatState → Type 0) → Type 0
   May = Allows (DomainInvariant γ sizes) slots id me i
 
@@ -22,10 +22,11 @@ module _ (γ : ℕ) (sizes : Sizes) (slots id : ℕ) (me : SeatState) (same : me
   within : (me.0.sizes.slots ≤ place) × (place < most_waiting me.0.sizes)
   within = subst (λ (z : Sizes). (z.slots ≤ place) × (place < most_waiting z)) (sym same) inside
 
-  at_place : (f : ℕ → ℕ) (told : ℕ → ℕ → SeatState → Type 0) → Allows (DomainInvariant me.0.stakes.book me.0.sizes) slots id me (slot_word me.0.sizes place) f
+  at_place : (f : ℕ → ℕ) (told : ℕ → ℕ → SeatState → Type 0) → Allows (DomainInvariant me.0.fractions.gamma me.0.sizes) slots id me
+      (slot_word me.0.sizes place) f
       (told (slot_word me.0.sizes place)) → May f (told i)
   at_place f told = let there : slot_word me.0.sizes place ≡ i = ap (λ (z : Sizes). slot_word z place) same ∙ sym is in
-      subst (λ (t : ℕ × Sizes × ℕ). Allows (DomainInvariant t.0 t.1) slots id me t.2 f (told t.2)) (λ d. (book d, same d, there d))
+      subst (λ (t : ℕ × Sizes × ℕ). Allows (DomainInvariant t.0 t.1) slots id me t.2 f (told t.2)) (λ d. (gamma d, same d, there d))
 
   pub may_look : May (λ x. x) (Told (AtSlot LooksAtSlot i) me)
   may_look = at_place (λ x. x) (λ j. Told (AtSlot LooksAtSlot j) me) (steps.looks slots id me live place within.0 within.1 rests)

@@ -1,11 +1,11 @@
 pub mod Allowed
 pub mod Zeros
-pub mod Shown
-pub mod Cloning
+pub mod ViewCodes
+pub mod ClonedOwner
 pub mod Cells
 pub mod Pointers
-pub mod Ending
-pub mod Lasts
+pub mod EndedPlaces
+pub mod LastFractions
 pub mod JobsAllowed
-pub mod EmptyingAllowed
+pub mod PrivateItemsAllowed
 pub mod CollectorsAllowed

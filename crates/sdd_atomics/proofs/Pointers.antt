@@ -8,16 +8,16 @@ use Rattle.sdd_rights.specs.declared.views.View.{View}
 use Rattle.sdd_rights.specs.declared.views.Sizes.{Sizes}
 use Rattle.sdd_domain_invariant.specs.Words.{pointer_word}
 use Rattle.sdd_domain_invariant.specs.Codes.{pointers_end}
-use Rattle.sdd_domain_invariant.specs.CellWordSteps.{LooksAtPointer, SwapsPointer, ExchangesPointer}
+use Rattle.sdd_domain_invariant.specs.Cells.CellWordSteps.{LooksAtPointer, SwapsPointer, ExchangesPointer}
 use Rattle.sdd_domain_invariant.specs.Epoch.{HasPlace}
 use Rattle.sdd_domain_invariant.specs.DomainInvariant.{DomainInvariant}
-use Rattle.sdd_domain_invariant.specs.FractionSteps.{SeatState}
-use Rattle.sdd_domain_invariant.specs.CellSteps.{FindsPointer, OfPointer}
-use Rattle.sdd_domain_invariant.proofs.PointerSteps as steps
+use Rattle.sdd_domain_invariant.specs.Fractions.FractionSteps.{SeatState}
+use Rattle.sdd_domain_invariant.specs.Cells.CellSteps.{FindsPointer, OfPointer}
+use Rattle.sdd_domain_invariant.proofs.Raw.PointerSteps as steps
 use Rattle.sdd_atomics.specs.DomainSeat.{Moved}
 
-module _ (γ : ℕ) (sizes : Sizes) (slots id : ℕ) (me : SeatState) (same : me.0.sizes ≡ sizes) (book : me.0.stakes.book ≡ γ) (live : HasPlace me.0.epoch)
-    (rests : me.0.stakes.moves ≡ None) (cell : ℕ) (inside : cell < sizes.cells) (i : ℕ) (is : i ≡ pointer_word sizes cell) where
+module _ (γ : ℕ) (sizes : Sizes) (slots id : ℕ) (me : SeatState) (same : me.0.sizes ≡ sizes) (gamma : me.0.fractions.gamma ≡ γ) (live : HasPlace me.0.epoch)
+    (rests : me.0.fractions.moves ≡ None) (cell : ℕ) (inside : cell < sizes.cells) (i : ℕ) (is : i ≡ pointer_word sizes cell) where
   abbrev May : (ℕ → ℕ) → (ℕ → SeatState → Type 0) → Type 0
   May = Allows (DomainInvariant γ sizes) slots id me i
 
@@ -26,9 +26,10 @@ module _ (γ : ℕ) (sizes : Sizes) (slots id : ℕ) (me : SeatState) (same : me
 
   -- by the sizes that the participant knows
   as_known : (f : ℕ → ℕ) (told : ℕ → ℕ → SeatState → Type 0)
-      → Allows (DomainInvariant me.0.stakes.book me.0.sizes) slots id me (pointer_word me.0.sizes cell) f (told (pointer_word me.0.sizes cell)) → May f (told i)
+      → Allows (DomainInvariant me.0.fractions.gamma me.0.sizes) slots id me (pointer_word me.0.sizes cell) f (told (pointer_word me.0.sizes cell))
+      → May f (told i)
   as_known f told = let there : pointer_word me.0.sizes cell ≡ i = ap (λ (z : Sizes). pointer_word z cell) same ∙ sym is in
-      subst (λ (t : ℕ × Sizes × ℕ). Allows (DomainInvariant t.0 t.1) slots id me t.2 f (told t.2)) (λ d. (book d, same d, there d))
+      subst (λ (t : ℕ × Sizes × ℕ). Allows (DomainInvariant t.0 t.1) slots id me t.2 f (told t.2)) (λ d. (gamma d, same d, there d))
 
   pub may_look_at : May (λ x. x) (OfPointer (FindsPointer LooksAtPointer) i me)
   may_look_at = as_known (λ x. x) (λ j. OfPointer (FindsPointer LooksAtPointer) j me) (steps.looks_at slots id me live rests cell within)
@@ -41,7 +42,7 @@ module _ (γ : ℕ) (sizes : Sizes) (slots id : ℕ) (me : SeatState) (same : me
     may_exchange old = as_known (λ x. either (eqb x old) y x) (λ j. OfPointer (FindsPointer (ExchangesPointer old y)) j me)
         (steps.exchanges slots id me live rests cell within y small old)
 
--- the token after a step on the word of a pointer
+-- the seat after a step on the word of a pointer
 pub pointer_moved : (s t : Seat ValueFraction View) (r : ℕ) → t.table_id ≡ s.table_id → t.id ≡ s.id → (R : ℕ → SeatState → ℕ → SeatState → Type 0)
     (i cell : ℕ) (sizes : Sizes) → i ≡ pointer_word sizes cell → s.me.0.sizes ≡ sizes → OfPointer R i s.me r t.me → Moved (R cell) s r t
 pointer_moved s t r home number R i cell sizes is same e = (home, number, e cell (is ∙ ap (λ (z : Sizes). pointer_word z cell) (sym same)))

@@ -1,4 +1,4 @@
--- Steps on a cell beside the token of the right to it
+-- Steps on a cell beside the seat of the right to it
 use Rattle.std.specs.Prelude.{◌≡◌, ℕ, Bool, true, false, List, [], ◌∷◌}
 use Rattle.sdd_witness.specs.Ledger.{Pledge}
 use Rattle.sdd_rights.specs.declared.views.CellKind.{CellKind}
@@ -10,9 +10,9 @@ use Rattle.sdd_rights.specs.Views.{right_to}
 use Rattle.sdd_rights.specs.Owner.{cell_kind}
 use Rattle.sdd_domain_invariant.specs.Words.{cell_word}
 use Rattle.sdd_domain_invariant.specs.Codes.{held_slots}
-use Rattle.sdd_domain_invariant.specs.FilledInvariant.{HasRecord}
-use Rattle.sdd_domain_invariant.specs.FractionSteps.{SeatState}
-use Rattle.sdd_domain_invariant.specs.CellSteps.{SwapsOne, ExchangesOne, FreesCell, FreesBare, LearnsCell, FindsCell}
+use Rattle.sdd_domain_invariant.specs.Slots.FilledInvariant.{HasRecord}
+use Rattle.sdd_domain_invariant.specs.Fractions.FractionSteps.{SeatState}
+use Rattle.sdd_domain_invariant.specs.Cells.CellSteps.{SwapsOne, ExchangesOne, FreesCell, FreesBare, LearnsCell, FindsCell}
 use Rattle.sdd_atomics.specs.declared.domain_table.DomainTable.{DomainTable}
 use Rattle.sdd_atomics.specs.DomainTable.{sizes_of}
 
@@ -26,7 +26,7 @@ FitsCell Shared word told = (r : ShownValue) → HasRecord told r → r.shared �
 FitsCell Raw word told = (held_slots word ≡ []) × (told ≡ [])
 FitsCell Collector word told = ⊥
 
--- it has a pledge of the view of the token of the right to a cell, which is for owners of which there may be several, or not
+-- it has a pledge of the view of the seat of the right to a cell, which is for owners of which there may be several, or not
 abbrev pub HasPledgedRight : View → ℕ → Bool → Type 0
 HasPledgedRight v cell shared = (p : Pledge) × (v.pledges.own ≡ p ∷ []) × (p.view ≡ the_row.coded.code (right_to cell (cell_kind shared)))
 
@@ -48,10 +48,10 @@ FreesOwn i me x me' = (cell : ℕ) (shared : Bool) → i ≡ cell_word cell → 
 abbrev pub FreesOwnBare : ℕ → SeatState → ℕ → SeatState → Type 0
 FreesOwnBare i me x me' = (cell : ℕ) → i ≡ cell_word cell → FreesBare cell me x me'
 
--- beside the token of the right to a cell
+-- beside the seat of the right to a cell
 abbrev pub RecallsCell : View → SeatState → SeatState → Type 0
 RecallsCell w me me' = (cell : ℕ) (shared : Bool) → w ≡ right_to cell (cell_kind shared) → LearnsCell cell shared me me'
 
--- beside the token of a right to a cell of any kind
+-- beside the seat of a right to a cell of any kind
 abbrev pub FindsRight : View → SeatState → SeatState → Type 0
 FindsRight w me me' = (cell : ℕ) (kind : CellKind) → w ≡ right_to cell kind → FindsCell cell me me'

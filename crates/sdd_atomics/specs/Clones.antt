@@ -1,4 +1,4 @@
--- One owner more beside the token of one of several
+-- One owner more beside the seat of one of several
 use Rattle.std.specs.Prelude.{◌≡◌, ℕ, true, [], ◌∷◌, ◌+◌, ◌-◌, ◌^◌, ◌%◌, ◌<◌, ◌≤◌, None}
 use base.Stored.{Gv}
 use Rattle.atomic_table.specs.Seated.{TableId}
@@ -10,16 +10,16 @@ use Rattle.sdd_rights.specs.Views.{owner_of}
 use Rattle.sdd_domain_invariant.specs.Words.{slot_word}
 use Rattle.sdd_domain_invariant.specs.Codes.{alive, counted, most_owners, shared_word}
 use Rattle.sdd_domain_invariant.specs.Epoch.{IsLone}
-use Rattle.sdd_domain_invariant.specs.SlotSteps.{Knew, one_more, noted}
+use Rattle.sdd_domain_invariant.specs.Slots.SlotSteps.{Knew, one_more, noted}
 use Rattle.sdd_domain_invariant.specs.DomainInvariant.{DomainInvariant}
-use Rattle.sdd_domain_invariant.specs.FractionSteps.{SeatState, AddsOne, TakesOneBack, OfSlot, owning_more}
+use Rattle.sdd_domain_invariant.specs.Fractions.FractionSteps.{SeatState, AddsOne, TakesOneBack, OfSlot, owning_more}
 use Rattle.sdd_atomics.specs.declared.domain_table.TableLayout.{TableLayout}
 
 -- a word that counts as many owners as may share a slot
 abbrev pub most_word : ℕ
 most_word = shared_word most_owners
 
--- it has a pledge of the view of the token of one of several owners of a slot, which shows this
+-- it has a pledge of the view of the seat of one of several owners of a slot, which shows this
 abbrev pub HasPledged : View → ℕ → Gv → Type 0
 HasPledged v slot value = (p : Pledge) × (v.pledges.own ≡ p ∷ []) × (p.view ≡ the_row.coded.code (owner_of slot true value))
 
@@ -29,9 +29,9 @@ AddsPledged i me x me' = (slot : ℕ) (value : Gv) → i ≡ slot_word me.0.size
 
 -- it may add one to the word i, and take that back where it was to be added past the bound
 abbrev pub MayAdd : ℕ → TableLayout → TableId → ℕ → SeatState → Type 0
-MayAdd i key z id me = (i < z.words) × Allows (DomainInvariant key.title.book key.sizes) z.slots id me i (λ n. (n + 1) % 2 ^ 64) (AddsPledged i me)
+MayAdd i key z id me = (i < z.words) × Allows (DomainInvariant key.values_name.gamma key.sizes) z.slots id me i (λ n. (n + 1) % 2 ^ 64) (AddsPledged i me)
     × ((n : ℕ) (u : SeatState) → AddsPledged i me n u → most_word ≤ n
-    → Allows (DomainInvariant key.title.book key.sizes) z.slots id u i (λ n. (n + (2 ^ 64 - 1)) % 2 ^ 64) (OfSlot TakesOneBack i u))
+    → Allows (DomainInvariant key.values_name.gamma key.sizes) z.slots id u i (λ n. (n + (2 ^ 64 - 1)) % 2 ^ 64) (OfSlot TakesOneBack i u))
 
 -- it did, where it found n
 abbrev pub HasAdded : ℕ → SeatState → ℕ → SeatState → Type 0

@@ -2,9 +2,9 @@
 use Rattle.std.specs.Prelude.{◌≡◌, ℕ, [], ◌∷◌}
 use Rattle.sdd_rights.specs.declared.views.CellKind.TheVariants.{Raw, Collector}
 use Rattle.sdd_domain_invariant.specs.Words.{slot_word}
-use Rattle.sdd_domain_invariant.specs.CollectorWordSteps.{WaitsFor}
-use Rattle.sdd_domain_invariant.specs.FractionSteps.{SeatState, OfSlot}
-use Rattle.sdd_domain_invariant.specs.CollectorSteps.{CollectsOne, LeavesOneToClose, ClosesOne, ClosesNone}
+use Rattle.sdd_domain_invariant.specs.Collectors.CollectorWordSteps.{WaitsFor}
+use Rattle.sdd_domain_invariant.specs.Fractions.FractionSteps.{SeatState, OfSlot}
+use Rattle.sdd_domain_invariant.specs.Collectors.CollectorSteps.{CollectsOne, LeavesOneToClose, ClosesOne, ClosesNone}
 use Rattle.sdd_atomics.specs.Emptying.{collector_named}
 
 -- it begins to close the open collector to whose cell it has the right

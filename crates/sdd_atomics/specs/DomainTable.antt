@@ -1,4 +1,4 @@
--- The words of a domain, and where the stakes in its values lie
+-- The words of a domain, and where the fractions in its values lie
 use Rattle.std.specs.Prelude.{ℕ}
 use Rattle.atomic_table.specs.Seated.{TableId}
 use Rattle.sdd_rights.specs.declared.views.Sizes.{Sizes}
@@ -8,18 +8,18 @@ use Rattle.sdd_atomics.specs.declared.domain_table.TableLayout.{TableLayout}
 
 -- which words they are
 abbrev pub id_of : DomainTable → TableId
-id_of b = b.table.shared.table_id
+id_of b = b.atomic.shared.table_id
 
-abbrev pub plan_of : DomainTable → TableLayout
-plan_of b = b.table.shared.key
+abbrev pub layout_of : DomainTable → TableLayout
+layout_of b = b.atomic.shared.key
 
 -- how many of each there are
 abbrev pub sizes_of : DomainTable → Sizes
-sizes_of b = (plan_of b).sizes
+sizes_of b = (layout_of b).sizes
 
--- of which book the values' places are
-abbrev pub book_of : DomainTable → ℕ
-book_of b = (plan_of b).title.book
+-- of which ghost map the values' places are
+abbrev pub gamma_of : DomainTable → ℕ
+gamma_of b = (layout_of b).values_name.gamma
 
 abbrev pub places_of : DomainTable → ℕ
 places_of b = (sizes_of b).participants

@@ -3,7 +3,7 @@ pub mod DomainTable
 pub mod DomainSeat
 pub mod Owner
 pub mod Counts
-pub mod Grips
+pub mod ReadFractions
 pub mod Clones
 pub mod Cells
 pub mod Emptying

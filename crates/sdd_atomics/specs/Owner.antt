@@ -1,9 +1,9 @@
--- The token of an owner, as it leaves a participant
+-- The seat of an owner, as it leaves a participant
 use Rattle.std.specs.Prelude.{◌≡◌, List, [], ◌∷◌}
 use base.Stored.{Gv}
 use Rattle.sdd_rights.specs.declared.views.View.{View}
 use Rattle.sdd_rights.specs.contracts.views.View.{the_row}
-use Rattle.sdd_domain_invariant.specs.FractionSteps.{departing}
+use Rattle.sdd_domain_invariant.specs.Fractions.FractionSteps.{departing}
 
 -- these are the views of the owner that a participant with this view has cut off
 abbrev pub IsCutOff : View → List Gv → Type 0

@@ -1,11 +1,11 @@
-//! The words of a domain and the stakes in its values, under their rule, and the token that a participant steps with.
+//! The words of a domain and the fractions in its values, under their rule, and the seat that a participant steps with.
 ghost use Rattle.std.specs.Prelude.{◌≡◌, ◌+◌, ◌<◌, ◌≤◌, ℕ, MatchResult};
 ghost use Rattle.sdd_domain_invariant.specs.Words as words;
 ghost use Rattle.sdd_domain_invariant.specs.Words.{all_words};
 ghost use Rattle.sdd_domain_invariant.specs.Codes.{full};
 ghost use Rattle.sdd_domain_invariant.specs.Slots.{slot_at};
 ghost use Rattle.core.specs.Mem.Slots.{slots_items, slots_len, IsFull};
-ghost use Rattle.sdd_domain_invariant.specs.FractionsAtHome.{AreLaid, AreHome};
+ghost use Rattle.sdd_domain_invariant.specs.Fractions.FractionsAtHome.{AreLaid, AreHome};
 ghost use Rattle.sdd_domain_invariant.specs.Counts.{made_by, gone_by, over_by, full_slots};
 ghost use Rattle.sdd_atomics.specs.Sizes.{AreSmall};
 
@@ -17,30 +17,30 @@ use sdd_shared_values::{Bank, Treasury, ValueFraction, ValuesName};
 use sdd_witness::{Books, Ledger};
 use std::alloc::Global;
 
-/// How many of each a domain has, and of which book its values' places are.
+/// How many of each a domain has, and of which ghost map its values' places are.
 #[derive(Drop)]
 pub struct TableLayout {
     pub sizes: Sizes,
-    pub title: ValuesName,
+    pub values_name: ValuesName,
 }
 
-/// The rule that the words and the stakes keep.
+/// The rule that the words and the fractions keep.
 pub struct DomainRule;
 
 impl TableRule<ValueFraction, View, TableLayout> for DomainRule {
-    ghost use Rattle.sdd_domain_invariant.specs.BankInvariant.{founder};
+    ghost use Rattle.sdd_domain_invariant.specs.Fractions.BankInvariant.{founder};
     ghost use Rattle.sdd_domain_invariant.specs.DomainInvariant.{DomainInvariant};
 
-    ghost holds = { λ plan s. DomainInvariant plan.title.book plan.sizes s };
+    ghost holds = { λ layout s. DomainInvariant layout.values_name.gamma layout.sizes s };
 
-    ghost first = { λ plan. founder plan.sizes plan.title.book };
+    ghost first = { λ layout. founder layout.sizes layout.values_name.gamma };
 }
 
 /// How the bank's view tells what it has.
 pub struct Vault;
 
 impl Treasury<View> for Vault {
-    ghost use Rattle.sdd_domain_invariant.specs.BankInvariant as bank;
+    ghost use Rattle.sdd_domain_invariant.specs.Fractions.BankInvariant as bank;
 
     ghost ours = { bank.IsBank };
 
@@ -51,7 +51,7 @@ impl Treasury<View> for Vault {
 pub struct Pledges;
 
 impl Books<View> for Pledges {
-    ghost use Rattle.sdd_domain_invariant.specs.PledgesInvariant as pledges;
+    ghost use Rattle.sdd_domain_invariant.specs.Fractions.PledgesInvariant as pledges;
 
     ghost ours = { pledges.IsLedger };
 
@@ -62,14 +62,15 @@ impl Books<View> for Pledges {
     ghost freeing = { pledges.freeing };
 }
 
-/// What a participant knows of the words, and the stakes that it has out.
+/// What a participant knows of the words, and the fractions that it has out.
 pub type DomainSeat = Seat<ValueFraction, View>;
 
-/// The words of a domain, and the homes of the stakes in its values.
+/// The words of a domain, and the homes of the fractions in its values.
 #[derive(Drop)]
 pub struct DomainTable {
-    pub table: Table<ValueFraction, View, TableLayout, DomainRule, Global>,
-    /// What is of the values that lie in slots, and neither in their stakes nor with their owners.
+    /// The words, under their rule.
+    pub atomic: Table<ValueFraction, View, TableLayout, DomainRule, Global>,
+    /// What is of the values that lie in slots, and neither in their fractions nor with their owners.
     pub bank: Bank<View, TableLayout, DomainRule, Vault>,
     /// Shares of the views of owners, beside which another owner comes.
     pub ledger: Ledger<ValueFraction, View, TableLayout, DomainRule, Pledges>,
@@ -80,44 +81,44 @@ pub struct DomainTable {
     first_place: usize,
     /// Where the slots' words begin.
     first_slot: usize,
-    ghost sized: { AreSmall table.shared.key.sizes × (table.shared.table_id.words ≡ all_words table.shared.key.sizes) },
-    ghost banked: { (bank.table_id ≡ table.shared.table_id) × (bank.key ≡ table.shared.key) },
-    ghost ledgered: { (ledger.table_id ≡ table.shared.table_id) × (ledger.key ≡ table.shared.key) },
-    ghost placed: { (places ≡ table.shared.key.sizes.participants) × (first_pointer ≡ words.pointer_word table.shared.key.sizes 0)
-        × (first_place ≡ words.state_word table.shared.key.sizes 0)
-        × (first_slot ≡ words.first_slot table.shared.key.sizes) },
+    ghost sized: { AreSmall atomic.shared.key.sizes × (atomic.shared.table_id.words ≡ all_words atomic.shared.key.sizes) },
+    ghost banked: { (bank.table_id ≡ atomic.shared.table_id) × (bank.key ≡ atomic.shared.key) },
+    ghost ledgered: { (ledger.table_id ≡ atomic.shared.table_id) × (ledger.key ≡ atomic.shared.key) },
+    ghost placed: { (places ≡ atomic.shared.key.sizes.participants) × (first_pointer ≡ words.pointer_word atomic.shared.key.sizes 0)
+        × (first_place ≡ words.state_word atomic.shared.key.sizes 0)
+        × (first_slot ≡ words.first_slot atomic.shared.key.sizes) },
 }
 
 impl DomainTable {
-    ghost use Rattle.sdd_atomics.specs.DomainTable.{id_of, plan_of, sizes_of, book_of, places_of};
+    ghost use Rattle.sdd_atomics.specs.DomainTable.{id_of, layout_of, sizes_of, gamma_of, places_of};
 
-    /// The words of a domain of these sizes, as they are before anybody takes part, with all stakes at home.
+    /// The words of a domain of these sizes, as they are before anybody takes part, with all fractions at home.
     ///
-    /// Where memory is wanting the stakes come back.
+    /// Where memory is wanting the fractions come back.
     pub fn new(
         alloc: Global,
-        plan: &TableLayout,
+        layout: &TableLayout,
         laid: Vec<ValueFraction>,
     ) -> Result<DomainTable, Vec<ValueFraction>>
-        requires small { AreSmall plan.now.sizes }
-        requires laid { AreLaid plan.now.title.book plan.now.sizes.participants plan.now.sizes.slots laid.items }
-        ensures { MatchResult result (λ board. plan_of board ≡ plan.now) (λ back. back.items ≡ laid.items) }
+        requires small { AreSmall layout.now.sizes }
+        requires laid { AreLaid layout.now.values_name.gamma layout.now.sizes.participants layout.now.sizes.slots laid.items }
+        ensures { MatchResult result (λ table. layout_of table ≡ layout.now) (λ back. back.items ≡ laid.items) }
     {
-        let Ok(words) = vec![in alloc; 0u64; word_count(&plan.sizes) as usize] else {
+        let Ok(words) = vec![in alloc; 0u64; word_count(&layout.sizes) as usize] else {
             return Err(laid);
         };
-        match Table::new(alloc, words.as_slice(), laid, plan) {
-            Ok((table, mut seat)) => {
-                let bank = Bank::found::<Found>(&table.shared, &mut seat);
-                let ledger = Ledger::found::<FoundLedger>(&table.shared, &mut seat);
+        match Table::new(alloc, words.as_slice(), laid, layout) {
+            Ok((atomic, mut seat)) => {
+                let bank = Bank::found::<Found>(&atomic.shared, &mut seat);
+                let ledger = Ledger::found::<FoundLedger>(&atomic.shared, &mut seat);
                 Ok(DomainTable {
-                    table,
+                    atomic,
                     bank,
                     ledger,
-                    places: plan.sizes.participants as usize,
-                    first_pointer: first_pointer(&plan.sizes) as usize,
-                    first_place: first_place(&plan.sizes) as usize,
-                    first_slot: first_slot(&plan.sizes) as usize,
+                    places: layout.sizes.participants as usize,
+                    first_pointer: first_pointer(&layout.sizes) as usize,
+                    first_place: first_place(&layout.sizes) as usize,
+                    first_slot: first_slot(&layout.sizes) as usize,
                 })
             }
             Err(Refused { slots }) => Err(slots),
@@ -187,20 +188,20 @@ impl DomainTable {
         self.places
     }
 
-    /// The words and the stakes, by a token that knows that all places are barred: all stakes lie in their homes.
+    /// The words and the fractions, by a seat that knows that all places are barred: all fractions lie in their homes.
     /// Where it has the counts of all places, what was made has gone or lies in a slot. A slot that it knows to be quiet is free.
-    pub fn close(self, token: DomainSeat) -> Closed<ValueFraction, Global>
-        requires home { token.table_id ≡ id_of self }
-        requires ended { places_of self ≤ token.me.0.places.ended }
-        ensures home { AreHome (book_of self) (sizes_of self) (slots_len result.slots) result }
-        ensures places { over_by token.me.0 ≤ places_of self }
-        ensures counted { over_by token.me.0 ≡ places_of self
-            → made_by token.me.0 ≡ gone_by token.me.0 + full_slots (sizes_of self) (slots_items result.words) }
-        ensures quiet { (i : ℕ) → i < token.me.0.places.quiet → full (slot_at (sizes_of self) (slots_items result.words) i) ≡ 0 }
+    pub fn close(self, seat: DomainSeat) -> Closed<ValueFraction, Global>
+        requires home { seat.table_id ≡ id_of self }
+        requires ended { places_of self ≤ seat.me.0.places.ended }
+        ensures home { AreHome (gamma_of self) (sizes_of self) (slots_len result.slots) result }
+        ensures places { over_by seat.me.0 ≤ places_of self }
+        ensures counted { over_by seat.me.0 ≡ places_of self
+            → made_by seat.me.0 ≡ gone_by seat.me.0 + full_slots (sizes_of self) (slots_items result.words) }
+        ensures quiet { (i : ℕ) → i < seat.me.0.places.quiet → full (slot_at (sizes_of self) (slots_items result.words) i) ≡ 0 }
         ensures words { (slots_len result.words ≡ all_words (sizes_of self)) × IsFull result.words }
     {
         let DomainTable {
-            table,
+            atomic,
             bank: _,
             ledger: _,
             places: _,
@@ -208,6 +209,6 @@ impl DomainTable {
             first_place: _,
             first_slot: _,
         } = self;
-        table.close_with(token)
+        atomic.close_with(seat)
     }
 }

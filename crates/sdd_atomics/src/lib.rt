@@ -1,10 +1,10 @@
-//! The words of a domain and the stakes in its values under their rule, and each atomic step on them as one function.
+//! The words of a domain and the fractions in its values under their rule, and each atomic step on them as one function.
 #![tactic(auto)]
 
 mod clones;
 pub mod domain_table;
-pub mod grips;
 mod plays;
+pub mod read_fractions;
 pub mod steps;
 pub mod words;
 

@@ -1,17 +1,17 @@
 //! What each step tells.
 ghost use Rattle.std.specs.Prelude.{[], true, false};
-ghost use Rattle.sdd_domain_invariant.specs.EpochSteps.{Registers, Reads, Counts, Locks, LooksAtLock, LooksAtState, LooksAtCount, Advances, Unlocks};
-ghost use Rattle.sdd_domain_invariant.specs.SlotSteps.{OnEpoch, PublishesAll, LooksAtSlot, TakesHold, LetsGo, TriesHold, SharesAgain, LooksForGuard, AtSlot};
-ghost use Rattle.sdd_domain_invariant.specs.CellWordSteps.{LooksAtPointer, SwapsPointer, ExchangesPointer};
-ghost use Rattle.sdd_domain_invariant.specs.Barred.{Bars, LooksForValue};
-ghost use Rattle.sdd_rights.specs.Views.{owner_token};
-ghost use Rattle.sdd_domain_invariant.specs.BankInvariant.{founded, bank_of, with_ledger, ledger_of};
-ghost use Rattle.sdd_domain_invariant.specs.FractionSteps.{ClaimsAll, TakesOut, TakesHeld, IsDeposit, RetiresOne, GivesAll, DefersJob, GivesPlace, DiscardsAll, ClosesHome, EndsAll, EntersUnit, OfSlot, parting, departing, regained, uncounting, counts_of, counting, ReleasesOne, LeavesOne, TakesOneBack, DrawsUnit, AddsSeen};
+ghost use Rattle.sdd_domain_invariant.specs.Epoch.EpochSteps.{Registers, Reads, Counts, Locks, LooksAtLock, LooksAtState, LooksAtCount, Advances, Unlocks};
+ghost use Rattle.sdd_domain_invariant.specs.Slots.SlotSteps.{OnEpoch, PublishesAll, LooksAtSlot, TakesHold, LetsGo, TriesHold, SharesAgain, LooksForGuard, AtSlot};
+ghost use Rattle.sdd_domain_invariant.specs.Cells.CellWordSteps.{LooksAtPointer, SwapsPointer, ExchangesPointer};
+ghost use Rattle.sdd_domain_invariant.specs.Epoch.Barred.{Bars, LooksForValue};
+ghost use Rattle.sdd_rights.specs.Views.{owner_seat};
+ghost use Rattle.sdd_domain_invariant.specs.Fractions.BankInvariant.{founded, bank_of, with_ledger, ledger_of};
+ghost use Rattle.sdd_domain_invariant.specs.Fractions.FractionSteps.{ClaimsAll, TakesOut, TakesHeld, IsDeposit, RetiresOne, GivesAll, DefersJob, GivesPlace, DiscardsAll, ClosesHome, EndsAll, EntersUnit, OfSlot, parting, departing, regained, uncounting, counts_of, counting, ReleasesOne, LeavesOne, TakesOneBack, DrawsUnit, AddsSeen};
 ghost use Rattle.sdd_domain_invariant.specs.Codes.{raw_word};
-ghost use Rattle.sdd_domain_invariant.specs.CollectorSteps.{ReclaimsOne, TakesPrivate, EmptiedOne, GivesOneEmptyBack, GivesOneOwnBack, EmptiesOne, EmptiesOwnOne, GivesOnePrivateBack};
-ghost use Rattle.sdd_domain_invariant.specs.RawSteps.{TurnsRawOne, RegainsOne, SeesRawOne};
+ghost use Rattle.sdd_domain_invariant.specs.Collectors.CollectorSteps.{ReclaimsOne, TakesPrivate, EmptiedOne, GivesOneEmptyBack, GivesOneOwnBack, EmptiesOne, EmptiesOwnOne, GivesOnePrivateBack};
+ghost use Rattle.sdd_domain_invariant.specs.Raw.RawSteps.{TurnsRawOne, RegainsOne, SeesRawOne};
 ghost use Rattle.sdd_rights.specs.declared.views.CellKind.TheVariants.{Owned as for_owned, Shared as for_shared, Raw as for_raw};
-ghost use Rattle.sdd_domain_invariant.specs.CellSteps.{ClaimsCell, FillsBare, LooksInCell, RetagsOne, SwapsBare, SeesInCell, OfCell, FindsPointer, OfPointer, rightless, rights_of, righted};
+ghost use Rattle.sdd_domain_invariant.specs.Cells.CellSteps.{ClaimsCell, FillsBare, LooksInCell, RetagsOne, SwapsBare, SeesInCell, OfCell, FindsPointer, OfPointer, rightless, rights_of, righted};
 ghost use Rattle.sdd_atomics.specs.Cells.{SwapsPledged, ExchangesPledged, FreesOwn, FreesOwnBare, RecallsCell, FindsRight};
 ghost use Rattle.sdd_atomics.specs.Clones.{AddsPledged};
 ghost use Rattle.sdd_atomics.specs.Emptying.{collector_named};
@@ -490,7 +490,7 @@ pub struct JoinOwner;
 impl Join<View> for JoinOwner {
     ghost both = { regained };
 
-    ghost spent = { owner_token [] };
+    ghost spent = { owner_seat [] };
 }
 
 pub struct CutCounts;
@@ -506,7 +506,7 @@ pub struct TakeCounts;
 impl Join<View> for TakeCounts {
     ghost both = { counting };
 
-    ghost spent = { owner_token [] };
+    ghost spent = { owner_seat [] };
 }
 
 pub struct CutRight;
@@ -522,5 +522,5 @@ pub struct JoinRight;
 impl Join<View> for JoinRight {
     ghost both = { righted };
 
-    ghost spent = { owner_token [] };
+    ghost spent = { owner_seat [] };
 }

@@ -8,7 +8,7 @@ use Rattle.std.proofs.lemmas.List.{length-map}
 use Rattle.std.proofs.Math.Nat.{suc-mul}
 use Rattle.sdd_bag.specs.Storage.{AreCounted, KeptPlace, followed, names_of, value_at, values_in, with_value_at}
 use Rattle.sdd_bag.specs.Changing.{ChangesEach, ChangesFirst, ChangesIfSome}
-use Rattle.sdd_bag.proofs.Kept.{get-inside, not-there}
+use Rattle.sdd_bag.proofs.InsertedKeys.{get-inside, not-there}
 use Rattle.sdd_bag.proofs.Prefixes.{as-long}
 
 times-few : (n len : ℕ) → len ≤ 32 → n * len ≤ n * 32
@@ -85,7 +85,12 @@ module _ {F T : Type 0} (calls : Mut F (MutBor T × Unit {0}) (Unit {0} × (MutB
         ps,
         ap (λ (rs : List (KeptPlace T)). with_value_at rs zero (Some w)) changed.0,
         h,
-        subst (λ (o : Option T). ChangesIfSome calls f o (Some w) h) (sym here) (w, refl, subst (λ (e : F). CalledAtMut calls e v tt h w) (sym changed.1) called),
+        subst (λ (o : Option T). ChangesIfSome calls f o (Some w) h) (sym here) (
+          w,
+          refl,
+          subst (λ (e : F). CalledAtMut calls e v tt h w)
+              (sym changed.1) called,
+        ),
         none-changed h ps,
       )
   one-changed (suc n) f (p ∷ ps) qs g v w h changed there called = (

@@ -8,16 +8,16 @@ use Rattle.std.proofs.lemmas.List.{length-append, length-drop, length-map, lengt
 use Rattle.sdd_bag.specs.Storage.{AreEmpty, AreFullBehind, KeptPlace, names_of, value_at, values_in}
 use Rattle.sdd_bag.proofs.Prefixes.{value-drop, values-front, values-full}
 use Rattle.sdd_bag.proofs.Values.{all-empty, few-in}
-use Rattle.sdd_space.specs.World.{World}
+use Rattle.sdd_world_model.specs.World.{World}
 use Rattle.sdd_lists.specs.declared.linked_entry.LinkedEntry.{LinkedEntry}
 use Rattle.sdd_lists.specs.Lists.{Entry}
 use Rattle.sdd_bag.specs.Storages.{StorageName}
 use Rattle.sdd_bag.specs.Values.{AreInSomeOrder, HasOneMore}
-use Rattle.sdd_bag.proofs.Orders.{one-longer}
+use Rattle.sdd_bag.proofs.OneMore.{one-longer}
 use Rattle.sdd_bag.specs.Closing.{RemovesIfLast}
 use Rattle.sdd_bag.specs.Overflow.{AreShelves, LiesOn, RemovesStorage, places_in, places_on}
 use Rattle.sdd_bag.specs.Bag.{BagParts, IsBag, overflow_of}
-use Rattle.sdd_bag.proofs.Emptying.{used-there}
+use Rattle.sdd_bag.proofs.EmptiedBag.{used-there}
 
 not-above : (n q m len : ℕ) → n * len < m + len → m ≤ q * len → n ≤ q
 not-above n q m len less most = by-cases n q (λ fewer. let e = mul-le-mul_right len fewer in absurd (omega (arith, e, suc-mul q len, less, most)))

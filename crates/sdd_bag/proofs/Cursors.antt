@@ -3,7 +3,7 @@ use Rattle.std.proofs.Common.{◌≡◌, ℕ, suc, ◌+◌, ◌^◌, ◌<◌, �
 use Rattle.std.specs.Prelude.{IfSome, IsTrue, MatchOption}
 use Rattle.std.specs.Borrow.{Bor, MutBor}
 use Rattle.sdd_space.specs.CallerId.{CallerId, IsExact}
-use Rattle.sdd_space.specs.World.{World}
+use Rattle.sdd_world_model.specs.World.{World}
 use Rattle.sdd_lists.specs.declared.iter.Iter.{Iter}
 use Rattle.sdd_lists.specs.declared.linked_entry.LinkedEntry.{LinkedEntry}
 use Rattle.sdd_lists.specs.Entries.{value_of}
@@ -20,11 +20,11 @@ use Rattle.sdd_bag.specs.Bag.{BagParts, HasSameCells, IsBag, primary_of, values_
 use Rattle.sdd_bag.specs.Lent.{TakesOut}
 use Rattle.sdd_bag.specs.Spots.{GoesOn, HasFirst, IsInOrder, StandsIn, places_of, start_behind, start_of, values_before, whole_at, with_places}
 use Rattle.sdd_bag.specs.IterMut.{Ends, HasHere, IsCursor, IsLent, IsPassed, Lends, Rests, bag_name, given, passed, space_in, whole}
-use Rattle.sdd_bag.proofs.Entering.{all-passed-by, count-next, first-next, here-next, stands-next}
-use Rattle.sdd_bag.proofs.Gaps.{names-back}
+use Rattle.sdd_bag.proofs.NextStorage.{all-passed-by, count-next, first-next, here-next, stands-next}
+use Rattle.sdd_bag.proofs.LentValues.{names-back}
 use Rattle.sdd_bag.proofs.Lent.{Next, keys-behind, next-shelf, none-next}
 use Rattle.sdd_bag.proofs.Spots.{with-own}
-use Rattle.sdd_bag.proofs.Whole.{at-bag, at-cells, at-first, at-inside, at-lies, at-next, at-now, at-order, at-was, names-behind, names-left, stands-kept, whole-lent, with_at}
+use Rattle.sdd_bag.proofs.BagAfterCursor.{at-bag, at-cells, at-first, at-inside, at-lies, at-next, at-now, at-order, at-was, names-behind, names-left, stands-kept, whole-lent, with_at}
 
 module _ {T B : Type 0} where
   -- the names of the places behind stay where a value comes back
@@ -34,7 +34,7 @@ module _ {T B : Type 0} where
   whole-names (Some b) gap at None bag = refl
   whole-names (Some b) gap at (Some v) bag = names-back gap (b.start + at) v bag.overflow.places
 
-module _ {T B S : Type 0} {len : ℕ} (shown : B → Option StorageName) (seat : S → CallerId) (world : S → World (LinkedEntry B)) where
+module _ {T B S : Type 0} {len : ℕ} (shown : B → Option StorageName) (caller : S → CallerId) (world : S → World (LinkedEntry B)) where
   room-passed : (old : IterMut T len B S) (held : Option T) → IfSome held (λ v. IsLent old) → old.at ≤ len → passed old.at held ≤ len
   room-passed old None lent room = room
   room-passed old (Some v) lent room = omega (arith, lent.inside)
@@ -45,8 +45,8 @@ module _ {T B S : Type 0} {len : ℕ} (shown : B → Option StorageName) (seat :
       record { bag = bag; shelves = old.shelves; behind = old.behind; at = at; gap = gap; held = None; fits = fits }
 
   -- the value that was lent is back
-  pub rests : (old : IterMut T len B S) (bag : MutBor (BagParts T B)) (gap at : ℕ) (fits : Fits T len B) → IsCursor shown seat world old
-      → bag.ghost_name ≡ bag_name old → bag.now ≡ whole old → at ≡ passed old.at old.held → Rests shown seat world old (rested old bag gap at fits)
+  pub rests : (old : IterMut T len B S) (bag : MutBor (BagParts T B)) (gap at : ℕ) (fits : Fits T len B) → IsCursor shown caller world old
+      → bag.ghost_name ≡ bag_name old → bag.now ≡ whole old → at ≡ passed old.at old.held → Rests shown caller world old (rested old bag gap at fits)
   rests old bag gap at fits is name now next =
       let b = old.behind in let w = world (space_in old) in
       let own : with_places b (places_of b bag.now) bag.now ≡ whole old = with-own b bag.now ∙ now in
@@ -81,11 +81,12 @@ module _ {T B S : Type 0} {len : ℕ} (shown : B → Option StorageName) (seat :
             ∙ ap (λ (x : BagParts T B). values_before b (passed old.at old.held) x) own;
       }
 
-  pub rests-held : (old : IterMut T len B S) (bag : MutBor (BagParts T B)) (gap at : ℕ) (held : Option T) (fits : Fits T len B) → IsCursor shown seat world old
+  pub rests-held : (old : IterMut T len B S) (bag : MutBor (BagParts T B)) (gap at : ℕ) (held : Option T) (fits : Fits T len B)
+      → IsCursor shown caller world old
       → bag.ghost_name ≡ bag_name old → bag.now ≡ whole old → at ≡ passed old.at old.held → held ≡ None
-      → Rests shown seat world old (record (rested old bag gap at fits) { held = held })
+      → Rests shown caller world old (record (rested old bag gap at fits) { held = held })
   rests-held old bag gap at held fits is name now next none =
-      subst (λ (h : Option T). Rests shown seat world old (record (rested old bag gap at fits) { held = h })) (sym none)
+      subst (λ (h : Option T). Rests shown caller world old (record (rested old bag gap at fits) { held = h })) (sym none)
       (rests old bag gap at fits is name now next)
 
   -- a value is lent
@@ -98,7 +99,7 @@ module _ {T B S : Type 0} {len : ℕ} (shown : B → Option StorageName) (seat :
   stepped old after b at held =
       record { bag = old.bag; shelves = after; behind = b; at = at; gap = old.gap; held = held; fits = old.fits }
 
-  module _ (old : IterMut T len B S) (is : IsCursor shown seat world old) (none : old.held ≡ None) where
+  module _ (old : IterMut T len B S) (is : IsCursor shown caller world old) (none : old.held ≡ None) where
     pub whole-old : whole old ≡ old.bag.now
     whole-old = ap (λ (h : Option T). whole_at old.behind old.gap old.at h old.bag.now) none ∙ with-own old.behind old.bag.now
 
@@ -112,7 +113,7 @@ module _ {T B S : Type 0} {len : ℕ} (shown : B → Option StorageName) (seat :
         → bag.now ≡ with_places old.behind (places_of old.behind bag.now) old.bag.now
         → names_of (places_of old.behind bag.now) ≡ names_of (places_of old.behind old.bag.now) → start_of old.behind < 2 ^ 120 → old.at < len
         → TakesOut len gap (start_of old.behind + old.at) v (places_of old.behind old.bag.now) (places_of old.behind bag.now)
-        → (w : T) → Lends shown seat world v w old (lending old bag gap w fits)
+        → (w : T) → Lends shown caller world v w old (lending old bag gap w fits)
     lends bag gap v fits name rest names few inside out w =
         let b = old.behind in let was = old.bag.now in let i = start_of b + old.at in let sp = world (space_in old) in
         let new : BagParts T B = with_at b i w was in
@@ -161,15 +162,15 @@ module _ {T B S : Type 0} {len : ℕ} (shown : B → Option StorageName) (seat :
 
     -- it goes on to another storage, or asks for one in vain
     pub goes : (after : Iter B S) (b : Option (Behind B)) (at : ℕ) (es : List (Entry (LinkedEntry B))) → after.space ≡ old.shelves.space
-        → IsIterOf (seat (space_of after)).home.slots after → StandsIn shown len b old.bag.now → HasFirst len b old.bag.now → at ≤ len
+        → IsIterOf (caller (space_of after)).home.slots after → StandsIn shown len b old.bag.now → HasFirst len b old.bag.now → at ≤ len
         → AreShelves shown len (world (space_in old)) es → GivesInOrder (world (space_in old)) after (shown_of es)
         → names_of (drop (start_behind len b) old.bag.now.overflow.places) ≡ places_on shown len es
         → values_before b at old.bag.now ≡ values_before old.behind old.at old.bag.now
-        → (held : Option T) → held ≡ None → Rests shown seat world old (stepped old after b at held)
+        → (held : Option T) → held ≡ None → Rests shown caller world old (stepped old after b at held)
     goes after b at es space can stands first room shelves gives keys count held none' =
         let bag = old.bag.now in let now : space_of after ≡ space_in old = ap (λ (r : Bor S). r.now) space in
         let own : with_places b (places_of b bag) bag ≡ whole old = with-own b bag ∙ sym whole-old in
-        subst (λ (h : Option T). Rests shown seat world old (stepped old after b at h)) (sym none')
+        subst (λ (h : Option T). Rests shown caller world old (stepped old after b at h)) (sym none')
         (record {
           same = record {
             bag = refl;
@@ -178,7 +179,7 @@ module _ {T B S : Type 0} {len : ℕ} (shown : B → Option StorageName) (seat :
               bag = subst (λ (s : S). IsBag shown len (world s) (with_places b (places_of b bag) bag)) (sym now)
                   (subst (λ (x : BagParts T B). IsBag shown len (world (space_in old)) x) (sym own) is.bag);
               order = subst (λ (x : BagParts T B). IsInOrder len x) (sym own) is.order;
-              exact = subst (λ (s : S). IsExact (seat s)) (sym now) is.exact;
+              exact = subst (λ (s : S). IsExact (caller s)) (sym now) is.exact;
               can = can;
               stands = stands;
               first = subst (λ (x : BagParts T B). HasFirst len b x) (sym (with-own b bag)) first;
@@ -210,7 +211,7 @@ module _ {T B S : Type 0} {len : ℕ} (shown : B → Option StorageName) (seat :
 
     module _ (after : Iter B S) (passed-by : IsPassed old) where
       -- no storage is left
-      pub ends : GoesInOrder seat world old.shelves None after → Rests shown seat world old (stepped old after old.behind old.at old.held)
+      pub ends : GoesInOrder caller world old.shelves None after → Rests shown caller world old (stepped old after old.behind old.at old.held)
           × (given old ≡ length (values_of (whole old)))
       ends steps =
           let es = is.left.0 in let left = is.left.1 in let w = world (space_in old) in
@@ -222,7 +223,7 @@ module _ {T B S : Type 0} {len : ℕ} (shown : B → Option StorageName) (seat :
                 ∙ ap (λ (x : BagParts T B). length (values_of x)) (sym whole-old),
           )
 
-      module _ (shelf : Bor B) (steps : GoesInOrder seat world old.shelves (Some shelf) after) where
+      module _ (shelf : Bor B) (steps : GoesInOrder caller world old.shelves (Some shelf) after) where
         abbrev w : World (LinkedEntry B)
         w = world (space_in old)
 
@@ -243,7 +244,7 @@ module _ {T B S : Type 0} {len : ℕ} (shown : B → Option StorageName) (seat :
           goes-on = subst (λ (x : B). GoesOn len old.behind x b) (sym next.value) on
 
           -- it goes on to the next one
-          pub enters : Rests shown seat world old (stepped old after (Some b) 0 old.held)
+          pub enters : Rests shown caller world old (stepped old after (Some b) 0 old.held)
           enters =
               goes after (Some b) 0 next.rest steps.space (steps.home is.can)
               (stands-next shown len w old.bag.now order-old next.first next.rest are old.behind b goes-on lies is.stands)
@@ -261,7 +262,7 @@ module _ {T B S : Type 0} {len : ℕ} (shown : B → Option StorageName) (seat :
           }
 
   -- one step after another
-  pub rests-on : (a b c : IterMut T len B S) → Rests shown seat world a b → Rests shown seat world b c → Rests shown seat world a c
+  pub rests-on : (a b c : IterMut T len B S) → Rests shown caller world a b → Rests shown caller world b c → Rests shown caller world a c
   rests-on a b c one two = record {
     same = record { bag = two.same.bag ∙ one.same.bag; space = two.same.space ∙ one.same.space; cursor = two.same.cursor };
     none = two.none;
@@ -269,7 +270,7 @@ module _ {T B S : Type 0} {len : ℕ} (shown : B → Option StorageName) (seat :
     as_many = two.as_many ∙ one.as_many;
   }
 
-  pub lends-on : (a b c : IterMut T len B S) (v w : T) → Rests shown seat world a b → Lends shown seat world v w b c → Lends shown seat world v w a c
+  pub lends-on : (a b c : IterMut T len B S) (v w : T) → Rests shown caller world a b → Lends shown caller world v w b c → Lends shown caller world v w a c
   lends-on a b c v w one two = record {
     same = record { bag = two.same.bag ∙ one.same.bag; space = two.same.space ∙ one.same.space; cursor = two.same.cursor };
     one_more = two.one_more ∙ ap suc one.as_many;
@@ -289,43 +290,43 @@ module _ {T B S : Type 0} {len : ℕ} (shown : B → Option StorageName) (seat :
   -- what a step answers, as the value that is lent
   abbrev pub Moves : IterMut T len B S → IterMut T len B S → Type 0
   Moves a q =
-      MatchOption q.held (Ends shown seat world a q)
-      (λ v. (w : T) → Lends shown seat world v w a (record q { held = Some w }))
+      MatchOption q.held (Ends shown caller world a q)
+      (λ v. (w : T) → Lends shown caller world v w a (record q { held = Some w }))
 
-  pub moves-lent : (a b q : IterMut T len B S) → Rests shown seat world a b
-      → (v : T) × (q.held ≡ Some v) × ((w : T) → Lends shown seat world v w b (record q { held = Some w })) → Moves a q
+  pub moves-lent : (a b q : IterMut T len B S) → Rests shown caller world a b
+      → (v : T) × (q.held ≡ Some v) × ((w : T) → Lends shown caller world v w b (record q { held = Some w })) → Moves a q
   moves-lent a b q one lent =
-      subst (λ (h : Option T). MatchOption h (Ends shown seat world a q) (λ v. (w : T) → Lends shown seat world v w a (record q { held = Some w })))
+      subst (λ (h : Option T). MatchOption h (Ends shown caller world a q) (λ v. (w : T) → Lends shown caller world v w a (record q { held = Some w })))
       (sym lent.1) (λ w. lends-on a b (record q { held = Some w }) lent.0 w one (lent.2 w))
 
-  pub moves-none : (a q : IterMut T len B S) → Rests shown seat world a q → given a ≡ length (values_of (whole a)) → Moves a q
+  pub moves-none : (a q : IterMut T len B S) → Rests shown caller world a q → given a ≡ length (values_of (whole a)) → Moves a q
   moves-none a q rests all =
-      subst (λ (h : Option T). MatchOption h (Ends shown seat world a q) (λ v. (w : T) → Lends shown seat world v w a (record q { held = Some w })))
+      subst (λ (h : Option T). MatchOption h (Ends shown caller world a q) (λ v. (w : T) → Lends shown caller world v w a (record q { held = Some w })))
       (sym rests.none) (record { rests = rests; all = all })
 
-  pub given-all : (a b : IterMut T len B S) → Rests shown seat world a b → given b ≡ length (values_of (whole b)) → given a ≡ length (values_of (whole a))
+  pub given-all : (a b : IterMut T len B S) → Rests shown caller world a b → given b ≡ length (values_of (whole b)) → given a ≡ length (values_of (whole a))
   given-all a b one all = sym one.as_many ∙ all ∙ ap (λ (x : BagParts T B). length (values_of x)) one.bag
 
   -- a place that has a value isn't passed
   pub not-passed : (a : IterMut T len B S) → HasHere a → IsPassed a → ⊥
   not-passed a here none = let never : true ≡ false = sym here.full ∙ none a.at (omega arith) here.inside in absurd (cc)
 
-  pub moves-second : (a b q : IterMut T len B S) (r : Bool) → Rests shown seat world a b → HasHere b
-      → (IsTrue r → (v : T) × (q.held ≡ Some v) × ((w : T) → Lends shown seat world v w b (record q { held = Some w })))
+  pub moves-second : (a b q : IterMut T len B S) (r : Bool) → Rests shown caller world a b → HasHere b
+      → (IsTrue r → (v : T) × (q.held ≡ Some v) × ((w : T) → Lends shown caller world v w b (record q { held = Some w })))
       → (r ≡ false → IsPassed b) → Moves a q
   moves-second a b q true one here lent none = moves-lent a b q one (lent refl)
   moves-second a b q false one here lent none = absurd (not-passed b here (none refl))
 
   -- a cursor that has given nothing
-  pub begins : (bag : MutBor (BagParts T B)) (shelves : Iter B S) (fits : Fits T len B) (s : S) → space_of shelves ≡ s → IsExact (seat s)
-      → IsIterOf (seat s).home.slots shelves → IsBag shown len (world s) bag.now → IsInOrder len bag.now
+  pub begins : (bag : MutBor (BagParts T B)) (shelves : Iter B S) (fits : Fits T len B) (s : S) → space_of shelves ≡ s → IsExact (caller s)
+      → IsIterOf (caller s).home.slots shelves → IsBag shown len (world s) bag.now → IsInOrder len bag.now
       → ((es : List (Entry (LinkedEntry B))) → LiesOn shown len (world s) es bag.now.overflow → GivesInOrder (world s) shelves (shown_of es))
-      → IsCursor shown seat world (record { bag = bag; shelves = shelves; behind = None; at = 0; gap = 0; held = None; fits = fits })
+      → IsCursor shown caller world (record { bag = bag; shelves = shelves; behind = None; at = 0; gap = 0; held = None; fits = fits })
   begins bag shelves fits s space exact can is order gives = record {
     bag = subst (λ (x : S). IsBag shown len (world x) bag.now) (sym space) is;
     order = order;
-    exact = subst (λ (x : S). IsExact (seat x)) (sym space) exact;
-    can = subst (λ (x : S). IsIterOf (seat x).home.slots shelves) (sym space) can;
+    exact = subst (λ (x : S). IsExact (caller x)) (sym space) exact;
+    can = subst (λ (x : S). IsIterOf (caller x).home.slots shelves) (sym space) can;
     stands = tt;
     first = tt;
     room = omega arith;

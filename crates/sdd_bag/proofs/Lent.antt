@@ -2,20 +2,20 @@
 use Rattle.std.proofs.Common.{◌≡◌, ℕ, zero, suc, ◌+◌, ◌≤◌, List, [], ◌∷◌, ◌++◌, Option, None, Some, length, drop, is_some, slice_get, refl, sym, ap, ◌∙◌, subst, arith}
 use Rattle.std.proofs.Math.Seq.{drop-append_seam}
 use Rattle.std.proofs.lemmas.List.{length-drop, length-map}
-use Rattle.sdd_space.specs.World.{World}
+use Rattle.sdd_world_model.specs.World.{World}
 use Rattle.sdd_lists.specs.declared.linked_entry.LinkedEntry.{LinkedEntry}
 use Rattle.sdd_lists.specs.Entries.{value_of}
 use Rattle.sdd_lists.specs.Lists.{Entry}
 use Rattle.sdd_lists.specs.Walk.{shown_of}
 use Rattle.sdd_lists.specs.declared.stack.Stack.{Stack}
 use Rattle.sdd_lists.specs.Stack.{IsStack, cell_in}
-use Rattle.sdd_lists.proofs.Walking.{shown-first, shown-left}
+use Rattle.sdd_lists.proofs.WalkPositions.{shown-first, shown-left}
 use Rattle.sdd_bag.specs.KeyedPlaces.{PlaceName}
 use Rattle.sdd_bag.specs.Storage.{KeptPlace, names_of, value_at}
 use Rattle.sdd_bag.specs.Storages.{StorageName}
 use Rattle.sdd_bag.specs.Overflow.{AreShelves, KeepsPlaces, LiesOn, OverflowParts}
-use Rattle.sdd_bag.proofs.Kept.{map-drop, not-there, same-there}
-use Rattle.sdd_bag.proofs.Lying.{plain-left}
+use Rattle.sdd_bag.proofs.InsertedKeys.{map-drop, not-there, same-there}
+use Rattle.sdd_bag.proofs.StackStorages.{plain-left}
 use Rattle.sdd_bag.proofs.Prefixes.{as-long}
 
 module _ {A : Type 0} where

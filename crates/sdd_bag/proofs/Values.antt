@@ -4,7 +4,7 @@ use mathlib.Core.Bool.{Bool, true, false}
 use Rattle.sdd_bag.specs.KeyedPlaces.{PlaceName}
 use Rattle.sdd_bag.specs.Storage.{AreEmpty, KeptPlace, followed, names_of, value_at, values_in, with_value_at}
 use Rattle.sdd_bag.specs.Values.{HasOneMore}
-use Rattle.sdd_bag.proofs.Kept.{not-there}
+use Rattle.sdd_bag.proofs.InsertedKeys.{not-there}
 
 abbrev IsFalseHere : Bool → Type 0
 IsFalseHere true = Unit {0}

@@ -4,7 +4,7 @@ use Rattle.sdd_bag.specs.Storage.{AreEmpty, empty_place}
 use Rattle.sdd_bag.specs.Values.{HasOneMore}
 use Rattle.sdd_bag.specs.KeyedPlaces.{PlaceName}
 use Rattle.sdd_rights.specs.Units.{GhostName}
-use Rattle.sdd_space.specs.World.{World}
+use Rattle.sdd_world_model.specs.World.{World}
 use Rattle.sdd_lists.specs.declared.linked_entry.LinkedEntry.{LinkedEntry}
 use Rattle.sdd_lists.specs.Lists.{Entry}
 use Rattle.sdd_lists.specs.Stack.{home_in}

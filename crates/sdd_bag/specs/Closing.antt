@@ -2,9 +2,9 @@
 use Rattle.std.specs.Prelude.{ℕ, ◌%◌, ◌≡◌, ◌≢◌, List, [], ◌∷◌, IfSome, length}
 use Rattle.sdd_bag.specs.Values.{AreInSomeOrder}
 use Rattle.sdd_participants.specs.Slab.{entry_at}
-use Rattle.sdd_space.specs.OwnerOrCell.{OwnerOrCell, owned, shared, atomic_owned, atomic_shared, atomic_raw}
-use Rattle.sdd_space.specs.World.{World}
-use Rattle.sdd_space.specs.WorldChanges.{cell_closed, given_all, held_in, without_cell}
+use Rattle.sdd_world_model.specs.OwnerOrCell.{OwnerOrCell, owned, shared, atomic_owned, atomic_shared, atomic_raw}
+use Rattle.sdd_world_model.specs.World.{World}
+use Rattle.sdd_world_model.specs.WorldChanges.{cell_closed, given_all, held_in, without_cell}
 use Rattle.sdd_lists.specs.declared.linked_entry.LinkedEntry.{LinkedEntry}
 use Rattle.sdd_lists.specs.Entries.{link_of}
 use Rattle.sdd_lists.specs.Lists.{Apart, Entry}

@@ -1,7 +1,7 @@
 -- How many storages there are for the values behind a bag's own
 use Rattle.std.specs.Prelude.{ℕ, ◌≡◌, List, Option, length}
 use Rattle.std.specs.Int.{div_ceil}
-use Rattle.sdd_space.specs.World.{World}
+use Rattle.sdd_world_model.specs.World.{World}
 use Rattle.sdd_lists.specs.declared.linked_entry.LinkedEntry.{LinkedEntry}
 use Rattle.sdd_lists.specs.Lists.{Entry}
 use Rattle.sdd_bag.specs.Storages.{StorageName}

@@ -4,7 +4,7 @@ use Rattle.std.specs.Borrow.{Fml, GName, LendsSo, MutBor, RattleType, RestsIfErr
 use mir.Syntax.{named}
 use denote.Param.{value_of}
 use Rattle.sdd_space.specs.CallerId.{CallerId, IsExact}
-use Rattle.sdd_space.specs.World.{World}
+use Rattle.sdd_world_model.specs.World.{World}
 use Rattle.sdd_lists.specs.declared.linked_entry.LinkedEntry.{LinkedEntry}
 use Rattle.sdd_lists.specs.Iter.{GivesInOrder, IsIterOf, space_of}
 use Rattle.sdd_lists.specs.Lists.{Entry}
@@ -56,7 +56,7 @@ module _ {T B S : Type 0} {len : ℕ} where
     pub few : start_of it.behind < 2 ^ 120
     pub awaits : AwaitsValue len it.gap (start_of it.behind + it.at) (places_of it.behind it.bag.now)
 
-  module _ (shown : B → Option StorageName) (seat : S → CallerId) (world : S → World (LinkedEntry B)) where
+  module _ (shown : B → Option StorageName) (caller : S → CallerId) (world : S → World (LinkedEntry B)) where
     -- the storages that are left are on these entries
     pub record AreLeft (it : IterMut T len B S) (es : List (Entry (LinkedEntry B))) : Type 0 where
       pub shelves : AreShelves shown len (world (space_in it)) es
@@ -67,8 +67,8 @@ module _ {T B S : Type 0} {len : ℕ} where
     pub record IsCursor (it : IterMut T len B S) : Type 0 where
       pub bag : IsBag shown len (world (space_in it)) (whole it)
       pub order : IsInOrder len (whole it)
-      pub exact : IsExact (seat (space_in it))
-      pub can : IsIterOf (seat (space_in it)).home.slots it.shelves
+      pub exact : IsExact (caller (space_in it))
+      pub can : IsIterOf (caller (space_in it)).home.slots it.shelves
       pub stands : StandsIn shown len it.behind it.bag.now
       pub first : HasFirst len it.behind (whole it)
       pub room : it.at ≤ len
@@ -112,7 +112,7 @@ RestsIfRefused T N B b r = RestsIfErr (bag.the_row T N B) b bag_name r (λ n. n 
 -- what a cursor ends as, where a value is lent
 abbrev pub LendsNext : (T N B S : RattleType) → (B.Denot → Option StorageName) → (S.Denot → CallerId) → (S.Denot → World (LinkedEntry B.Denot))
     → MutBor (IterMut T.Denot (value_of N) B.Denot S.Denot) → Option (MutBor T.Denot) → Fml
-LendsNext T N B S shown seat world it r =
+LendsNext T N B S shown caller world it r =
     LendsSo (iter.the_row (record { mir = named 1; lft = [] }) T N B S) T it r
-    (λ n w. IfSome r (λ v. Lends shown seat world v.now w it.now n))
-    (λ n. MatchOption r (Ends shown seat world it.now n) (λ v. Unit {0}))
+    (λ n w. IfSome r (λ v. Lends shown caller world v.now w it.now n))
+    (λ n. MatchOption r (Ends shown caller world it.now n) (λ v. Unit {0}))

@@ -9,8 +9,8 @@ use Rattle.sdd_core.specs.declared.refused.Refused.{Refused}
 use Rattle.sdd_core.specs.declared.refused.Refused.TheVariants.{NoCell, NoSlot}
 use Rattle.sdd_space.specs.CallerId.{CallerId, IsExact, IsSeated}
 use Rattle.sdd_space.specs.Guard.{ReaderId}
-use Rattle.sdd_space.specs.World.{World, standing_at}
-use Rattle.sdd_space.specs.WorldChanges.{nulled, retired}
+use Rattle.sdd_world_model.specs.World.{World, standing_at}
+use Rattle.sdd_world_model.specs.WorldChanges.{nulled, retired}
 use Rattle.sdd_space.specs.declared.shared.Shared.{Shared}
 use Rattle.sdd_lists.specs.declared.linked_entry.LinkedEntry.{LinkedEntry}
 use Rattle.sdd_lists.specs.declared.stack.Stack.{Stack}
@@ -102,10 +102,10 @@ module _ {B : Type 0} where
     Lies w o = (es : List (Entry (LinkedEntry B))) × LiesOn w es o
 
     -- who calls may take all values out of the first of the storages, which has one: they lie in its world, and the reader is its own
-    pub record MayEmpty {T : Type 0} (seat : CallerId) (w : World (LinkedEntry B)) (reader : ReaderId) (o : OverflowParts T B) : Type 0 where
-      pub seated : IsSeated seat
-      pub exact : IsExact seat
-      pub reads : reader ≡ seat.reader
-      pub home : home_in o.stack ≡ seat.home.cells
+    pub record MayEmpty {T : Type 0} (caller : CallerId) (w : World (LinkedEntry B)) (reader : ReaderId) (o : OverflowParts T B) : Type 0 where
+      pub seated : IsSeated caller
+      pub exact : IsExact caller
+      pub reads : reader ≡ caller.reader
+      pub home : home_in o.stack ≡ caller.home.cells
       pub lies : Lies w o
       pub some : ¬ (AreEmpty len o.places)

@@ -2,7 +2,7 @@
 use Rattle.std.specs.Prelude.{ℕ, List, [], ◌∷◌, Option, None, Some}
 use Rattle.sdd_bag.specs.KeyedPlaces.{PlaceName}
 use Rattle.sdd_rights.specs.Units.{GhostName}
-use Rattle.sdd_space.specs.OwnerOrCell.{OwnerOrCell, atomic_shared}
+use Rattle.sdd_world_model.specs.OwnerOrCell.{OwnerOrCell, atomic_shared}
 
 -- a storage: its places, in order, and the cell that is its own
 pub record StorageName : Type 0 where

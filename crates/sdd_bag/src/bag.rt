@@ -6,7 +6,7 @@ ghost use Rattle.sdd_bag.specs.Storage.{AreEmpty, AreFull, IsEmptyAt, IsFullWith
 ghost use Rattle.sdd_bag.specs.Values.{AreInSomeOrder, HasOneMore};
 ghost use Rattle.sdd_space.specs.CallerId.{IsSeated, IsExact};
 ghost use Rattle.sdd_space.specs.Guard.{reader_of};
-ghost use Rattle.sdd_space.specs.ParticipantChanges.{KeepsMoreWaiting};
+ghost use Rattle.sdd_world_model.specs.ParticipantChanges.{KeepsMoreWaiting};
 ghost use Rattle.sdd_space.specs.Refusals.{IsRefusedBy};
 ghost use Rattle.sdd_space.specs.Undisturbed.{Undisturbed, Unmoved};
 ghost use Rattle.sdd_lists.specs.declared.linked_entry.LinkedEntry.{LinkedEntry as Linked};
@@ -18,7 +18,7 @@ ghost use Rattle.sdd_bag.specs.Lent.{AreEmptyFrom, AwaitsValue, TakesOut};
 ghost use Rattle.sdd_bag.specs.Spots.{HasFirst, IsInOrder, StandsIn, places_of, start_of, whole_at, with_places};
 ghost use Rattle.sdd_lists.specs.Stack.{IsStack, cell_in, home_in};
 ghost use Rattle.sdd_participants.specs.EpochState.{due_at};
-ghost use Rattle.sdd_space.specs.OwnerOrCell.{AreOf, OwnerOrCell};
+ghost use Rattle.sdd_world_model.specs.OwnerOrCell.{AreOf, OwnerOrCell};
 ghost use Rattle.sdd_bag.specs.Closing.{AreBeside, ClosesBag, EmptiesStorages};
 ghost use Rattle.sdd_bag.specs.Counting.{HasStoragesFor};
 ghost use Rattle.sdd_bag.specs.Changing.{ChangesEach};
@@ -27,8 +27,8 @@ ghost use Rattle.sdd_bag.specs.Overflow.{AddsStorage, KeepsPlaces, Lies, LiesOn,
 ghost use Rattle.sdd_participants.specs.Slab.{IsEmptyAt as IsEmptyCell};
 ghost use Rattle.sdd_lists.specs.Queue.{HasOneAtMost};
 ghost use Rattle.sdd_space.specs.Shared.{cell_of, cells_home};
-ghost use Rattle.sdd_space.specs.World.{World};
-ghost use Rattle.sdd_space.specs.WorldChanges.{closed, nulled, opened};
+ghost use Rattle.sdd_world_model.specs.World.{World};
+ghost use Rattle.sdd_world_model.specs.WorldChanges.{closed, nulled, opened};
 ghost use Rattle.sdd_lists.specs.Filling.{AddsOnto, RefusesPush};
 ghost use Rattle.sdd_bag.specs.Bag.{BagParts, HasSameCells, HasStorageMore, PopsBehind, PopsInside, PushesBehind, PushesInside, IsBag, IsOfCells, KeepsStorages, overflow_of, primary_of, values_of};
 
@@ -76,12 +76,12 @@ impl<T, const ARRAY_LEN: usize, B: Shelf<T, ARRAY_LEN>> Bag<T, ARRAY_LEN, B> {
         guard: &Guard,
         s: &mut S,
     ) -> Result<(), T>
-        requires seated { IsSeated (S.seat s.old) }
-        requires home { home_in self.old.overflow.stack ≡ (S.seat s.old).home.cells }
-        requires reader { reader_of guard.now ≡ (S.seat s.old).reader }
-        requires exact { IsExact (S.seat s.old) }
+        requires seated { IsSeated (S.caller s.old) }
+        requires home { home_in self.old.overflow.stack ≡ (S.caller s.old).home.cells }
+        requires reader { reader_of guard.now ≡ (S.caller s.old).reader }
+        requires exact { IsExact (S.caller s.old) }
         requires lies { Lies B.shown ARRAY_LEN (S.world s.old) self.old.overflow }
-        ensures undisturbed { Undisturbed S.seat S.own S.known S.shows s.old s.new }
+        ensures undisturbed { Undisturbed S.caller S.own S.known S.shows s.old s.new }
         ensures world { S.world s.new ≡ S.world s.old }
         ensures keeps { KeepsStorages self.old self.new }
         ensures pushed { MatchResult result
@@ -102,12 +102,12 @@ impl<T, const ARRAY_LEN: usize, B: Shelf<T, ARRAY_LEN>> Bag<T, ARRAY_LEN, B> {
         guard: &Guard,
         s: &mut S,
     ) -> Option<T>
-        requires seated { IsSeated (S.seat s.old) }
-        requires home { home_in self.old.overflow.stack ≡ (S.seat s.old).home.cells }
-        requires reader { reader_of guard.now ≡ (S.seat s.old).reader }
-        requires exact { IsExact (S.seat s.old) }
+        requires seated { IsSeated (S.caller s.old) }
+        requires home { home_in self.old.overflow.stack ≡ (S.caller s.old).home.cells }
+        requires reader { reader_of guard.now ≡ (S.caller s.old).reader }
+        requires exact { IsExact (S.caller s.old) }
         requires lies { Lies B.shown ARRAY_LEN (S.world s.old) self.old.overflow }
-        ensures undisturbed { Undisturbed S.seat S.own S.known S.shows s.old s.new }
+        ensures undisturbed { Undisturbed S.caller S.own S.known S.shows s.old s.new }
         ensures world { S.world s.new ≡ S.world s.old }
         ensures keeps { KeepsStorages self.old self.new }
         ensures popped { MatchOption result
@@ -144,15 +144,15 @@ impl<T, const ARRAY_LEN: usize, B: Shelf<T, ARRAY_LEN>> Bag<T, ARRAY_LEN, B> {
         guard: &Guard,
         s: &mut S,
     ) -> Result<(), (AtomicShared<LinkedEntry<B>>, Refused)>
-        requires seated { IsSeated (S.seat s.old) }
-        requires home { home_in self.old.overflow.stack ≡ (S.seat s.old).home.cells }
-        requires cell { cells_home cell ≡ (S.seat s.old).home.cells }
-        requires reader { reader_of guard.now ≡ (S.seat s.old).reader }
-        requires exact { IsExact (S.seat s.old) }
+        requires seated { IsSeated (S.caller s.old) }
+        requires home { home_in self.old.overflow.stack ≡ (S.caller s.old).home.cells }
+        requires cell { cells_home cell ≡ (S.caller s.old).home.cells }
+        requires reader { reader_of guard.now ≡ (S.caller s.old).reader }
+        requires exact { IsExact (S.caller s.old) }
         requires lies { Lies B.shown ARRAY_LEN (S.world s.old) self.old.overflow }
         requires full { AreFull ARRAY_LEN self.old.overflow.places }
         requires few { length self.old.overflow.places < 2 ^ 80 }
-        ensures unmoved { Unmoved S.seat S.known S.shows s.old s.new }
+        ensures unmoved { Unmoved S.caller S.known S.shows s.old s.new }
         ensures own { KeepsMoreWaiting (S.own s.old) (S.own s.new) }
         ensures same { IfErr result (λ _. self.new ≡ self.old) }
         ensures back { IfErr result (λ e. (cell_of e.0 ≡ cell_of cell) × (cells_home e.0 ≡ cells_home cell)) }
@@ -161,7 +161,7 @@ impl<T, const ARRAY_LEN: usize, B: Shelf<T, ARRAY_LEN>> Bag<T, ARRAY_LEN, B> {
         ensures list { (es : List (Entry (Linked B))) → LiesOn B.shown ARRAY_LEN (S.world s.old) es self.old.overflow → IfOk result (λ _.
             (shelf : B) × (storage : StorageName) × (B.shown shelf ≡ Some storage) × (storage.cell ≡ cell_of cell) × (storage.home ≡ cells_home cell) ×
             (fs : List (Entry (Linked B))) ×
-            AddsOnto (S.world s.old) (S.seat s.old).place (cell_in self.old.overflow.stack) es shelf (S.world s.new) fs ×
+            AddsOnto (S.world s.old) (S.caller s.old).place (cell_in self.old.overflow.stack) es shelf (S.world s.new) fs ×
             LiesOn B.shown ARRAY_LEN (S.world s.new) fs self.new.overflow) }
     {
         let places = self.keys.add_places();
@@ -190,20 +190,20 @@ impl<T, const ARRAY_LEN: usize, B: Shelf<T, ARRAY_LEN>> Bag<T, ARRAY_LEN, B> {
             + Cells<LinkedEntry<B>>
             + LookThrough<LinkedEntry<B>>,
     >(&mut self, guard: &Guard, s: &mut S) -> Result<(), Refused>
-        requires seated { IsSeated (S.seat s.old) }
-        requires home { home_in self.old.overflow.stack ≡ (S.seat s.old).home.cells }
-        requires reader { reader_of guard.now ≡ (S.seat s.old).reader }
-        requires exact { IsExact (S.seat s.old) }
+        requires seated { IsSeated (S.caller s.old) }
+        requires home { home_in self.old.overflow.stack ≡ (S.caller s.old).home.cells }
+        requires reader { reader_of guard.now ≡ (S.caller s.old).reader }
+        requires exact { IsExact (S.caller s.old) }
         requires lies { Lies B.shown ARRAY_LEN (S.world s.old) self.old.overflow }
         requires full { AreFull ARRAY_LEN self.old.overflow.places }
-        ensures unmoved { Unmoved S.seat S.known S.shows s.old s.new }
+        ensures unmoved { Unmoved S.caller S.known S.shows s.old s.new }
         ensures own { KeepsMoreWaiting (S.own s.old) (S.own s.new) }
         ensures same { IfErr result (λ _. self.new ≡ self.old) }
         ensures refused { IfErr result (λ why. (S.world s.new ≡ S.world s.old) × RefusesStorage (S.world s.old) why) }
         ensures added { IfOk result (λ _. HasStorageMore ARRAY_LEN self.old self.new) }
         ensures list { (es : List (Entry (Linked B))) → LiesOn B.shown ARRAY_LEN (S.world s.old) es self.old.overflow → IfOk result (λ _.
             (fs : List (Entry (Linked B))) ×
-            AddsStorage B.shown (S.world s.old) (S.seat s.old).place self.old.overflow.stack es (S.world s.new) fs ×
+            AddsStorage B.shown (S.world s.old) (S.caller s.old).place self.old.overflow.stack es (S.world s.new) fs ×
             LiesOn B.shown ARRAY_LEN (S.world s.new) fs self.new.overflow) }
     {
         // Once a field is looked at, what is always so of a bag is known: an array has 1 to 32 places.
@@ -234,12 +234,12 @@ impl<T, const ARRAY_LEN: usize, B: Shelf<T, ARRAY_LEN>> Bag<T, ARRAY_LEN, B> {
             + Cells<LinkedEntry<B>>
             + LookThrough<LinkedEntry<B>>,
     >(&mut self, value: T, guard: &Guard, s: &mut S) -> Result<(), (T, Refused)>
-        requires seated { IsSeated (S.seat s.old) }
-        requires home { home_in self.old.overflow.stack ≡ (S.seat s.old).home.cells }
-        requires reader { reader_of guard.now ≡ (S.seat s.old).reader }
-        requires exact { IsExact (S.seat s.old) }
+        requires seated { IsSeated (S.caller s.old) }
+        requires home { home_in self.old.overflow.stack ≡ (S.caller s.old).home.cells }
+        requires reader { reader_of guard.now ≡ (S.caller s.old).reader }
+        requires exact { IsExact (S.caller s.old) }
         requires lies { Lies B.shown ARRAY_LEN (S.world s.old) self.old.overflow }
-        ensures unmoved { Unmoved S.seat S.known S.shows s.old s.new }
+        ensures unmoved { Unmoved S.caller S.known S.shows s.old s.new }
         ensures own { KeepsMoreWaiting (S.own s.old) (S.own s.new) }
         ensures primary { self.new.primary ≡ self.old.primary }
         ensures stack { self.new.overflow.stack ≡ self.old.overflow.stack }
@@ -250,7 +250,7 @@ impl<T, const ARRAY_LEN: usize, B: Shelf<T, ARRAY_LEN>> Bag<T, ARRAY_LEN, B> {
         ensures list { (es : List (Entry (Linked B))) → LiesOn B.shown ARRAY_LEN (S.world s.old) es self.old.overflow → IfOk result (λ _.
             (fs : List (Entry (Linked B))) × LiesOn B.shown ARRAY_LEN (S.world s.new) fs self.new.overflow ×
             ((S.world s.new ≡ S.world s.old) ⊎ AreFull ARRAY_LEN self.old.overflow.places ×
-            AddsStorage B.shown (S.world s.old) (S.seat s.old).place self.old.overflow.stack es (S.world s.new) fs)) }
+            AddsStorage B.shown (S.world s.old) (S.caller s.old).place self.old.overflow.stack es (S.world s.new) fs)) }
     {
         // Once a field is looked at, what is always so of a bag is known: an array has 1 to 32 places.
         let _ = &self.primary;
@@ -275,21 +275,21 @@ impl<T, const ARRAY_LEN: usize, B: Shelf<T, ARRAY_LEN>> Bag<T, ARRAY_LEN, B> {
             + Cells<LinkedEntry<B>>
             + LookThrough<LinkedEntry<B>>,
     >(&mut self, guard: &Guard, s: &mut S)
-        requires seated { IsSeated (S.seat s.old) }
-        requires home { home_in self.old.overflow.stack ≡ (S.seat s.old).home.cells }
-        requires reader { reader_of guard.now ≡ (S.seat s.old).reader }
-        requires exact { IsExact (S.seat s.old) }
+        requires seated { IsSeated (S.caller s.old) }
+        requires home { home_in self.old.overflow.stack ≡ (S.caller s.old).home.cells }
+        requires reader { reader_of guard.now ≡ (S.caller s.old).reader }
+        requires exact { IsExact (S.caller s.old) }
         requires lies { Lies B.shown ARRAY_LEN (S.world s.old) self.old.overflow }
         requires some { 0 < length self.old.overflow.places }
         requires empty { AreEmpty ARRAY_LEN self.old.overflow.places }
-        ensures unmoved { Unmoved S.seat S.known S.shows s.old s.new }
+        ensures unmoved { Unmoved S.caller S.known S.shows s.old s.new }
         ensures own { KeepsMoreWaiting (S.own s.old) (S.own s.new) }
         ensures cells { HasSameCells self.old self.new }
         ensures primary { self.new.primary ≡ self.old.primary }
         ensures places { self.new.overflow.places ≡ drop ARRAY_LEN self.old.overflow.places }
         ensures full { AreFull ARRAY_LEN self.new.overflow.places }
         ensures list { (es : List (Entry (Linked B))) → LiesOn B.shown ARRAY_LEN (S.world s.old) es self.old.overflow → (fs : List (Entry (Linked B))) ×
-            RemovesStorage (S.world s.old) (S.seat s.old).place (cell_in self.old.overflow.stack) es (S.world s.new) fs ×
+            RemovesStorage (S.world s.old) (S.caller s.old).place (cell_in self.old.overflow.stack) es (S.world s.new) fs ×
             LiesOn B.shown ARRAY_LEN (S.world s.new) fs self.new.overflow }
     {
         let owner = match self.stack.pop(guard, s) {
@@ -308,12 +308,12 @@ impl<T, const ARRAY_LEN: usize, B: Shelf<T, ARRAY_LEN>> Bag<T, ARRAY_LEN, B> {
             + Cells<LinkedEntry<B>>
             + LookThrough<LinkedEntry<B>>,
     >(&mut self, guard: &Guard, s: &mut S) -> Option<T>
-        requires seated { IsSeated (S.seat s.old) }
-        requires home { home_in self.old.overflow.stack ≡ (S.seat s.old).home.cells }
-        requires reader { reader_of guard.now ≡ (S.seat s.old).reader }
-        requires exact { IsExact (S.seat s.old) }
+        requires seated { IsSeated (S.caller s.old) }
+        requires home { home_in self.old.overflow.stack ≡ (S.caller s.old).home.cells }
+        requires reader { reader_of guard.now ≡ (S.caller s.old).reader }
+        requires exact { IsExact (S.caller s.old) }
         requires lies { Lies B.shown ARRAY_LEN (S.world s.old) self.old.overflow }
-        ensures unmoved { Unmoved S.seat S.known S.shows s.old s.new }
+        ensures unmoved { Unmoved S.caller S.known S.shows s.old s.new }
         ensures own { KeepsMoreWaiting (S.own s.old) (S.own s.new) }
         ensures cells { HasSameCells self.old self.new }
         ensures popped { MatchOption result
@@ -323,7 +323,7 @@ impl<T, const ARRAY_LEN: usize, B: Shelf<T, ARRAY_LEN>> Bag<T, ARRAY_LEN, B> {
             (fs : List (Entry (Linked B))) × LiesOn B.shown ARRAY_LEN (S.world s.new) fs self.new.overflow ×
             (AreEmpty ARRAY_LEN self.new.overflow.places → fs ≡ []) ×
             ((S.world s.new ≡ S.world s.old) × (fs ≡ es) ⊎ (self.new.overflow.places ≡ drop ARRAY_LEN self.old.overflow.places) ×
-            RemovesStorage (S.world s.old) (S.seat s.old).place (cell_in self.old.overflow.stack) es (S.world s.new) fs)) }
+            RemovesStorage (S.world s.old) (S.caller s.old).place (cell_in self.old.overflow.stack) es (S.world s.new) fs)) }
     {
         let value = match self.pop_front(guard, s) {
             Some(value) => value,
@@ -343,13 +343,13 @@ impl<T, const ARRAY_LEN: usize, B: Shelf<T, ARRAY_LEN>> Bag<T, ARRAY_LEN, B> {
         F: FnMut(R, T) -> R,
         S: Items<LinkedEntry<B>> + Cells<LinkedEntry<B>> + LookThrough<LinkedEntry<B>>,
     >(&mut self, init: R, fold: F, guard: &Guard, s: &mut S) -> (R, F)
-        requires seated { IsSeated (S.seat s.old) }
-        requires home { home_in self.old.overflow.stack ≡ (S.seat s.old).home.cells }
-        requires reader { reader_of guard.now ≡ (S.seat s.old).reader }
-        requires exact { IsExact (S.seat s.old) }
+        requires seated { IsSeated (S.caller s.old) }
+        requires home { home_in self.old.overflow.stack ≡ (S.caller s.old).home.cells }
+        requires reader { reader_of guard.now ≡ (S.caller s.old).reader }
+        requires exact { IsExact (S.caller s.old) }
         requires lies { Lies B.shown ARRAY_LEN (S.world s.old) self.old.overflow }
         requires callable { F.IsAlwaysCallable fold }
-        ensures undisturbed { Undisturbed S.seat S.own S.known S.shows s.old s.new }
+        ensures undisturbed { Undisturbed S.caller S.own S.known S.shows s.old s.new }
         ensures world { S.world s.new ≡ S.world s.old }
         ensures callable { F.IsAlwaysCallable result.1 }
         ensures keeps { KeepsStorages self.old self.new }
@@ -384,9 +384,9 @@ impl<T, const ARRAY_LEN: usize, B: Shelf<T, ARRAY_LEN>> Bag<T, ARRAY_LEN, B> {
             + Cells<LinkedEntry<B>>
             + LookThrough<LinkedEntry<B>>,
     >(&mut self, init: R, fold: F, guard: &Guard, s: &mut S) -> (R, F)
-        requires may { MayEmpty B.shown ARRAY_LEN (S.seat s.old) (S.world s.old) (reader_of guard.now) self.old.overflow }
+        requires may { MayEmpty B.shown ARRAY_LEN (S.caller s.old) (S.world s.old) (reader_of guard.now) self.old.overflow }
         requires callable { F.IsAlwaysCallable fold }
-        ensures unmoved { Unmoved S.seat S.known S.shows s.old s.new }
+        ensures unmoved { Unmoved S.caller S.known S.shows s.old s.new }
         ensures own { KeepsMoreWaiting (S.own s.old) (S.own s.new) }
         ensures callable { F.IsAlwaysCallable result.1 }
         ensures cells { HasSameCells self.old self.new }
@@ -395,7 +395,7 @@ impl<T, const ARRAY_LEN: usize, B: Shelf<T, ARRAY_LEN>> Bag<T, ARRAY_LEN, B> {
         ensures fewer { length self.new.overflow.places < length self.old.overflow.places }
         ensures folded { FoldsOn F.step fold init (overflow_of self.old) result.1 result.0 (overflow_of self.new) }
         ensures list { (es : List (Entry (Linked B))) → LiesOn B.shown ARRAY_LEN (S.world s.old) es self.old.overflow → (fs : List (Entry (Linked B))) ×
-            RemovesStorage (S.world s.old) (S.seat s.old).place (cell_in self.old.overflow.stack) es (S.world s.new) fs ×
+            RemovesStorage (S.world s.old) (S.caller s.old).place (cell_in self.old.overflow.stack) es (S.world s.new) fs ×
             LiesOn B.shown ARRAY_LEN (S.world s.new) fs self.new.overflow }
     {
         let done = self.fold_front(init, fold, guard, s);
@@ -419,8 +419,8 @@ impl<T, const ARRAY_LEN: usize, B: Shelf<T, ARRAY_LEN>> Bag<T, ARRAY_LEN, B> {
         F: FnMut(&mut T),
         S: Items<LinkedEntry<B>> + HeldItems<LinkedEntry<B>>,
     >(&mut self, change: F, s: &S) -> F
-        requires home { home_in self.old.overflow.stack ≡ (S.seat s.now).home.cells }
-        requires exact { IsExact (S.seat s.now) }
+        requires home { home_in self.old.overflow.stack ≡ (S.caller s.now).home.cells }
+        requires exact { IsExact (S.caller s.now) }
         requires lies { Lies B.shown ARRAY_LEN (S.world s.now) self.old.overflow }
         requires callable { F.IsAlwaysCallable change }
         ensures keeps { KeepsStorages self.old self.new }
@@ -499,10 +499,10 @@ impl<T, const ARRAY_LEN: usize, B: Shelf<T, ARRAY_LEN>> Bag<T, ARRAY_LEN, B> {
         &self,
         s: &'s S,
     ) -> Iter<'s, B, S>
-        requires home { home_in self.now.overflow.stack ≡ (S.seat s.now).home.cells }
-        requires exact { IsExact (S.seat s.now) }
+        requires home { home_in self.now.overflow.stack ≡ (S.caller s.now).home.cells }
+        requires exact { IsExact (S.caller s.now) }
         ensures space { space_of result ≡ s.now }
-        ensures home { IsIterOf (S.seat s.now).home.slots result }
+        ensures home { IsIterOf (S.caller s.now).home.slots result }
         ensures list { (es : List (Entry (Linked B))) → LiesOn B.shown ARRAY_LEN (S.world s.now) es self.now.overflow →
             GivesInOrder (S.world s.now) result (shown_of es) }
     {
@@ -517,18 +517,18 @@ impl<T, const ARRAY_LEN: usize, B: Shelf<T, ARRAY_LEN>> Bag<T, ARRAY_LEN, B> {
     ) -> Result<Bag<T, ARRAY_LEN, B>, Refused>
         requires some { 0 < ARRAY_LEN }
         requires fits { ARRAY_LEN ≤ 32 }
-        requires seated { IsSeated (S.seat s.old) }
-        ensures unmoved { Unmoved S.seat S.known S.shows s.old s.new }
+        requires seated { IsSeated (S.caller s.old) }
+        ensures unmoved { Unmoved S.caller S.known S.shows s.old s.new }
         ensures own { KeepsMoreWaiting (S.own s.old) (S.own s.new) }
-        ensures home { IfOk result (IsOfCells (S.seat s.old).home.cells) }
-        ensures back { IfErr result (IsRefusedBy (S.seat s.old) Refused.NoCell) }
+        ensures home { IfOk result (IsOfCells (S.caller s.old).home.cells) }
+        ensures back { IfErr result (IsRefusedBy (S.caller s.old) Refused.NoCell) }
         ensures empty { IfOk result (λ bag. (primary_of bag ≡ []) × (overflow_of bag ≡ [])) }
-        ensures world { IsExact (S.seat s.old) → MatchResult result
+        ensures world { IsExact (S.caller s.old) → MatchResult result
             (λ bag. IsEmptyCell (S.world s.old).cells bag.primary.storage.cell × IsEmptyCell (S.world s.old).cells (cell_in bag.overflow.stack) ×
             (bag.primary.storage.cell ≢ cell_in bag.overflow.stack) ×
             (S.world s.new ≡ nulled (nulled (S.world s.old) bag.primary.storage.cell) (cell_in bag.overflow.stack)))
             (λ e. HasOneAtMost (S.world s.old).cells × (e ≡ Refused.NoCell) × (S.world s.new ≡ S.world s.old)) }
-        ensures bag { IsExact (S.seat s.old) → IfOk result (IsBag B.shown ARRAY_LEN (S.world s.new)) }
+        ensures bag { IsExact (S.caller s.old) → IfOk result (IsBag B.shown ARRAY_LEN (S.world s.new)) }
     {
         let cell = match AtomicShared::null(s) {
             Ok(cell) => cell,
@@ -556,12 +556,12 @@ impl<T, const ARRAY_LEN: usize, B: Shelf<T, ARRAY_LEN>> Bag<T, ARRAY_LEN, B> {
             + Cells<LinkedEntry<B>>
             + LookThrough<LinkedEntry<B>>,
     >(&mut self, value: T, guard: &Guard, s: &mut S) -> Result<(), (T, Refused)>
-        requires seated { IsSeated (S.seat s.old) }
-        requires home { home_in self.old.overflow.stack ≡ (S.seat s.old).home.cells }
-        requires reader { reader_of guard.now ≡ (S.seat s.old).reader }
-        requires exact { IsExact (S.seat s.old) }
+        requires seated { IsSeated (S.caller s.old) }
+        requires home { home_in self.old.overflow.stack ≡ (S.caller s.old).home.cells }
+        requires reader { reader_of guard.now ≡ (S.caller s.old).reader }
+        requires exact { IsExact (S.caller s.old) }
         requires bag { IsBag B.shown ARRAY_LEN (S.world s.old) self.old }
-        ensures unmoved { Unmoved S.seat S.known S.shows s.old s.new }
+        ensures unmoved { Unmoved S.caller S.known S.shows s.old s.new }
         ensures own { KeepsMoreWaiting (S.own s.old) (S.own s.new) }
         ensures cells { HasSameCells self.old self.new }
         ensures bag { IsBag B.shown ARRAY_LEN (S.world s.new) self.new }
@@ -572,7 +572,7 @@ impl<T, const ARRAY_LEN: usize, B: Shelf<T, ARRAY_LEN>> Bag<T, ARRAY_LEN, B> {
         ensures list { (es : List (Entry (Linked B))) → LiesOn B.shown ARRAY_LEN (S.world s.old) es self.old.overflow → IfOk result (λ _.
             (fs : List (Entry (Linked B))) × LiesOn B.shown ARRAY_LEN (S.world s.new) fs self.new.overflow ×
             ((S.world s.new ≡ S.world s.old) ⊎ AreFull ARRAY_LEN self.old.overflow.places ×
-            AddsStorage B.shown (S.world s.old) (S.seat s.old).place self.old.overflow.stack es (S.world s.new) fs)) }
+            AddsStorage B.shown (S.world s.old) (S.caller s.old).place self.old.overflow.stack es (S.world s.new) fs)) }
     {
         let value = match self.primary.push(value) {
             Ok(()) => return Ok(()),
@@ -605,12 +605,12 @@ impl<T, const ARRAY_LEN: usize, B: Shelf<T, ARRAY_LEN>> Bag<T, ARRAY_LEN, B> {
             + Cells<LinkedEntry<B>>
             + LookThrough<LinkedEntry<B>>,
     >(&mut self, guard: &Guard, s: &mut S) -> Option<T>
-        requires seated { IsSeated (S.seat s.old) }
-        requires home { home_in self.old.overflow.stack ≡ (S.seat s.old).home.cells }
-        requires reader { reader_of guard.now ≡ (S.seat s.old).reader }
-        requires exact { IsExact (S.seat s.old) }
+        requires seated { IsSeated (S.caller s.old) }
+        requires home { home_in self.old.overflow.stack ≡ (S.caller s.old).home.cells }
+        requires reader { reader_of guard.now ≡ (S.caller s.old).reader }
+        requires exact { IsExact (S.caller s.old) }
         requires bag { IsBag B.shown ARRAY_LEN (S.world s.old) self.old }
-        ensures unmoved { Unmoved S.seat S.known S.shows s.old s.new }
+        ensures unmoved { Unmoved S.caller S.known S.shows s.old s.new }
         ensures own { KeepsMoreWaiting (S.own s.old) (S.own s.new) }
         ensures cells { HasSameCells self.old self.new }
         ensures bag { IsBag B.shown ARRAY_LEN (S.world s.new) self.new }
@@ -620,7 +620,7 @@ impl<T, const ARRAY_LEN: usize, B: Shelf<T, ARRAY_LEN>> Bag<T, ARRAY_LEN, B> {
         ensures list { (es : List (Entry (Linked B))) → LiesOn B.shown ARRAY_LEN (S.world s.old) es self.old.overflow →
             (fs : List (Entry (Linked B))) × LiesOn B.shown ARRAY_LEN (S.world s.new) fs self.new.overflow ×
             ((S.world s.new ≡ S.world s.old) × (fs ≡ es) ⊎ (self.new.overflow.places ≡ drop ARRAY_LEN self.old.overflow.places) ×
-            RemovesStorage (S.world s.old) (S.seat s.old).place (cell_in self.old.overflow.stack) es (S.world s.new) fs) }
+            RemovesStorage (S.world s.old) (S.caller s.old).place (cell_in self.old.overflow.stack) es (S.world s.new) fs) }
     {
         if let Some(value) = self.pop_behind(guard, s) {
             return Some(value);
@@ -639,20 +639,20 @@ impl<T, const ARRAY_LEN: usize, B: Shelf<T, ARRAY_LEN>> Bag<T, ARRAY_LEN, B> {
             + Cells<LinkedEntry<B>>
             + LookThrough<LinkedEntry<B>>,
     >(&mut self, init: R, fold: F, guard: &Guard, s: &mut S) -> R
-        requires seated { IsSeated (S.seat s.old) }
-        requires home { home_in self.old.overflow.stack ≡ (S.seat s.old).home.cells }
-        requires reader { reader_of guard.now ≡ (S.seat s.old).reader }
-        requires exact { IsExact (S.seat s.old) }
+        requires seated { IsSeated (S.caller s.old) }
+        requires home { home_in self.old.overflow.stack ≡ (S.caller s.old).home.cells }
+        requires reader { reader_of guard.now ≡ (S.caller s.old).reader }
+        requires exact { IsExact (S.caller s.old) }
         requires bag { IsBag B.shown ARRAY_LEN (S.world s.old) self.old }
         requires callable { F.IsAlwaysCallable fold }
-        ensures unmoved { Unmoved S.seat S.known S.shows s.old s.new }
+        ensures unmoved { Unmoved S.caller S.known S.shows s.old s.new }
         ensures own { KeepsMoreWaiting (S.own s.old) (S.own s.new) }
         ensures cells { HasSameCells self.old self.new }
         ensures bag { IsBag B.shown ARRAY_LEN (S.world s.new) self.new }
         ensures empty { values_of self.new ≡ [] }
         ensures folded { (vs : List T) × AreInSomeOrder vs (values_of self.old) × Folds F.step fold init vs result }
         ensures list { (es : List (Entry (Linked B))) → LiesOn B.shown ARRAY_LEN (S.world s.old) es self.old.overflow →
-            RemovesStorages (S.world s.old) (S.seat s.old).place (cell_in self.old.overflow.stack) es (S.world s.new) }
+            RemovesStorages (S.world s.old) (S.caller s.old).place (cell_in self.old.overflow.stack) es (S.world s.new) }
     {
         let mut made = init;
         let mut fold = fold;
@@ -713,22 +713,22 @@ impl<T, const ARRAY_LEN: usize, B: Shelf<T, ARRAY_LEN>> Bag<T, ARRAY_LEN, B> {
     >(&mut self, guard: &Guard, s: &mut S)
     where
         T: Item<LinkedEntry<B>>,
-        requires seated { IsSeated (S.seat s.old) }
-        requires home { home_in self.old.overflow.stack ≡ (S.seat s.old).home.cells }
-        requires reader { reader_of guard.now ≡ (S.seat s.old).reader }
-        requires exact { IsExact (S.seat s.old) }
+        requires seated { IsSeated (S.caller s.old) }
+        requires home { home_in self.old.overflow.stack ≡ (S.caller s.old).home.cells }
+        requires reader { reader_of guard.now ≡ (S.caller s.old).reader }
+        requires exact { IsExact (S.caller s.old) }
         requires bag { IsBag B.shown ARRAY_LEN (S.world s.old) self.old }
-        requires held { All (λ v. AreOf (S.seat s.old).home (T.holds v)) (overflow_of self.old) }
+        requires held { All (λ v. AreOf (S.caller s.old).home (T.holds v)) (overflow_of self.old) }
         requires beside { (es : List (Entry (Linked B))) → LiesOn B.shown ARRAY_LEN (S.world s.old) es self.old.overflow →
             All (λ v. AreBeside (S.world s.old) (cell_in self.old.overflow.stack) es (T.holds v)) (overflow_of self.old) }
-        ensures unmoved { Unmoved S.seat S.known S.shows s.old s.new }
+        ensures unmoved { Unmoved S.caller S.known S.shows s.old s.new }
         ensures own { KeepsMoreWaiting (S.own s.old) (S.own s.new) }
         ensures cells { HasSameCells self.old self.new }
         ensures primary { self.new.primary ≡ self.old.primary }
         ensures stack { IsStack (S.world s.new) (cell_in self.old.overflow.stack) [] }
         ensures list { (es : List (Entry (Linked B))) → LiesOn B.shown ARRAY_LEN (S.world s.old) es self.old.overflow → (vs : List T) ×
             AreInSomeOrder vs (overflow_of self.old) ×
-            EmptiesStorages T.holds ARRAY_LEN (S.world s.old) (S.seat s.old).place (cell_in self.old.overflow.stack) es vs (S.world s.new) }
+            EmptiesStorages T.holds ARRAY_LEN (S.world s.old) (S.caller s.old).place (cell_in self.old.overflow.stack) es vs (S.world s.new) }
     {
         while let Some(value) = self.pop_behind(guard, s) {
             give_up(value, s);
@@ -748,18 +748,18 @@ impl<T, const ARRAY_LEN: usize, B: Shelf<T, ARRAY_LEN>> Bag<T, ARRAY_LEN, B> {
     >(self, guard: &Guard, s: &mut S)
     where
         T: Item<LinkedEntry<B>>,
-        requires seated { IsSeated (S.seat s.old) }
-        requires home { IsOfCells (S.seat s.old).home.cells self }
-        requires reader { reader_of guard.now ≡ (S.seat s.old).reader }
-        requires exact { IsExact (S.seat s.old) }
+        requires seated { IsSeated (S.caller s.old) }
+        requires home { IsOfCells (S.caller s.old).home.cells self }
+        requires reader { reader_of guard.now ≡ (S.caller s.old).reader }
+        requires exact { IsExact (S.caller s.old) }
         requires bag { IsBag B.shown ARRAY_LEN (S.world s.old) self }
-        requires held { All (λ v. AreOf (S.seat s.old).home (T.holds v)) (values_of self) }
+        requires held { All (λ v. AreOf (S.caller s.old).home (T.holds v)) (values_of self) }
         requires beside { (es : List (Entry (Linked B))) → LiesOn B.shown ARRAY_LEN (S.world s.old) es self.overflow →
             All (λ v. AreBeside (S.world s.old) (cell_in self.overflow.stack) es (T.holds v)) (overflow_of self) }
-        ensures unmoved { Unmoved S.seat S.known S.shows s.old s.new }
+        ensures unmoved { Unmoved S.caller S.known S.shows s.old s.new }
         ensures own { KeepsMoreWaiting (S.own s.old) (S.own s.new) }
         ensures list { (es : List (Entry (Linked B))) → LiesOn B.shown ARRAY_LEN (S.world s.old) es self.overflow →
-            ClosesBag T.holds ARRAY_LEN (S.world s.old) (S.seat s.old).place self es (S.world s.new) }
+            ClosesBag T.holds ARRAY_LEN (S.world s.old) (S.caller s.old).place self es (S.world s.new) }
     {
         let mut bag = self;
         bag.give_up_behind(guard, s);

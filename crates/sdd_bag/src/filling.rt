@@ -4,7 +4,7 @@ ghost use Rattle.std.specs.Iterator.{IsFinite, YieldsThen};
 ghost use Rattle.sdd_bag.specs.Values.{AreInSomeOrder};
 ghost use Rattle.sdd_space.specs.CallerId.{IsSeated, IsExact};
 ghost use Rattle.sdd_space.specs.Guard.{reader_of};
-ghost use Rattle.sdd_space.specs.ParticipantChanges.{KeepsMoreWaiting};
+ghost use Rattle.sdd_world_model.specs.ParticipantChanges.{KeepsMoreWaiting};
 ghost use Rattle.sdd_space.specs.Undisturbed.{Unmoved};
 ghost use Rattle.sdd_lists.specs.declared.linked_entry.LinkedEntry.{LinkedEntry as Linked};
 ghost use Rattle.sdd_lists.specs.Lists.{Entry};
@@ -28,20 +28,20 @@ impl<T, const ARRAY_LEN: usize, B: Shelf<T, ARRAY_LEN>> Bag<T, ARRAY_LEN, B> {
             + Cells<LinkedEntry<B>>
             + LookThrough<LinkedEntry<B>>,
     >(&mut self, items: &mut I, guard: &Guard, s: &mut S) -> Result<(), (T, Refused)>
-        requires seated { IsSeated (S.seat s.old) }
-        requires home { home_in self.old.overflow.stack ≡ (S.seat s.old).home.cells }
-        requires reader { reader_of guard.now ≡ (S.seat s.old).reader }
-        requires exact { IsExact (S.seat s.old) }
+        requires seated { IsSeated (S.caller s.old) }
+        requires home { home_in self.old.overflow.stack ≡ (S.caller s.old).home.cells }
+        requires reader { reader_of guard.now ≡ (S.caller s.old).reader }
+        requires exact { IsExact (S.caller s.old) }
         requires bag { IsBag B.shown ARRAY_LEN (S.world s.old) self.old }
         requires can { I.can_next items.old }
         requires ends { IsFinite (I.remaining items.old) }
-        ensures unmoved { Unmoved S.seat S.known S.shows s.old s.new }
+        ensures unmoved { Unmoved S.caller S.known S.shows s.old s.new }
         ensures own { KeepsMoreWaiting (S.own s.old) (S.own s.new) }
         ensures cells { HasSameCells self.old self.new }
         ensures bag { IsBag B.shown ARRAY_LEN (S.world s.new) self.new }
         ensures list { (es : List (Entry (Linked B))) → LiesOn B.shown ARRAY_LEN (S.world s.old) es self.old.overflow →
             (fs : List (Entry (Linked B))) × LiesOn B.shown ARRAY_LEN (S.world s.new) fs self.new.overflow ×
-            AddsStorages B.shown (S.seat s.old).place self.old.overflow.stack (S.world s.old) es (S.world s.new) fs }
+            AddsStorages B.shown (S.caller s.old).place self.old.overflow.stack (S.world s.old) es (S.world s.new) fs }
         ensures values { (xs : List T) × ((vs : List T) → AreInSomeOrder vs (values_of self.old) → AreInSomeOrder (vs ++ xs) (values_of self.new)) ×
             MatchResult result
             (λ _. YieldsThen I.next_gives items.old xs None items.new)
@@ -74,16 +74,16 @@ impl<T, const ARRAY_LEN: usize, B: Shelf<T, ARRAY_LEN>> Bag<T, ARRAY_LEN, B> {
     ) -> Result<Bag<T, ARRAY_LEN, B>, Unfinished<Bag<T, ARRAY_LEN, B>, T>>
         requires some { 0 < ARRAY_LEN }
         requires fits { ARRAY_LEN ≤ 32 }
-        requires seated { IsSeated (S.seat s.old) }
-        requires reader { reader_of guard.now ≡ (S.seat s.old).reader }
-        requires exact { IsExact (S.seat s.old) }
+        requires seated { IsSeated (S.caller s.old) }
+        requires reader { reader_of guard.now ≡ (S.caller s.old).reader }
+        requires exact { IsExact (S.caller s.old) }
         requires can { I.can_next items.old }
         requires ends { IsFinite (I.remaining items.old) }
-        ensures unmoved { Unmoved S.seat S.known S.shows s.old s.new }
+        ensures unmoved { Unmoved S.caller S.known S.shows s.old s.new }
         ensures own { KeepsMoreWaiting (S.own s.old) (S.own s.new) }
-        ensures home { IfSome (bag_of result) (IsOfCells (S.seat s.old).home.cells) }
+        ensures home { IfSome (bag_of result) (IsOfCells (S.caller s.old).home.cells) }
         ensures bag { IfSome (bag_of result) (IsBag B.shown ARRAY_LEN (S.world s.new)) }
-        ensures list { Builds I.next_gives B.shown ARRAY_LEN (S.seat s.old).place (S.world s.old) items.old result items.new (S.world s.new) }
+        ensures list { Builds I.next_gives B.shown ARRAY_LEN (S.caller s.old).place (S.world s.old) items.old result items.new (S.world s.new) }
     {
         let mut bag = match Bag::new(s) {
             Ok(bag) => bag,

@@ -21,12 +21,12 @@ pub(crate) fn first_storage<
     B: Shelf<T, ARRAY_LEN> + 'g,
     S: Items<LinkedEntry<B>> + Cells<LinkedEntry<B>> + LookThrough<LinkedEntry<B>>,
 >(stack: &Stack<B>, guard: &'g Guard, s: &mut S) -> Option<&'g Storage<T, ARRAY_LEN>>
-    requires seated { IsSeated (S.seat s.old) }
-    requires home { home_in stack.now ≡ (S.seat s.old).home.cells }
-    requires reader { reader_of guard.now ≡ (S.seat s.old).reader }
-    ensures undisturbed { Undisturbed S.seat S.own S.known S.shows s.old s.new }
-    ensures world { IsExact (S.seat s.old) → S.world s.new ≡ S.world s.old }
-    ensures list { IsExact (S.seat s.old) → (es : List (Entry (Linked B))) → IsStack (S.world s.old) (cell_in stack.now) es → MatchOption result
+    requires seated { IsSeated (S.caller s.old) }
+    requires home { home_in stack.now ≡ (S.caller s.old).home.cells }
+    requires reader { reader_of guard.now ≡ (S.caller s.old).reader }
+    ensures undisturbed { Undisturbed S.caller S.own S.known S.shows s.old s.new }
+    ensures world { IsExact (S.caller s.old) → S.world s.new ≡ S.world s.old }
+    ensures list { IsExact (S.caller s.old) → (es : List (Entry (Linked B))) → IsStack (S.world s.old) (cell_in stack.now) es → MatchOption result
         ((e : Entry (Linked B)) (rest : List (Entry (Linked B))) → left es ≡ e ∷ rest → B.shown (value_of e.value) ≡ None)
         (λ storage. (e : Entry (Linked B)) × (rest : List (Entry (Linked B))) × (left es ≡ e ∷ rest) × (Some storage.now ≡ B.shown (value_of e.value))) }
 {

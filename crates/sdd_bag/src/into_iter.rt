@@ -2,8 +2,8 @@
 ghost use Rattle.std.specs.Prelude.{◌≡◌, ◌⊎◌, All, List, MatchOption, [], drop};
 ghost use Rattle.sdd_space.specs.CallerId.{IsSeated, IsExact};
 ghost use Rattle.sdd_space.specs.Guard.{reader_of};
-ghost use Rattle.sdd_space.specs.OwnerOrCell.{AreOf};
-ghost use Rattle.sdd_space.specs.ParticipantChanges.{KeepsMoreWaiting};
+ghost use Rattle.sdd_world_model.specs.OwnerOrCell.{AreOf};
+ghost use Rattle.sdd_world_model.specs.ParticipantChanges.{KeepsMoreWaiting};
 ghost use Rattle.sdd_space.specs.Undisturbed.{Unmoved};
 ghost use Rattle.sdd_lists.specs.declared.linked_entry.LinkedEntry.{LinkedEntry as Linked};
 ghost use Rattle.sdd_lists.specs.Lists.{Entry};
@@ -51,12 +51,12 @@ impl<T, const ARRAY_LEN: usize, B: Shelf<T, ARRAY_LEN>> IntoIter<'_, T, ARRAY_LE
             + Cells<LinkedEntry<B>>
             + LookThrough<LinkedEntry<B>>,
     >(&mut self, s: &mut S) -> Option<T>
-        requires seated { IsSeated (S.seat s.old) }
-        requires home { home_in (bag_left self.old).overflow.stack ≡ (S.seat s.old).home.cells }
-        requires reader { reader_left self.old ≡ (S.seat s.old).reader }
-        requires exact { IsExact (S.seat s.old) }
+        requires seated { IsSeated (S.caller s.old) }
+        requires home { home_in (bag_left self.old).overflow.stack ≡ (S.caller s.old).home.cells }
+        requires reader { reader_left self.old ≡ (S.caller s.old).reader }
+        requires exact { IsExact (S.caller s.old) }
         requires bag { IsBag B.shown ARRAY_LEN (S.world s.old) (bag_left self.old) }
-        ensures unmoved { Unmoved S.seat S.known S.shows s.old s.new }
+        ensures unmoved { Unmoved S.caller S.known S.shows s.old s.new }
         ensures own { KeepsMoreWaiting (S.own s.old) (S.own s.new) }
         ensures reader { reader_left self.new ≡ reader_left self.old }
         ensures cells { HasSameCells (bag_left self.old) (bag_left self.new) }
@@ -70,7 +70,7 @@ impl<T, const ARRAY_LEN: usize, B: Shelf<T, ARRAY_LEN>> IntoIter<'_, T, ARRAY_LE
             (fs : List (Entry (Linked B))) × LiesOn B.shown ARRAY_LEN (S.world s.new) fs (bag_left self.new).overflow ×
             ((S.world s.new ≡ S.world s.old) × (fs ≡ es) ⊎
             ((bag_left self.new).overflow.places ≡ drop ARRAY_LEN (bag_left self.old).overflow.places) ×
-            RemovesStorage (S.world s.old) (S.seat s.old).place (cell_in (bag_left self.old).overflow.stack) es (S.world s.new) fs) }
+            RemovesStorage (S.world s.old) (S.caller s.old).place (cell_in (bag_left self.old).overflow.stack) es (S.world s.new) fs) }
     {
         self.bag.pop(self.guard, s)
     }
@@ -85,18 +85,18 @@ impl<T, const ARRAY_LEN: usize, B: Shelf<T, ARRAY_LEN>> IntoIter<'_, T, ARRAY_LE
     >(self, s: &mut S)
     where
         T: Item<LinkedEntry<B>>,
-        requires seated { IsSeated (S.seat s.old) }
-        requires home { IsOfCells (S.seat s.old).home.cells (bag_left self) }
-        requires reader { reader_left self ≡ (S.seat s.old).reader }
-        requires exact { IsExact (S.seat s.old) }
+        requires seated { IsSeated (S.caller s.old) }
+        requires home { IsOfCells (S.caller s.old).home.cells (bag_left self) }
+        requires reader { reader_left self ≡ (S.caller s.old).reader }
+        requires exact { IsExact (S.caller s.old) }
         requires bag { IsBag B.shown ARRAY_LEN (S.world s.old) (bag_left self) }
-        requires held { All (λ v. AreOf (S.seat s.old).home (T.holds v)) (values_of (bag_left self)) }
+        requires held { All (λ v. AreOf (S.caller s.old).home (T.holds v)) (values_of (bag_left self)) }
         requires beside { (es : List (Entry (Linked B))) → LiesOn B.shown ARRAY_LEN (S.world s.old) es (bag_left self).overflow →
             All (λ v. AreBeside (S.world s.old) (cell_in (bag_left self).overflow.stack) es (T.holds v)) (overflow_of (bag_left self)) }
-        ensures unmoved { Unmoved S.seat S.known S.shows s.old s.new }
+        ensures unmoved { Unmoved S.caller S.known S.shows s.old s.new }
         ensures own { KeepsMoreWaiting (S.own s.old) (S.own s.new) }
         ensures list { (es : List (Entry (Linked B))) → LiesOn B.shown ARRAY_LEN (S.world s.old) es (bag_left self.entry).overflow →
-            ClosesBag T.holds ARRAY_LEN (S.world s.old) (S.seat s.old).place (bag_left self.entry) es (S.world s.new) }
+            ClosesBag T.holds ARRAY_LEN (S.world s.old) (S.caller s.old).place (bag_left self.entry) es (S.world s.new) }
     {
         let IntoIter { bag, guard } = self;
         bag.close(guard, s);

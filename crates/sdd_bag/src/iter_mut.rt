@@ -1,7 +1,7 @@
 //! The values of a bag, lent one by one to be changed in their places.
 ghost use Rattle.std.specs.Prelude.{◌≡◌, ◌^◌, ◌<◌, IfOk, IsTrue, MatchOption, MatchResult, None, Some, false, length, slice_get};
 ghost use Rattle.sdd_space.specs.CallerId.{IsExact};
-ghost use Rattle.sdd_space.specs.World.{AnyGuardOpen};
+ghost use Rattle.sdd_world_model.specs.World.{AnyGuardOpen};
 ghost use Rattle.sdd_lists.specs.Stack.{home_in};
 ghost use Rattle.sdd_bag.specs.Bag.{IsBag, values_of};
 ghost use Rattle.sdd_bag.specs.Spots.{start_of};
@@ -41,12 +41,12 @@ impl<T, const ARRAY_LEN: usize, B: Shelf<T, ARRAY_LEN>> Bag<T, ARRAY_LEN, B> {
         &'b mut self,
         s: &'b S,
     ) -> Result<IterMut<'b, T, ARRAY_LEN, B, S>, Refused>
-        requires home { home_in self.old.overflow.stack ≡ (S.seat s.now).home.cells }
-        requires exact { IsExact (S.seat s.now) }
+        requires home { home_in self.old.overflow.stack ≡ (S.caller s.now).home.cells }
+        requires exact { IsExact (S.caller s.now) }
         requires bag { IsBag B.shown ARRAY_LEN (S.world s.now) self.old }
         ensures* rests { sem 𝓛 (RestsIfRefused T.row ARRAY_LEN.row B.row self.entry result) }
         ensures begun { MatchResult result
-            (λ it. ¬ AnyGuardOpen (S.world s.now) × IsCursor B.shown S.seat S.world it)
+            (λ it. ¬ AnyGuardOpen (S.world s.now) × IsCursor B.shown S.caller S.world it)
             (λ why. AnyGuardOpen (S.world s.now) × (why ≡ Refused.GuardOpen)) }
         ensures bag { IfOk result (λ it. (bag_name it ≡ self.entry.ghost_name) × (whole it ≡ self.old)) }
         ensures space { IfOk result (λ it. space_in it ≡ s.now) }
@@ -81,8 +81,8 @@ impl<
 
     /// The value that is lent, if any, goes back into its place.
     fn put_back(&mut self)
-        requires cursor { IsCursor B.shown S.seat S.world self.old }
-        ensures rests { Rests B.shown S.seat S.world self.old self.new }
+        requires cursor { IsCursor B.shown S.caller S.world self.old }
+        ensures rests { Rests B.shown S.caller S.world self.old self.new }
     {
         let Some(value) = self.held.take() else {
             return;
@@ -106,12 +106,12 @@ impl<
 
     /// Lends the value of the place where it is, if it has one.
     fn take_here(&mut self) -> bool
-        requires cursor { IsCursor B.shown S.seat S.world self.old }
+        requires cursor { IsCursor B.shown S.caller S.world self.old }
         requires none { self.old.held ≡ None }
         ensures few { start_of self.new.behind < 2 ^ 120 }
         ensures lent { IsTrue result → (v : T) × (self.new.held ≡ Some v) ×
-            ((w : T) → Lends B.shown S.seat S.world v w self.old (record self.new { held = Some w })) }
-        ensures rests { result ≡ false → Rests B.shown S.seat S.world self.old self.new }
+            ((w : T) → Lends B.shown S.caller S.world v w self.old (record self.new { held = Some w })) }
+        ensures rests { result ≡ false → Rests B.shown S.caller S.world self.old self.new }
         ensures passed { result ≡ false → IsPassed self.old × IsPassed self.new }
     {
         self.fits.tell();
@@ -126,11 +126,11 @@ impl<
 
     /// Goes on to the next storage, if there is one.
     fn enter_next(&mut self) -> bool
-        requires cursor { IsCursor B.shown S.seat S.world self.old }
+        requires cursor { IsCursor B.shown S.caller S.world self.old }
         requires none { self.old.held ≡ None }
         requires few { start_of self.old.behind < 2 ^ 120 }
         requires passed { IsPassed self.old }
-        ensures rests { Rests B.shown S.seat S.world self.old self.new }
+        ensures rests { Rests B.shown S.caller S.world self.old self.new }
         ensures first { IsTrue result → HasHere self.new }
         ensures all { result ≡ false → given self.old ≡ length (values_of (whole self.old)) }
     {
@@ -144,10 +144,10 @@ impl<
 
     /// Lends the value that is next, if there is one.
     fn advance(&mut self)
-        requires cursor { IsCursor B.shown S.seat S.world self.old }
+        requires cursor { IsCursor B.shown S.caller S.world self.old }
         ensures moved { MatchOption self.new.held
-            (Ends B.shown S.seat S.world self.old self.new)
-            (λ v. (w : T) → Lends B.shown S.seat S.world v w self.old (record self.new { held = Some w })) }
+            (Ends B.shown S.caller S.world self.old self.new)
+            (λ v. (w : T) → Lends B.shown S.caller S.world v w self.old (record self.new { held = Some w })) }
     {
         self.put_back();
         if self.take_here() {
@@ -160,8 +160,8 @@ impl<
 
     /// The next value, to be changed. None exactly where each has been given.
     pub fn next(&mut self) -> Option<&mut T>
-        requires cursor { IsCursor B.shown S.seat S.world self.old }
-        ensures* lends { sem 𝓛 (LendsNext T.row ARRAY_LEN.row B.row S.row B.shown S.seat S.world self.entry result) }
+        requires cursor { IsCursor B.shown S.caller S.world self.old }
+        ensures* lends { sem 𝓛 (LendsNext T.row ARRAY_LEN.row B.row S.row B.shown S.caller S.world self.entry result) }
         ensures value { MatchOption result
             (given self.old ≡ length (values_of (whole self.old)))
             (λ value. slice_get (values_of (whole self.old)) (given self.old) ≡ Some value.now) }
@@ -172,7 +172,7 @@ impl<
 
     /// Ends the cursor: the value that was lent last goes back into its place, and the bag comes back.
     pub fn close(self) -> &'b mut Bag<T, ARRAY_LEN, B>
-        requires cursor { IsCursor B.shown S.seat S.world self }
+        requires cursor { IsCursor B.shown S.caller S.world self }
         ensures same { result.ghost_name ≡ bag_name self.entry }
         ensures bag { result.now ≡ whole self.entry }
     {

@@ -1,7 +1,7 @@
 //! The values of a bag, lent one after another to be changed in their places.
 ghost use Rattle.std.specs.Prelude.{◌≡◌, List, MatchResult};
 ghost use Rattle.sdd_space.specs.CallerId.{IsExact};
-ghost use Rattle.sdd_space.specs.World.{AnyGuardOpen};
+ghost use Rattle.sdd_world_model.specs.World.{AnyGuardOpen};
 ghost use Rattle.sdd_lists.specs.declared.linked_entry.LinkedEntry.{LinkedEntry as Linked};
 ghost use Rattle.sdd_lists.specs.Lists.{Entry};
 ghost use Rattle.sdd_lists.specs.Stack.{home_in};
@@ -27,8 +27,8 @@ impl<T, const ARRAY_LEN: usize, B: Shelf<T, ARRAY_LEN>> Bag<T, ARRAY_LEN, B> {
         change: F,
         s: &S,
     ) -> Result<(), Refused>
-        requires home { home_in self.old.overflow.stack ≡ (S.seat s.now).home.cells }
-        requires exact { IsExact (S.seat s.now) }
+        requires home { home_in self.old.overflow.stack ≡ (S.caller s.now).home.cells }
+        requires exact { IsExact (S.caller s.now) }
         requires bag { IsBag B.shown ARRAY_LEN (S.world s.now) self.old }
         requires callable { F.IsAlwaysCallable change }
         ensures cells { HasSameCells self.old self.new }

@@ -6,10 +6,10 @@ ghost use Rattle.sdd_bag.specs.Storage.{names_of};
 ghost use Rattle.sdd_bag.specs.Values.{AreInSomeOrder, HasOneMore};
 ghost use Rattle.sdd_rights.specs.Right.{number_of, home_of, kind_of};
 ghost use Rattle.sdd_space.specs.CallerId.{IsSeated, IsExact};
-ghost use Rattle.sdd_space.specs.OwnerOrCell.{AreOf};
-ghost use Rattle.sdd_space.specs.ParticipantChanges.{KeepsMoreWaiting};
+ghost use Rattle.sdd_world_model.specs.OwnerOrCell.{AreOf};
+ghost use Rattle.sdd_world_model.specs.ParticipantChanges.{KeepsMoreWaiting};
 ghost use Rattle.sdd_space.specs.Undisturbed.{Unmoved};
-ghost use Rattle.sdd_space.specs.WorldChanges.{cell_closed};
+ghost use Rattle.sdd_world_model.specs.WorldChanges.{cell_closed};
 ghost use Rattle.sdd_bag.specs.Folding.{FoldsOn};
 ghost use Rattle.sdd_bag.specs.Changing.{ChangesEach};
 ghost use Rattle.sdd_bag.specs.Lent.{AreEmptyFrom, AwaitsValue, TakesOut, with_back};
@@ -150,14 +150,14 @@ impl<T, const ARRAY_LEN: usize> Primary<T, ARRAY_LEN> {
     pub(crate) fn close<I: Item<I>, S: Items<I> + Cells<I> + RawCells<I>>(self, s: &mut S)
     where
         T: Item<I>,
-        requires seated { IsSeated (S.seat s.old) }
-        requires home { self.storage.home ≡ (S.seat s.old).home.cells }
-        requires held { All (λ v. AreOf (S.seat s.old).home (T.holds v)) (held_by self) }
-        requires exact { IsExact (S.seat s.old) }
-        ensures unmoved { Unmoved S.seat S.known S.shows s.old s.new }
+        requires seated { IsSeated (S.caller s.old) }
+        requires home { self.storage.home ≡ (S.caller s.old).home.cells }
+        requires held { All (λ v. AreOf (S.caller s.old).home (T.holds v)) (held_by self) }
+        requires exact { IsExact (S.caller s.old) }
+        ensures unmoved { Unmoved S.caller S.known S.shows s.old s.new }
         ensures own { KeepsMoreWaiting (S.own s.old) (S.own s.new) }
         ensures world { (vs : List T) × AreInSomeOrder vs (held_by self) ×
-            (S.world s.new ≡ cell_closed (values_given T.holds (S.world s.old) (S.seat s.old).place vs) (S.seat s.old).place self.storage.cell) }
+            (S.world s.new ≡ cell_closed (values_given T.holds (S.world s.old) (S.caller s.old).place vs) (S.caller s.old).place self.storage.cell) }
     {
         let mut primary = self;
         while let Some(value) = primary.pop() {

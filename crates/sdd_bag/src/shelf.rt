@@ -1,7 +1,7 @@
 //! What the entries of a bag's overflow have for values.
 ghost use Rattle.std.specs.Prelude.{◌≡◌, MatchResult, None, Option, Some, option_copied};
 ghost use Rattle.sdd_bag.specs.Storages.{StorageName, holdings_of};
-ghost use Rattle.sdd_space.specs.OwnerOrCell.{SpaceId, AreOf};
+ghost use Rattle.sdd_world_model.specs.OwnerOrCell.{SpaceId, AreOf};
 
 use crate::storage::Storage;
 use sdd_lists::LinkedEntry;

@@ -11,12 +11,12 @@ use Rattle.sdd_participants.specs.declared.standing.CellContents.{CellContents}
 use Rattle.sdd_participants.specs.declared.standing.Standing.{Standing}
 use Rattle.sdd_participants.specs.declared.standing.Standing.TheVariants.{Owned, Raw, Shared, Retired, Private as privately}
 use Rattle.sdd_world_slots.proofs.SlotsKept.{inside-some}
-use Rattle.sdd_space.specs.OwnerOrCell.{OwnerOrCell}
-use Rattle.sdd_space.specs.World.{World, place_at, standing_at, value_at}
-use Rattle.sdd_space.specs.WorldChanges.{made, nulled, with_cell, opened, changed, taken_out, waiting_value, reclaimed, all_reclaimed}
-use Rattle.sdd_space.specs.WorldChanges as steps
-use Rattle.sdd_space.specs.Out.{HoldsNothing, out}
-use Rattle.sdd_space.proofs.Out.{out-laws}
+use Rattle.sdd_world_model.specs.OwnerOrCell.{OwnerOrCell}
+use Rattle.sdd_world_model.specs.World.{World, place_at, standing_at, value_at}
+use Rattle.sdd_world_model.specs.WorldChanges.{made, nulled, with_cell, opened, changed, taken_out, waiting_value, reclaimed, all_reclaimed}
+use Rattle.sdd_world_model.specs.WorldChanges as steps
+use Rattle.sdd_world_model.specs.Out.{HoldsNothing, out}
+use Rattle.sdd_world_model.proofs.Out.{out-laws}
 use Rattle.sdd_bench.specs.Leaves.{IsFilled}
 use Rattle.sdd_bench.proofs.Leaving.{nothing}
 

@@ -9,15 +9,15 @@ use Rattle.sdd_participants.specs.Slab.{IsEmptyAt}
 use Rattle.sdd_participants.specs.EpochState.{adopting, is_open, nested, rotated, nobody, finds_another, due_next, awaiting}
 use Rattle.sdd_participants.specs.declared.participant.Participant.{Participant}
 use Rattle.sdd_participants.specs.declared.standing.Standing.TheVariants.{Owned, Retired}
-use Rattle.sdd_space.specs.OwnerOrCell.{OwnerOrCell}
-use Rattle.sdd_space.specs.World.{World, place_at, standing_at}
-use Rattle.sdd_space.specs.WorldChanges.{opened, closed, changed, made, retired, all_reclaimed}
-use Rattle.sdd_space.specs.WorldChanges as steps
-use Rattle.sdd_space.specs.ParticipantChanges.{GuardOpened, GuardClosed, opened_at, closed_with}
-use Rattle.sdd_space.specs.Out.{is_out, out, HoldsNothing}
+use Rattle.sdd_world_model.specs.OwnerOrCell.{OwnerOrCell}
+use Rattle.sdd_world_model.specs.World.{World, place_at, standing_at}
+use Rattle.sdd_world_model.specs.WorldChanges.{opened, closed, changed, made, retired, all_reclaimed}
+use Rattle.sdd_world_model.specs.WorldChanges as steps
+use Rattle.sdd_world_model.specs.ParticipantChanges.{GuardOpened, GuardClosed, opened_at, closed_with}
+use Rattle.sdd_world_model.specs.Out.{is_out, out, HoldsNothing}
 use Rattle.sdd_space.specs.CallerId.{CallerId, IsExact}
-use Rattle.sdd_space.proofs.Whole.{all_awaiting-guards, below-or-past}
-use Rattle.sdd_space.proofs.Out.{out-laws}
+use Rattle.sdd_world_model.proofs.WorldInvariant.{all_awaiting-guards, below-or-past}
+use Rattle.sdd_world_model.proofs.Out.{out-laws}
 use Rattle.sdd_bench.specs.Leaves.{Leaves}
 
 pub as-many : {old new : Participant} → new ≡ old → new.guards ≡ old.guards
@@ -112,9 +112,9 @@ pub in-turn : (s0 s1 s2 : CallerId) (o0 o1 o2 : Participant) (w0 w1 w2 : World �
     → Leaves s0 o0 w0 s2 o2 w2
 in-turn s0 s1 s2 o0 o1 o2 w0 w1 w2 l m =
     record {
-      seat = m.seat ∙ l.seat;
+      caller = m.caller ∙ l.caller;
       guards = m.guards ∙ l.guards;
-      kept = λ exact. m.kept (exact-on s0 s1 l.seat exact) ∙ l.kept exact;
+      kept = λ exact. m.kept (exact-on s0 s1 l.caller exact) ∙ l.kept exact;
     }
 
 -- a guard opened, what leaves all, and the guard closed
@@ -123,10 +123,10 @@ pub under-guard : (s0 s1 s2 s3 : CallerId) (o0 o1 o2 o3 : Participant) (w0 w1 w2
     s3 ≡ s2 → GuardClosed o2 o3 → (IsExact s2 → w3 ≡ closed w2 s2.place) → Leaves s0 o0 w0 s3 o3 w3
 under-guard s0 s1 s2 s3 o0 o1 o2 o3 w0 w1 w2 w3 first opening is_opened l last closing is_closed =
     record {
-      seat = last ∙ l.seat ∙ first;
+      caller = last ∙ l.caller ∙ first;
       guards = closes-one o2 o3 o0.guards (l.guards ∙ opens-one o0 o1 opening) closing;
       kept = λ exact.
-          as-much (is_closed (exact-on s0 s2 (l.seat ∙ first) exact))
+          as-much (is_closed (exact-on s0 s2 (l.caller ∙ first) exact))
           ∙ l.kept (exact-on s0 s1 first exact)
           ∙ as-much (is_opened exact)
           ∙ opened-out nothing (λ n. refl) w0 s0.place (below-or-past s0.place (length w0.time.places));
@@ -138,7 +138,7 @@ pub item-leaves : (s0 s1 s2 : CallerId) (o0 o1 o2 : Participant) (w0 w1 w2 : Wor
     s2 ≡ s1 → o2 ≡ awaiting (Item k) o1 → (IsExact s1 → w2 ≡ retired w1 s1.place k) → Leaves s0 o0 w0 s2 o2 w2
 item-leaves s0 s1 s2 o0 o1 o2 w0 w1 w2 k value first own is_made last own_after is_retired =
     record {
-      seat = last ∙ first;
+      caller = last ∙ first;
       guards = as-many own_after ∙ as-many own;
       kept = λ exact.
           as-much (is_retired (exact-on s0 s1 first exact))
@@ -154,7 +154,7 @@ pub two-leave : (s0 s1 s2 s3 s4 : CallerId) (o0 o1 o2 o3 o4 : Participant) (w0 w
     s4 ≡ s3 → o4 ≡ awaiting (Item j) o3 → (IsExact s3 → w4 ≡ retired w3 s3.place j) → Leaves s0 o0 w0 s4 o4 w4
 two-leave s0 s1 s2 s3 s4 o0 o1 o2 o3 o4 w0 w1 w2 w3 w4 k j a b e1 p1 m1 e2 p2 m2 e3 p3 m3 e4 p4 m4 =
     record {
-      seat = e4 ∙ e3 ∙ e2 ∙ e1;
+      caller = e4 ∙ e3 ∙ e2 ∙ e1;
       guards = as-many p4 ∙ as-many p3 ∙ as-many p2 ∙ as-many p1;
       kept = λ exact.
           let one = m1 exact in
@@ -174,10 +174,10 @@ pub item-around : (s0 s1 s2 s3 : CallerId) (o0 o1 o2 o3 : Participant) (w0 w1 w2
     Leaves s0 o0 w0 s3 o3 w3
 item-around s0 s1 s2 s3 o0 o1 o2 o3 w0 w1 w2 w3 k value first own is_made l last own_after is_owned is_retired =
     record {
-      seat = last ∙ l.seat ∙ first;
+      caller = last ∙ l.caller ∙ first;
       guards = as-many own_after ∙ l.guards ∙ as-many own;
       kept = λ exact.
-          let still = exact-on s0 s2 (l.seat ∙ first) exact in
+          let still = exact-on s0 s2 (l.caller ∙ first) exact in
           let there = is_made exact in
           let more = (out-laws nothing w0).making k value there.0 in
           let less = (out-laws nothing w2).retiring s2.place k (ap is_out (is_owned still)) in

@@ -8,9 +8,9 @@ use Rattle.sdd_participants.specs.declared.participant.Participant.{Participant}
 use Rattle.sdd_participants.specs.declared.place_states.PlaceState.TheVariants.{Live}
 use Rattle.sdd_participants.specs.declared.waiting.LimboEntry.TheVariants.{Item}
 use Rattle.sdd_space.specs.CallerId.{CallerId, MayNest}
-use Rattle.sdd_space.specs.ParticipantChanges.{KeepsMoreWaiting}
-use Rattle.sdd_space.proofs.Whole.{all_awaiting-guards}
-use Rattle.sdd_lists.proofs.Grows.{grows-if}
+use Rattle.sdd_world_model.specs.ParticipantChanges.{KeepsMoreWaiting}
+use Rattle.sdd_world_model.proofs.WorldInvariant.{all_awaiting-guards}
+use Rattle.sdd_lists.proofs.MoreWaiting.{grows-if}
 use Rattle.sdd_bench.proofs.Leaving.{as-many}
 
 -- what waits with a participant is under no guard
@@ -22,7 +22,7 @@ let-go-guards last k old new is = more-guards old new (grows-if last k old new i
 
 -- and as many as before may still be opened
 pub nests-on : (s r : CallerId) (p q : Participant) → r ≡ s → q.guards ≡ p.guards → MayNest s p → MayNest r q
-nests-on s r p q seat guards may = let same = ap (λ (x : CallerId). x.nesting) seat in omega (arith, guards, same, may)
+nests-on s r p q caller guards may = let same = ap (λ (x : CallerId). x.nesting) caller in omega (arith, guards, same, may)
 
 -- who registers in a new world has no guard open
 alone : (room p : ℕ) → (slice_index_or (newcomer room ∷ []) p nobody).guards ≡ 0

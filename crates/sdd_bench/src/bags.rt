@@ -42,11 +42,11 @@ fn push_into<S: Bags>(
     guard: &Guard,
     value: u64,
 ) -> Result<(), Refused>
-    requires may { MayCall (S.seat space.old) }
-    requires there { IsThere (λ b. Some b) 32 (S.seat space.old) (S.world space.old) bag.old }
-    requires reader { reader_of guard.now ≡ (S.seat space.old).reader }
-    ensures seat { S.seat space.new ≡ S.seat space.old }
-    ensures there { IsThere (λ b. Some b) 32 (S.seat space.new) (S.world space.new) bag.new }
+    requires may { MayCall (S.caller space.old) }
+    requires there { IsThere (λ b. Some b) 32 (S.caller space.old) (S.world space.old) bag.old }
+    requires reader { reader_of guard.now ≡ (S.caller space.old).reader }
+    ensures caller { S.caller space.new ≡ S.caller space.old }
+    ensures there { IsThere (λ b. Some b) 32 (S.caller space.new) (S.world space.new) bag.new }
 {
     match bag.push(value, guard, space) {
         Ok(()) => Ok(()),
@@ -62,11 +62,11 @@ fn through_bag<S: Bags>(
     guard: &Guard,
     value: u64,
 ) -> Result<u64, Refused>
-    requires may { MayCall (S.seat space.old) }
-    requires there { IsThere (λ b. Some b) 32 (S.seat space.old) (S.world space.old) bag.old }
-    requires reader { reader_of guard.now ≡ (S.seat space.old).reader }
-    ensures seat { S.seat space.new ≡ S.seat space.old }
-    ensures there { IsThere (λ b. Some b) 32 (S.seat space.new) (S.world space.new) bag.new }
+    requires may { MayCall (S.caller space.old) }
+    requires there { IsThere (λ b. Some b) 32 (S.caller space.old) (S.world space.old) bag.old }
+    requires reader { reader_of guard.now ≡ (S.caller space.old).reader }
+    ensures caller { S.caller space.new ≡ S.caller space.old }
+    ensures there { IsThere (λ b. Some b) 32 (S.caller space.new) (S.world space.new) bag.new }
 {
     match bag.push(value, guard, space) {
         Ok(()) => {}
@@ -86,11 +86,11 @@ fn bag_turns<S: Bags>(
     guard: &Guard,
     turns: u64,
 ) -> Result<u64, Refused>
-    requires may { MayCall (S.seat space.old) }
-    requires there { IsThere (λ b. Some b) 32 (S.seat space.old) (S.world space.old) bag.old }
-    requires reader { reader_of guard.now ≡ (S.seat space.old).reader }
-    ensures seat { S.seat space.new ≡ S.seat space.old }
-    ensures there { IsThere (λ b. Some b) 32 (S.seat space.new) (S.world space.new) bag.new }
+    requires may { MayCall (S.caller space.old) }
+    requires there { IsThere (λ b. Some b) 32 (S.caller space.old) (S.world space.old) bag.old }
+    requires reader { reader_of guard.now ≡ (S.caller space.old).reader }
+    ensures caller { S.caller space.new ≡ S.caller space.old }
+    ensures there { IsThere (λ b. Some b) 32 (S.caller space.new) (S.world space.new) bag.new }
 {
     let mut sum = 0u64;
     for turn in 0..turns {
@@ -110,11 +110,11 @@ fn fill<S: Bags>(
     guard: &Guard,
     numbers: u64,
 ) -> Result<(), Refused>
-    requires may { MayCall (S.seat space.old) }
-    requires there { IsThere (λ b. Some b) 32 (S.seat space.old) (S.world space.old) bag.old }
-    requires reader { reader_of guard.now ≡ (S.seat space.old).reader }
-    ensures seat { S.seat space.new ≡ S.seat space.old }
-    ensures there { IsThere (λ b. Some b) 32 (S.seat space.new) (S.world space.new) bag.new }
+    requires may { MayCall (S.caller space.old) }
+    requires there { IsThere (λ b. Some b) 32 (S.caller space.old) (S.world space.old) bag.old }
+    requires reader { reader_of guard.now ≡ (S.caller space.old).reader }
+    ensures caller { S.caller space.new ≡ S.caller space.old }
+    ensures there { IsThere (λ b. Some b) 32 (S.caller space.new) (S.world space.new) bag.new }
 {
     for number in 0..numbers {
         match push_into(space, bag, guard, number) {
@@ -128,11 +128,11 @@ fn fill<S: Bags>(
 /// The sum of the numbers of a bag, which is empty then.
 #[inline(never)]
 fn summed<S: Bags>(space: &mut S, bag: &mut Numbers, guard: &Guard) -> u64
-    requires may { MayCall (S.seat space.old) }
-    requires there { IsThere (λ b. Some b) 32 (S.seat space.old) (S.world space.old) bag.old }
-    requires reader { reader_of guard.now ≡ (S.seat space.old).reader }
-    ensures seat { S.seat space.new ≡ S.seat space.old }
-    ensures there { IsThere (λ b. Some b) 32 (S.seat space.new) (S.world space.new) bag.new }
+    requires may { MayCall (S.caller space.old) }
+    requires there { IsThere (λ b. Some b) 32 (S.caller space.old) (S.world space.old) bag.old }
+    requires reader { reader_of guard.now ≡ (S.caller space.old).reader }
+    ensures caller { S.caller space.new ≡ S.caller space.old }
+    ensures there { IsThere (λ b. Some b) 32 (S.caller space.new) (S.world space.new) bag.new }
 {
     bag.pop_all(0, |sum: u64, number| sum.wrapping_add(number), guard, space)
 }
@@ -145,11 +145,11 @@ fn with_bag<S: Bags>(
     work: Bagging,
     turns: u64,
 ) -> Result<u64, Refused>
-    requires may { MayCall (S.seat space.old) }
-    requires there { IsThere (λ b. Some b) 32 (S.seat space.old) (S.world space.old) bag.old }
-    requires reader { reader_of guard.now ≡ (S.seat space.old).reader }
-    ensures seat { S.seat space.new ≡ S.seat space.old }
-    ensures there { IsThere (λ b. Some b) 32 (S.seat space.new) (S.world space.new) bag.new }
+    requires may { MayCall (S.caller space.old) }
+    requires there { IsThere (λ b. Some b) 32 (S.caller space.old) (S.world space.old) bag.old }
+    requires reader { reader_of guard.now ≡ (S.caller space.old).reader }
+    ensures caller { S.caller space.new ≡ S.caller space.old }
+    ensures there { IsThere (λ b. Some b) 32 (S.caller space.new) (S.world space.new) bag.new }
 {
     match work {
         Bagging::Inside => bag_turns(space, bag, guard, turns),
@@ -171,9 +171,9 @@ fn under_a_guard<S: Bags>(
     work: Bagging,
     turns: u64,
 ) -> Result<u64, Refused>
-    requires may { MayCall (S.seat space.old) }
-    requires reader { reader_of guard.now ≡ (S.seat space.old).reader }
-    ensures seat { S.seat space.new ≡ S.seat space.old }
+    requires may { MayCall (S.caller space.old) }
+    requires reader { reader_of guard.now ≡ (S.caller space.old).reader }
+    ensures caller { S.caller space.new ≡ S.caller space.old }
 {
     let mut bag: Numbers = Bag::new(space)?;
     let done = with_bag(space, &mut bag, guard, work, turns);
@@ -183,8 +183,8 @@ fn under_a_guard<S: Bags>(
 
 /// The same under a guard of its own.
 fn guarded<S: Bags>(space: &mut S, work: Bagging, turns: u64) -> Result<u64, Refused>
-    requires may { MayCall (S.seat space.old) }
-    ensures seat { S.seat space.new ≡ S.seat space.old }
+    requires may { MayCall (S.caller space.old) }
+    ensures caller { S.caller space.new ≡ S.caller space.old }
 {
     let guard = Guard::new(space)?;
     let done = under_a_guard(space, &guard, work, turns);
@@ -194,8 +194,8 @@ fn guarded<S: Bags>(space: &mut S, work: Bagging, turns: u64) -> Result<u64, Ref
 
 /// A bag of 256 numbers is made under a guard, its numbers are folded, and it is closed, that often. What is due is reclaimed.
 fn folds<S: Bags>(space: &mut S, turns: u64) -> Result<u64, Refused>
-    requires may { MayCall (S.seat space.old) }
-    ensures seat { S.seat space.new ≡ S.seat space.old }
+    requires may { MayCall (S.caller space.old) }
+    ensures caller { S.caller space.new ≡ S.caller space.old }
 {
     let mut sum = 0u64;
     for _turn in 0..turns {
@@ -206,8 +206,8 @@ fn folds<S: Bags>(space: &mut S, turns: u64) -> Result<u64, Refused>
 
 /// Does that with a bag that often.
 pub fn work_with_bag<S: Bags>(space: &mut S, work: Bagging, turns: u64) -> Result<u64, Refused>
-    requires may { MayCall (S.seat space.old) }
-    ensures seat { S.seat space.new ≡ S.seat space.old }
+    requires may { MayCall (S.caller space.old) }
+    ensures caller { S.caller space.new ≡ S.caller space.old }
 {
     match work {
         Bagging::Inside | Bagging::Behind => guarded(space, work, turns),

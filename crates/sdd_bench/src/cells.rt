@@ -2,7 +2,7 @@
 ghost use Rattle.std.specs.Prelude.{◌≡◌, ◌+◌, IfOk, MatchResult};
 ghost use Rattle.sdd_participants.specs.Slab.{without_entry};
 ghost use Rattle.sdd_space.specs.Guard.{reader_of};
-ghost use Rattle.sdd_space.specs.Out.{out};
+ghost use Rattle.sdd_world_model.specs.Out.{out};
 ghost use Rattle.sdd_space.specs.Owned.{cell_of, cells_home};
 ghost use Rattle.sdd_space.specs.CallerId.{IsExact, IsSeated};
 ghost use Rattle.sdd_bench.specs.Leaves.{IsFilled, Leaves};
@@ -16,8 +16,8 @@ pub fn loads<S: Look<u64> + Guards<u64> + Items<u64> + Cells<u64>>(
     space: &mut S,
     turns: u64,
 ) -> Result<u64, Refused>
-    requires { IsSeated (S.seat space.old) }
-    ensures { Leaves (S.seat space.old) (S.own space.old) (S.world space.old) (S.seat space.new) (S.own space.new) (S.world space.new) }
+    requires { IsSeated (S.caller space.old) }
+    ensures { Leaves (S.caller space.old) (S.own space.old) (S.world space.old) (S.caller space.new) (S.own space.new) (S.world space.new) }
 {
     let guard = Guard::new(space)?;
     let sum = loads_under(space, &guard, turns);
@@ -31,9 +31,9 @@ fn loads_under<S: Look<u64> + Items<u64> + Cells<u64>>(
     guard: &Guard,
     turns: u64,
 ) -> Result<u64, Refused>
-    requires seated { IsSeated (S.seat space.old) }
-    requires reader { reader_of guard.now ≡ (S.seat space.old).reader }
-    ensures { Leaves (S.seat space.old) (S.own space.old) (S.world space.old) (S.seat space.new) (S.own space.new) (S.world space.new) }
+    requires seated { IsSeated (S.caller space.old) }
+    requires reader { reader_of guard.now ≡ (S.caller space.old).reader }
+    ensures { Leaves (S.caller space.old) (S.own space.old) (S.world space.old) (S.caller space.new) (S.own space.new) (S.world space.new) }
 {
     let one = match AtomicOwned::new(1, space) {
         Ok(one) => one,
@@ -64,13 +64,13 @@ fn sum_loaded<S: Look<u64> + Cells<u64>>(
     guard: &Guard,
     turns: u64,
 ) -> u64
-    requires seated { IsSeated (S.seat space.old) }
-    requires one { cells_home one.now ≡ (S.seat space.old).home.cells }
-    requires other { cells_home other.now ≡ (S.seat space.old).home.cells }
-    requires reader { reader_of guard.now ≡ (S.seat space.old).reader }
-    ensures seat { S.seat space.new ≡ S.seat space.old }
+    requires seated { IsSeated (S.caller space.old) }
+    requires one { cells_home one.now ≡ (S.caller space.old).home.cells }
+    requires other { cells_home other.now ≡ (S.caller space.old).home.cells }
+    requires reader { reader_of guard.now ≡ (S.caller space.old).reader }
+    ensures caller { S.caller space.new ≡ S.caller space.old }
     ensures own { S.own space.new ≡ S.own space.old }
-    ensures exact { IsExact (S.seat space.old) → S.world space.new ≡ S.world space.old }
+    ensures exact { IsExact (S.caller space.old) → S.world space.new ≡ S.world space.old }
 {
     let mut sum = 0u64;
     for _turn in 0..turns {
@@ -85,13 +85,13 @@ fn sum_loaded<S: Look<u64> + Cells<u64>>(
 /// Frees a cell that holds an owner, and retires the item.
 #[inline(always)]
 fn empties<S: Items<u64> + Cells<u64>>(space: &mut S, cell: AtomicOwned<u64>)
-    requires seated { IsSeated (S.seat space.old) }
-    requires home { cells_home cell ≡ (S.seat space.old).home.cells }
-    requires filled { IsExact (S.seat space.old) → IsFilled (S.world space.old) (cell_of cell) }
-    ensures seat { S.seat space.new ≡ S.seat space.old }
+    requires seated { IsSeated (S.caller space.old) }
+    requires home { cells_home cell ≡ (S.caller space.old).home.cells }
+    requires filled { IsExact (S.caller space.old) → IsFilled (S.world space.old) (cell_of cell) }
+    ensures caller { S.caller space.new ≡ S.caller space.old }
     ensures guards { (S.own space.new).guards ≡ (S.own space.old).guards }
-    ensures cells { IsExact (S.seat space.old) → (S.world space.new).cells ≡ without_entry (S.world space.old).cells (cell_of cell) }
-    ensures out { IsExact (S.seat space.old) → out (S.world space.new) + 2 ≡ out (S.world space.old) }
+    ensures cells { IsExact (S.caller space.old) → (S.world space.new).cells ≡ without_entry (S.world space.old).cells (cell_of cell) }
+    ensures out { IsExact (S.caller space.old) → out (S.world space.new) + 2 ≡ out (S.world space.old) }
 {
     if let Some(owner) = cell.into_owned(space) {
         owner.retire(space);
@@ -104,8 +104,8 @@ pub fn swaps<S: Guards<u64> + Items<u64> + Cells<u64>>(
     space: &mut S,
     turns: u64,
 ) -> Result<(), Refused>
-    requires { IsSeated (S.seat space.old) }
-    ensures { Leaves (S.seat space.old) (S.own space.old) (S.world space.old) (S.seat space.new) (S.own space.new) (S.world space.new) }
+    requires { IsSeated (S.caller space.old) }
+    ensures { Leaves (S.caller space.old) (S.own space.old) (S.world space.old) (S.caller space.new) (S.own space.new) (S.world space.new) }
 {
     match AtomicOwned::new(0, space) {
         Ok(cell) => {
@@ -123,11 +123,11 @@ fn swaps_in<S: Guards<u64> + Items<u64> + Cells<u64>>(
     cell: &AtomicOwned<u64>,
     turns: u64,
 ) -> Result<(), Refused>
-    requires seated { IsSeated (S.seat space.old) }
-    requires home { cells_home cell.now ≡ (S.seat space.old).home.cells }
-    requires filled { IsExact (S.seat space.old) → IsFilled (S.world space.old) (cell_of cell.now) }
-    ensures leaves { Leaves (S.seat space.old) (S.own space.old) (S.world space.old) (S.seat space.new) (S.own space.new) (S.world space.new) }
-    ensures filled { IsExact (S.seat space.old) → IsFilled (S.world space.new) (cell_of cell.now) }
+    requires seated { IsSeated (S.caller space.old) }
+    requires home { cells_home cell.now ≡ (S.caller space.old).home.cells }
+    requires filled { IsExact (S.caller space.old) → IsFilled (S.world space.old) (cell_of cell.now) }
+    ensures leaves { Leaves (S.caller space.old) (S.own space.old) (S.world space.old) (S.caller space.new) (S.own space.new) (S.world space.new) }
+    ensures filled { IsExact (S.caller space.old) → IsFilled (S.world space.new) (cell_of cell.now) }
 {
     for turn in 0..turns {
         let guard = Guard::new(space)?;
@@ -145,11 +145,11 @@ fn swap<S: Items<u64> + Cells<u64>>(
     cell: &AtomicOwned<u64>,
     value: u64,
 ) -> Result<(), Refused>
-    requires seated { IsSeated (S.seat space.old) }
-    requires home { cells_home cell.now ≡ (S.seat space.old).home.cells }
-    requires filled { IsExact (S.seat space.old) → IsFilled (S.world space.old) (cell_of cell.now) }
-    ensures leaves { Leaves (S.seat space.old) (S.own space.old) (S.world space.old) (S.seat space.new) (S.own space.new) (S.world space.new) }
-    ensures filled { IsExact (S.seat space.old) → IsFilled (S.world space.new) (cell_of cell.now) }
+    requires seated { IsSeated (S.caller space.old) }
+    requires home { cells_home cell.now ≡ (S.caller space.old).home.cells }
+    requires filled { IsExact (S.caller space.old) → IsFilled (S.world space.old) (cell_of cell.now) }
+    ensures leaves { Leaves (S.caller space.old) (S.own space.old) (S.world space.old) (S.caller space.new) (S.own space.new) (S.world space.new) }
+    ensures filled { IsExact (S.caller space.old) → IsFilled (S.world space.new) (cell_of cell.now) }
 {
     match Owned::new(value, space) {
         Ok(next) => {

@@ -3,7 +3,7 @@ ghost use Rattle.std.specs.Prelude.{◌≡◌};
 ghost use Rattle.sdd_space.specs.CallerId.{IsSeated};
 ghost use Rattle.sdd_space.specs.Guard.{reader_of};
 ghost use Rattle.sdd_space.specs.Shared.{IsOfSlots, cells_home};
-ghost use Rattle.sdd_domain.specs.Space.{seat_of};
+ghost use Rattle.sdd_domain.specs.Space.{caller_of};
 
 use crate::operation::CellWork;
 use sdd_core::{Refused, Tag};
@@ -13,8 +13,8 @@ use sdd_space::{AtomicShared, Guard, Shared};
 /// Does the work with a cell of its own that often, and answers the sum of what was seen.
 #[inline(always)]
 pub fn alone(local: &mut Local<'_, u64>, work: CellWork, turns: u64) -> Result<u64, Refused>
-    requires { IsSeated (seat_of local.old) }
-    ensures { (seat_of local.new ≡ seat_of local.old) × (local.new.member.own.guards ≡ local.old.member.own.guards) }
+    requires { IsSeated (caller_of local.old) }
+    ensures { (caller_of local.new ≡ caller_of local.old) × (local.new.member.own.guards ≡ local.old.member.own.guards) }
 {
     match AtomicShared::new(1, local) {
         Ok(cell) => {
@@ -34,9 +34,9 @@ pub fn with_cell(
     work: CellWork,
     turns: u64,
 ) -> Result<u64, Refused>
-    requires seated { IsSeated (seat_of local.old) }
-    requires home { cells_home cell.now ≡ (seat_of local.old).home.cells }
-    ensures { (seat_of local.new ≡ seat_of local.old) × (local.new.member.own.guards ≡ local.old.member.own.guards) }
+    requires seated { IsSeated (caller_of local.old) }
+    requires home { cells_home cell.now ≡ (caller_of local.old).home.cells }
+    ensures { (caller_of local.new ≡ caller_of local.old) × (local.new.member.own.guards ≡ local.old.member.own.guards) }
 {
     match work {
         CellWork::Loads => loads(local, cell, turns),
@@ -50,10 +50,10 @@ pub fn with_cell(
 /// What the cell holds, under a guard.
 #[inline(always)]
 fn found(local: &mut Local<'_, u64>, cell: &AtomicShared<u64>, guard: &Guard) -> u64
-    requires seated { IsSeated (seat_of local.old) }
-    requires home { cells_home cell.now ≡ (seat_of local.old).home.cells }
-    requires reader { reader_of guard.now ≡ (seat_of local.old).reader }
-    ensures { (seat_of local.new ≡ seat_of local.old) × (local.new.member.own.guards ≡ local.old.member.own.guards) }
+    requires seated { IsSeated (caller_of local.old) }
+    requires home { cells_home cell.now ≡ (caller_of local.old).home.cells }
+    requires reader { reader_of guard.now ≡ (caller_of local.old).reader }
+    ensures { (caller_of local.new ≡ caller_of local.old) × (local.new.member.own.guards ≡ local.old.member.own.guards) }
 {
     match cell.load(guard, local).as_ref(local) {
         Some(value) => *value,
@@ -63,9 +63,9 @@ fn found(local: &mut Local<'_, u64>, cell: &AtomicShared<u64>, guard: &Guard) ->
 
 #[inline(never)]
 fn loads(local: &mut Local<'_, u64>, cell: &AtomicShared<u64>, turns: u64) -> Result<u64, Refused>
-    requires seated { IsSeated (seat_of local.old) }
-    requires home { cells_home cell.now ≡ (seat_of local.old).home.cells }
-    ensures { (seat_of local.new ≡ seat_of local.old) × (local.new.member.own.guards ≡ local.old.member.own.guards) }
+    requires seated { IsSeated (caller_of local.old) }
+    requires home { cells_home cell.now ≡ (caller_of local.old).home.cells }
+    ensures { (caller_of local.new ≡ caller_of local.old) × (local.new.member.own.guards ≡ local.old.member.own.guards) }
 {
     let guard = Guard::new(local)?;
     let sum = sum_found(local, cell, &guard, turns);
@@ -75,10 +75,10 @@ fn loads(local: &mut Local<'_, u64>, cell: &AtomicShared<u64>, turns: u64) -> Re
 
 #[inline(always)]
 fn sum_found(local: &mut Local<'_, u64>, cell: &AtomicShared<u64>, guard: &Guard, turns: u64) -> u64
-    requires seated { IsSeated (seat_of local.old) }
-    requires home { cells_home cell.now ≡ (seat_of local.old).home.cells }
-    requires reader { reader_of guard.now ≡ (seat_of local.old).reader }
-    ensures { (seat_of local.new ≡ seat_of local.old) × (local.new.member.own.guards ≡ local.old.member.own.guards) }
+    requires seated { IsSeated (caller_of local.old) }
+    requires home { cells_home cell.now ≡ (caller_of local.old).home.cells }
+    requires reader { reader_of guard.now ≡ (caller_of local.old).reader }
+    ensures { (caller_of local.new ≡ caller_of local.old) × (local.new.member.own.guards ≡ local.old.member.own.guards) }
 {
     let mut sum = 0u64;
     for _turn in 0..turns {
@@ -89,9 +89,9 @@ fn sum_found(local: &mut Local<'_, u64>, cell: &AtomicShared<u64>, guard: &Guard
 
 #[inline(always)]
 fn read(local: &mut Local<'_, u64>, cell: &AtomicShared<u64>) -> Result<u64, Refused>
-    requires seated { IsSeated (seat_of local.old) }
-    requires home { cells_home cell.now ≡ (seat_of local.old).home.cells }
-    ensures { (seat_of local.new ≡ seat_of local.old) × (local.new.member.own.guards ≡ local.old.member.own.guards) }
+    requires seated { IsSeated (caller_of local.old) }
+    requires home { cells_home cell.now ≡ (caller_of local.old).home.cells }
+    ensures { (caller_of local.new ≡ caller_of local.old) × (local.new.member.own.guards ≡ local.old.member.own.guards) }
 {
     let guard = Guard::new(local)?;
     let value = found(local, cell, &guard);
@@ -101,9 +101,9 @@ fn read(local: &mut Local<'_, u64>, cell: &AtomicShared<u64>) -> Result<u64, Ref
 
 #[inline(never)]
 fn reads(local: &mut Local<'_, u64>, cell: &AtomicShared<u64>, turns: u64) -> Result<u64, Refused>
-    requires seated { IsSeated (seat_of local.old) }
-    requires home { cells_home cell.now ≡ (seat_of local.old).home.cells }
-    ensures { (seat_of local.new ≡ seat_of local.old) × (local.new.member.own.guards ≡ local.old.member.own.guards) }
+    requires seated { IsSeated (caller_of local.old) }
+    requires home { cells_home cell.now ≡ (caller_of local.old).home.cells }
+    ensures { (caller_of local.new ≡ caller_of local.old) × (local.new.member.own.guards ≡ local.old.member.own.guards) }
 {
     let mut sum = 0u64;
     for _turn in 0..turns {
@@ -115,9 +115,9 @@ fn reads(local: &mut Local<'_, u64>, cell: &AtomicShared<u64>, turns: u64) -> Re
 /// Lets go of what came out.
 #[inline(always)]
 fn let_go(local: &mut Local<'_, u64>, owner: Option<Shared<u64>>)
-    requires seated { IsSeated (seat_of local.old) }
-    requires home { IsOfSlots (seat_of local.old).home.slots owner }
-    ensures { (seat_of local.new ≡ seat_of local.old) × (local.new.member.own.guards ≡ local.old.member.own.guards) }
+    requires seated { IsSeated (caller_of local.old) }
+    requires home { IsOfSlots (caller_of local.old).home.slots owner }
+    ensures { (caller_of local.new ≡ caller_of local.old) × (local.new.member.own.guards ≡ local.old.member.own.guards) }
 {
     if let Some(owner) = owner {
         let _ = owner.release(local);
@@ -127,9 +127,9 @@ fn let_go(local: &mut Local<'_, u64>, owner: Option<Shared<u64>>)
 /// Another item takes the place of the one in the cell.
 #[inline(always)]
 fn replace(local: &mut Local<'_, u64>, cell: &AtomicShared<u64>, value: u64) -> Result<(), Refused>
-    requires seated { IsSeated (seat_of local.old) }
-    requires home { cells_home cell.now ≡ (seat_of local.old).home.cells }
-    ensures { (seat_of local.new ≡ seat_of local.old) × (local.new.member.own.guards ≡ local.old.member.own.guards) }
+    requires seated { IsSeated (caller_of local.old) }
+    requires home { cells_home cell.now ≡ (caller_of local.old).home.cells }
+    ensures { (caller_of local.new ≡ caller_of local.old) × (local.new.member.own.guards ≡ local.old.member.own.guards) }
 {
     match Shared::new(value, local) {
         Ok(next) => {
@@ -143,9 +143,9 @@ fn replace(local: &mut Local<'_, u64>, cell: &AtomicShared<u64>, value: u64) -> 
 
 #[inline(always)]
 fn publish(local: &mut Local<'_, u64>, cell: &AtomicShared<u64>, value: u64) -> Result<(), Refused>
-    requires seated { IsSeated (seat_of local.old) }
-    requires home { cells_home cell.now ≡ (seat_of local.old).home.cells }
-    ensures { (seat_of local.new ≡ seat_of local.old) × (local.new.member.own.guards ≡ local.old.member.own.guards) }
+    requires seated { IsSeated (caller_of local.old) }
+    requires home { cells_home cell.now ≡ (caller_of local.old).home.cells }
+    ensures { (caller_of local.new ≡ caller_of local.old) × (local.new.member.own.guards ≡ local.old.member.own.guards) }
 {
     let guard = Guard::new(local)?;
     let done = replace(local, cell, value);
@@ -159,9 +159,9 @@ fn publishes(
     cell: &AtomicShared<u64>,
     turns: u64,
 ) -> Result<u64, Refused>
-    requires seated { IsSeated (seat_of local.old) }
-    requires home { cells_home cell.now ≡ (seat_of local.old).home.cells }
-    ensures { (seat_of local.new ≡ seat_of local.old) × (local.new.member.own.guards ≡ local.old.member.own.guards) }
+    requires seated { IsSeated (caller_of local.old) }
+    requires home { cells_home cell.now ≡ (caller_of local.old).home.cells }
+    ensures { (caller_of local.new ≡ caller_of local.old) × (local.new.member.own.guards ≡ local.old.member.own.guards) }
 {
     for turn in 0..turns {
         publish(local, cell, turn)?;
@@ -177,10 +177,10 @@ fn exchange(
     guard: &Guard,
     value: u64,
 ) -> Result<(), Refused>
-    requires seated { IsSeated (seat_of local.old) }
-    requires home { cells_home cell.now ≡ (seat_of local.old).home.cells }
-    requires reader { reader_of guard.now ≡ (seat_of local.old).reader }
-    ensures { (seat_of local.new ≡ seat_of local.old) × (local.new.member.own.guards ≡ local.old.member.own.guards) }
+    requires seated { IsSeated (caller_of local.old) }
+    requires home { cells_home cell.now ≡ (caller_of local.old).home.cells }
+    requires reader { reader_of guard.now ≡ (caller_of local.old).reader }
+    ensures { (caller_of local.new ≡ caller_of local.old) × (local.new.member.own.guards ≡ local.old.member.own.guards) }
 {
     let current = cell.load(guard, local);
     let next = match Shared::new(value, local) {
@@ -200,9 +200,9 @@ fn exchanges(
     cell: &AtomicShared<u64>,
     turns: u64,
 ) -> Result<u64, Refused>
-    requires seated { IsSeated (seat_of local.old) }
-    requires home { cells_home cell.now ≡ (seat_of local.old).home.cells }
-    ensures { (seat_of local.new ≡ seat_of local.old) × (local.new.member.own.guards ≡ local.old.member.own.guards) }
+    requires seated { IsSeated (caller_of local.old) }
+    requires home { cells_home cell.now ≡ (caller_of local.old).home.cells }
+    ensures { (caller_of local.new ≡ caller_of local.old) × (local.new.member.own.guards ≡ local.old.member.own.guards) }
 {
     for turn in 0..turns {
         let guard = Guard::new(local)?;
@@ -219,9 +219,9 @@ fn mostly_reads(
     cell: &AtomicShared<u64>,
     turns: u64,
 ) -> Result<u64, Refused>
-    requires seated { IsSeated (seat_of local.old) }
-    requires home { cells_home cell.now ≡ (seat_of local.old).home.cells }
-    ensures { (seat_of local.new ≡ seat_of local.old) × (local.new.member.own.guards ≡ local.old.member.own.guards) }
+    requires seated { IsSeated (caller_of local.old) }
+    requires home { cells_home cell.now ≡ (caller_of local.old).home.cells }
+    ensures { (caller_of local.new ≡ caller_of local.old) × (local.new.member.own.guards ≡ local.old.member.own.guards) }
 {
     let mut sum = 0u64;
     for turn in 0..turns {

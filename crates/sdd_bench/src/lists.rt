@@ -41,9 +41,9 @@ fn kept<S: Lists>(
     space: &mut S,
     pushed: Result<Shared<Entry>, (u64, Refused)>,
 ) -> Result<(), Refused>
-    requires seated { IsSeated (S.seat space.old) }
-    requires home { IfOk pushed (λ owner. slots_home owner ≡ (S.seat space.old).home.slots) }
-    ensures seat { S.seat space.new ≡ S.seat space.old }
+    requires seated { IsSeated (S.caller space.old) }
+    requires home { IfOk pushed (λ owner. slots_home owner ≡ (S.caller space.old).home.slots) }
+    ensures caller { S.caller space.new ≡ S.caller space.old }
     ensures guards { (S.own space.new).guards ≡ (S.own space.old).guards }
 {
     match pushed {
@@ -61,9 +61,9 @@ fn number<S: Lists>(
     space: &mut S,
     popped: Result<Option<Shared<Entry>>, Refused>,
 ) -> Result<u64, Refused>
-    requires seated { IsSeated (S.seat space.old) }
-    requires home { IfOk popped (IsOfSlots (S.seat space.old).home.slots) }
-    ensures seat { S.seat space.new ≡ S.seat space.old }
+    requires seated { IsSeated (S.caller space.old) }
+    requires home { IfOk popped (IsOfSlots (S.caller space.old).home.slots) }
+    ensures caller { S.caller space.new ≡ S.caller space.old }
     ensures guards { (S.own space.new).guards ≡ (S.own space.old).guards }
 {
     match popped {
@@ -85,10 +85,10 @@ fn through_queue<S: Lists>(
     guard: &Guard,
     value: u64,
 ) -> Result<u64, Refused>
-    requires seated { IsSeated (S.seat space.old) }
-    requires home { AreOfCells (S.seat space.old).home.cells queue.now }
-    requires reader { reader_of guard.now ≡ (S.seat space.old).reader }
-    ensures seat { S.seat space.new ≡ S.seat space.old }
+    requires seated { IsSeated (S.caller space.old) }
+    requires home { AreOfCells (S.caller space.old).home.cells queue.now }
+    requires reader { reader_of guard.now ≡ (S.caller space.old).reader }
+    ensures caller { S.caller space.new ≡ S.caller space.old }
     ensures guards { (S.own space.new).guards ≡ (S.own space.old).guards }
 {
     let pushed = queue.push(value, guard, space);
@@ -100,9 +100,9 @@ fn through_queue<S: Lists>(
 /// The same under a guard of its own, that often. What is due is reclaimed.
 #[inline(always)]
 fn queue_turns<S: Lists>(space: &mut S, queue: &Queue<u64>, turns: u64) -> Result<u64, Refused>
-    requires seated { IsSeated (S.seat space.old) }
-    requires home { AreOfCells (S.seat space.old).home.cells queue.now }
-    ensures seat { S.seat space.new ≡ S.seat space.old }
+    requires seated { IsSeated (S.caller space.old) }
+    requires home { AreOfCells (S.caller space.old).home.cells queue.now }
+    ensures caller { S.caller space.new ≡ S.caller space.old }
     ensures guards { (S.own space.new).guards ≡ (S.own space.old).guards }
 {
     let mut sum = 0u64;
@@ -116,10 +116,10 @@ fn queue_turns<S: Lists>(space: &mut S, queue: &Queue<u64>, turns: u64) -> Resul
 }
 
 fn close_queue<S: Lists>(space: &mut S, queue: Queue<u64>)
-    requires seated { IsSeated (S.seat space.old) }
-    requires home { AreOfCells (S.seat space.old).home.cells queue }
-    requires may { MayNest (S.seat space.old) (S.own space.old) }
-    ensures seat { S.seat space.new ≡ S.seat space.old }
+    requires seated { IsSeated (S.caller space.old) }
+    requires home { AreOfCells (S.caller space.old).home.cells queue }
+    requires may { MayNest (S.caller space.old) (S.own space.old) }
+    ensures caller { S.caller space.new ≡ S.caller space.old }
     ensures guards { (S.own space.new).guards ≡ (S.own space.old).guards }
 {
     match Guard::new(space) {
@@ -133,9 +133,9 @@ fn close_queue<S: Lists>(space: &mut S, queue: Queue<u64>)
 
 /// Under a guard, a number is pushed onto a queue, and one popped, that often.
 pub fn queues<S: Lists>(space: &mut S, turns: u64) -> Result<u64, Refused>
-    requires seated { IsSeated (S.seat space.old) }
-    requires may { MayNest (S.seat space.old) (S.own space.old) }
-    ensures seat { S.seat space.new ≡ S.seat space.old }
+    requires seated { IsSeated (S.caller space.old) }
+    requires may { MayNest (S.caller space.old) (S.own space.old) }
+    ensures caller { S.caller space.new ≡ S.caller space.old }
     ensures guards { (S.own space.new).guards ≡ (S.own space.old).guards }
 {
     let queue = Queue::new(space)?;
@@ -152,10 +152,10 @@ fn through_stack<S: Lists>(
     guard: &Guard,
     value: u64,
 ) -> Result<u64, Refused>
-    requires seated { IsSeated (S.seat space.old) }
-    requires home { home_in stack.now ≡ (S.seat space.old).home.cells }
-    requires reader { reader_of guard.now ≡ (S.seat space.old).reader }
-    ensures seat { S.seat space.new ≡ S.seat space.old }
+    requires seated { IsSeated (S.caller space.old) }
+    requires home { home_in stack.now ≡ (S.caller space.old).home.cells }
+    requires reader { reader_of guard.now ≡ (S.caller space.old).reader }
+    ensures caller { S.caller space.new ≡ S.caller space.old }
     ensures guards { (S.own space.new).guards ≡ (S.own space.old).guards }
 {
     let pushed = stack.push(value, guard, space);
@@ -167,9 +167,9 @@ fn through_stack<S: Lists>(
 /// The same under a guard of its own, that often. What is due is reclaimed.
 #[inline(always)]
 fn stack_turns<S: Lists>(space: &mut S, stack: &Stack<u64>, turns: u64) -> Result<u64, Refused>
-    requires seated { IsSeated (S.seat space.old) }
-    requires home { home_in stack.now ≡ (S.seat space.old).home.cells }
-    ensures seat { S.seat space.new ≡ S.seat space.old }
+    requires seated { IsSeated (S.caller space.old) }
+    requires home { home_in stack.now ≡ (S.caller space.old).home.cells }
+    ensures caller { S.caller space.new ≡ S.caller space.old }
     ensures guards { (S.own space.new).guards ≡ (S.own space.old).guards }
 {
     let mut sum = 0u64;
@@ -183,10 +183,10 @@ fn stack_turns<S: Lists>(space: &mut S, stack: &Stack<u64>, turns: u64) -> Resul
 }
 
 fn close_stack<S: Lists>(space: &mut S, stack: Stack<u64>)
-    requires seated { IsSeated (S.seat space.old) }
-    requires home { home_in stack ≡ (S.seat space.old).home.cells }
-    requires may { MayNest (S.seat space.old) (S.own space.old) }
-    ensures seat { S.seat space.new ≡ S.seat space.old }
+    requires seated { IsSeated (S.caller space.old) }
+    requires home { home_in stack ≡ (S.caller space.old).home.cells }
+    requires may { MayNest (S.caller space.old) (S.own space.old) }
+    ensures caller { S.caller space.new ≡ S.caller space.old }
     ensures guards { (S.own space.new).guards ≡ (S.own space.old).guards }
 {
     match Guard::new(space) {
@@ -200,9 +200,9 @@ fn close_stack<S: Lists>(space: &mut S, stack: Stack<u64>)
 
 /// Under a guard, a number is pushed onto a stack, and one popped, that often.
 pub fn stacks<S: Lists>(space: &mut S, turns: u64) -> Result<u64, Refused>
-    requires seated { IsSeated (S.seat space.old) }
-    requires may { MayNest (S.seat space.old) (S.own space.old) }
-    ensures seat { S.seat space.new ≡ S.seat space.old }
+    requires seated { IsSeated (S.caller space.old) }
+    requires may { MayNest (S.caller space.old) (S.own space.old) }
+    ensures caller { S.caller space.new ≡ S.caller space.old }
     ensures guards { (S.own space.new).guards ≡ (S.own space.old).guards }
 {
     let stack = Stack::new(space)?;
@@ -218,10 +218,10 @@ fn fill<S: Lists>(
     guard: &Guard,
     numbers: u64,
 ) -> Result<(), Refused>
-    requires seated { IsSeated (S.seat space.old) }
-    requires home { AreOfCells (S.seat space.old).home.cells queue.now }
-    requires reader { reader_of guard.now ≡ (S.seat space.old).reader }
-    ensures seat { S.seat space.new ≡ S.seat space.old }
+    requires seated { IsSeated (S.caller space.old) }
+    requires home { AreOfCells (S.caller space.old).home.cells queue.now }
+    requires reader { reader_of guard.now ≡ (S.caller space.old).reader }
+    ensures caller { S.caller space.new ≡ S.caller space.old }
     ensures guards { (S.own space.new).guards ≡ (S.own space.old).guards }
 {
     for number in 0..numbers {
@@ -234,10 +234,10 @@ fn fill<S: Lists>(
 /// The sum of what a walk along a queue shows.
 #[inline(always)]
 fn sum_walked<S: Lists>(space: &mut S, queue: &Queue<u64>, guard: &Guard) -> u64
-    requires seated { IsSeated (S.seat space.old) }
-    requires home { AreOfCells (S.seat space.old).home.cells queue.now }
-    requires reader { reader_of guard.now ≡ (S.seat space.old).reader }
-    ensures seat { S.seat space.new ≡ S.seat space.old }
+    requires seated { IsSeated (S.caller space.old) }
+    requires home { AreOfCells (S.caller space.old).home.cells queue.now }
+    requires reader { reader_of guard.now ≡ (S.caller space.old).reader }
+    ensures caller { S.caller space.new ≡ S.caller space.old }
     ensures guards { (S.own space.new).guards ≡ (S.own space.old).guards }
 {
     let mut sum = 0u64;
@@ -251,7 +251,7 @@ fn sum_walked<S: Lists>(space: &mut S, queue: &Queue<u64>, guard: &Guard) -> u64
 /// The sum of what an iterator over a queue gives.
 #[inline(always)]
 fn sum_given<S: Lists>(space: &S, queue: &Queue<u64>, guard: &Guard) -> u64
-    requires { AreOfCells (S.seat space.now).home.cells queue.now }
+    requires { AreOfCells (S.caller space.now).home.cells queue.now }
 {
     let mut sum = 0u64;
     for value in queue.iter(guard, space) {
@@ -268,10 +268,10 @@ fn walk_turns<S: Lists>(
     turns: u64,
     along: Along,
 ) -> Result<u64, Refused>
-    requires seated { IsSeated (S.seat space.old) }
-    requires home { AreOfCells (S.seat space.old).home.cells queue.now }
-    requires reader { reader_of guard.now ≡ (S.seat space.old).reader }
-    ensures seat { S.seat space.new ≡ S.seat space.old }
+    requires seated { IsSeated (S.caller space.old) }
+    requires home { AreOfCells (S.caller space.old).home.cells queue.now }
+    requires reader { reader_of guard.now ≡ (S.caller space.old).reader }
+    ensures caller { S.caller space.new ≡ S.caller space.old }
     ensures guards { (S.own space.new).guards ≡ (S.own space.old).guards }
 {
     fill(space, queue, guard, WALKED)?;
@@ -288,8 +288,8 @@ fn walk_turns<S: Lists>(
 
 /// Under a guard that stays open, one goes along the entries of a queue that often.
 pub fn walks<S: Lists>(space: &mut S, turns: u64, along: Along) -> Result<u64, Refused>
-    requires seated { IsSeated (S.seat space.old) }
-    ensures seat { S.seat space.new ≡ S.seat space.old }
+    requires seated { IsSeated (S.caller space.old) }
+    ensures caller { S.caller space.new ≡ S.caller space.old }
     ensures guards { (S.own space.new).guards ≡ (S.own space.old).guards }
 {
     let guard = Guard::new(space)?;
@@ -304,9 +304,9 @@ fn walks_under<S: Lists>(
     turns: u64,
     along: Along,
 ) -> Result<u64, Refused>
-    requires seated { IsSeated (S.seat space.old) }
-    requires reader { reader_of guard.now ≡ (S.seat space.old).reader }
-    ensures seat { S.seat space.new ≡ S.seat space.old }
+    requires seated { IsSeated (S.caller space.old) }
+    requires reader { reader_of guard.now ≡ (S.caller space.old).reader }
+    ensures caller { S.caller space.new ≡ S.caller space.old }
     ensures guards { (S.own space.new).guards ≡ (S.own space.old).guards }
 {
     let queue = Queue::new(space)?;

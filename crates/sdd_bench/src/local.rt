@@ -5,7 +5,7 @@ ghost use Rattle.sdd_space.specs.CallerId.{IsSeated};
 ghost use Rattle.sdd_space.specs.Shared as shared;
 ghost use Rattle.sdd_domain.specs.Domain.{slots_in};
 ghost use Rattle.sdd_domain.specs.Receipt.{Receipt as EndedCounts};
-ghost use Rattle.sdd_domain.specs.Space.{seat_of};
+ghost use Rattle.sdd_domain.specs.Space.{caller_of};
 
 use crate::operation::Task;
 use crate::{cells, configuration, turns};
@@ -18,7 +18,8 @@ use std::alloc::Global;
 /// Half of the slots.
 const HALF: u64 = 512;
 
-/// Does the task that often, and answers the participant's tally, and the sum of what was seen. Where `beside` is set there is a participant more, which does nothing.
+/// Does the task that often, and answers the participant's tally, and the sum of what was seen. Where `beside` is set there is a participant more, which
+/// does nothing.
 ///
 /// No clause says that tally, or when a guard is refused: the loops are written for every space, and a space does not tell a participant's own tally.
 pub fn run(
@@ -105,8 +106,8 @@ pub fn keep(
 /// Does the task that often, and answers the sum of what was seen.
 #[inline(always)]
 pub fn worked(local: &mut Local<'_, u64>, task: Task, turns: u64) -> Result<u64, Refused>
-    requires { IsSeated (seat_of local.old) }
-    ensures { (seat_of local.new ≡ seat_of local.old) × (local.new.member.own.guards ≡ local.old.member.own.guards) }
+    requires { IsSeated (caller_of local.old) }
+    ensures { (caller_of local.new ≡ caller_of local.old) × (local.new.member.own.guards ≡ local.old.member.own.guards) }
 {
     match task {
         Task::Guards(guarding) => turns::guards(local, guarding, turns)?,
@@ -129,8 +130,8 @@ pub fn worked(local: &mut Local<'_, u64>, task: Task, turns: u64) -> Result<u64,
 /// Makes two items, has their owners look that often through the domain, and retires both.
 #[inline(always)]
 fn gets(local: &mut Local<'_, u64>, turns: u64) -> Result<u64, Refused>
-    requires { IsSeated (seat_of local.old) }
-    ensures { (seat_of local.new ≡ seat_of local.old) × (local.new.member.own.guards ≡ local.old.member.own.guards) }
+    requires { IsSeated (caller_of local.old) }
+    ensures { (caller_of local.new ≡ caller_of local.old) × (local.new.member.own.guards ≡ local.old.member.own.guards) }
 {
     let one = match Owned::new(1, local) {
         Ok(one) => one,
@@ -153,8 +154,8 @@ fn gets(local: &mut Local<'_, u64>, turns: u64) -> Result<u64, Refused>
 /// Makes an item, which goes raw and comes back that often, and retires it. Answers how often it came back.
 #[inline(always)]
 fn raws(local: &mut Local<'_, u64>, turns: u64) -> Result<u64, Refused>
-    requires { IsSeated (seat_of local.old) }
-    ensures { (seat_of local.new ≡ seat_of local.old) × (local.new.member.own.guards ≡ local.old.member.own.guards) }
+    requires { IsSeated (caller_of local.old) }
+    ensures { (caller_of local.new ≡ caller_of local.old) × (local.new.member.own.guards ≡ local.old.member.own.guards) }
 {
     let mut owner = match Owned::new(1, local) {
         Ok(owner) => owner,
@@ -174,8 +175,8 @@ fn raws(local: &mut Local<'_, u64>, turns: u64) -> Result<u64, Refused>
 /// Makes an item, which its owner changes that often, and retires it. Answers its last value.
 #[inline(always)]
 fn changes(local: &mut Local<'_, u64>, turns: u64) -> Result<u64, Refused>
-    requires { IsSeated (seat_of local.old) }
-    ensures { (seat_of local.new ≡ seat_of local.old) × (local.new.member.own.guards ≡ local.old.member.own.guards) }
+    requires { IsSeated (caller_of local.old) }
+    ensures { (caller_of local.new ≡ caller_of local.old) × (local.new.member.own.guards ≡ local.old.member.own.guards) }
 {
     let mut owner = match Owned::new(1, local) {
         Ok(owner) => owner,
@@ -198,9 +199,9 @@ fn changes(local: &mut Local<'_, u64>, turns: u64) -> Result<u64, Refused>
 /// Clones an owner, whose item may have others, and releases the clone, that often.
 #[inline(always)]
 pub fn clones(local: &mut Local<'_, u64>, owner: &Shared<u64>, turns: u64) -> Result<(), Refused>
-    requires seated { IsSeated (seat_of local.old) }
-    requires home { shared.slots_home owner.now ≡ (seat_of local.old).home.slots }
-    ensures { (seat_of local.new ≡ seat_of local.old) × (local.new.member.own.guards ≡ local.old.member.own.guards) }
+    requires seated { IsSeated (caller_of local.old) }
+    requires home { shared.slots_home owner.now ≡ (caller_of local.old).home.slots }
+    ensures { (caller_of local.new ≡ caller_of local.old) × (local.new.member.own.guards ≡ local.old.member.own.guards) }
 {
     for _turn in 0..turns {
         let other = owner.clone(local)?;

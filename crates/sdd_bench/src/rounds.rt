@@ -5,7 +5,7 @@ ghost use Rattle.sdd_space.specs.CallerId.{IsSeated};
 ghost use Rattle.sdd_space.specs.Shared.{cells_home, slots_home};
 ghost use Rattle.sdd_domain.specs.Domain.{cells_in, slots_in};
 ghost use Rattle.sdd_domain.specs.Receipt.{Receipt as EndedCounts};
-ghost use Rattle.sdd_domain.specs.Space.{seat_of};
+ghost use Rattle.sdd_domain.specs.Space.{caller_of};
 
 use crate::configuration::with_cell;
 use crate::local::{clones, worked};
@@ -162,10 +162,10 @@ fn works_in_rounds<R: Wait + Clock>(
     course: &Course<'_>,
     local: &mut Local<'_, u64>,
 ) -> Result<Vec<Span>, Trouble>
-    requires seated { IsSeated (seat_of local.old) }
-    requires home { (seat_of local.old).home.slots ≡ slots_in course.now.domain.now }
-    requires cells { (seat_of local.old).home.cells ≡ cells_in course.now.domain.now }
-    ensures { (seat_of local.new ≡ seat_of local.old) × (local.new.member.own.guards ≡ local.old.member.own.guards) }
+    requires seated { IsSeated (caller_of local.old) }
+    requires home { (caller_of local.old).home.slots ≡ slots_in course.now.domain.now }
+    requires cells { (caller_of local.old).home.cells ≡ cells_in course.now.domain.now }
+    ensures { (caller_of local.new ≡ caller_of local.old) × (local.new.member.own.guards ≡ local.old.member.own.guards) }
 {
     let mut spans = Vec::new(alloc);
     for round in 0..ROUNDS {
@@ -183,10 +183,10 @@ fn works_once(
     course: &Course<'_>,
     local: &mut Local<'_, u64>,
 ) -> Result<Span, Trouble>
-    requires seated { IsSeated (seat_of local.old) }
-    requires home { (seat_of local.old).home.slots ≡ slots_in course.now.domain.now }
-    requires cells { (seat_of local.old).home.cells ≡ cells_in course.now.domain.now }
-    ensures { (seat_of local.new ≡ seat_of local.old) × (local.new.member.own.guards ≡ local.old.member.own.guards) }
+    requires seated { IsSeated (caller_of local.old) }
+    requires home { (caller_of local.old).home.slots ≡ slots_in course.now.domain.now }
+    requires cells { (caller_of local.old).home.cells ≡ cells_in course.now.domain.now }
+    ensures { (caller_of local.new ≡ caller_of local.old) × (local.new.member.own.guards ≡ local.old.member.own.guards) }
 {
     let begin = nanoseconds_since(clock, course.origin)?;
     does_turns(course, local)?;
@@ -196,10 +196,10 @@ fn works_once(
 
 /// What a participant does in one round.
 fn does_turns(course: &Course<'_>, local: &mut Local<'_, u64>) -> Result<(), Refused>
-    requires seated { IsSeated (seat_of local.old) }
-    requires home { (seat_of local.old).home.slots ≡ slots_in course.now.domain.now }
-    requires cells { (seat_of local.old).home.cells ≡ cells_in course.now.domain.now }
-    ensures { (seat_of local.new ≡ seat_of local.old) × (local.new.member.own.guards ≡ local.old.member.own.guards) }
+    requires seated { IsSeated (caller_of local.old) }
+    requires home { (caller_of local.old).home.slots ≡ slots_in course.now.domain.now }
+    requires cells { (caller_of local.old).home.cells ≡ cells_in course.now.domain.now }
+    ensures { (caller_of local.new ≡ caller_of local.old) × (local.new.member.own.guards ≡ local.old.member.own.guards) }
 {
     if let Some(owner) = course.common {
         return clones(local, owner, course.turns);

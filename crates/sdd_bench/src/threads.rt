@@ -3,7 +3,7 @@ ghost use Rattle.std.specs.Prelude.{◌≡◌, All, IfOk};
 ghost use Rattle.sdd_domain.specs.Domain.{cells_in, slots_in};
 ghost use Rattle.sdd_domain.specs.Receipt.{Receipt as EndedCounts};
 ghost use Rattle.sdd_space.specs.CallerId.{IsSeated};
-ghost use Rattle.sdd_domain.specs.Space.{seat_of};
+ghost use Rattle.sdd_domain.specs.Space.{caller_of};
 ghost use Rattle.sdd_bench.specs.Names.{name_of_timed};
 
 use crate::local::keep;
@@ -19,7 +19,8 @@ use std::thread::{Threads, join};
 use std::time::{Clock, Instant};
 use std::{io, thread};
 
-/// While the thread of a participant rests under an open guard nothing is reclaimed: so many slots that the others find one in each turn of a round. And so many
+/// While the thread of a participant rests under an open guard nothing is reclaimed: so many slots that the others find one in each turn of a round. And so
+/// many
 /// cells that the words of those which participants have for themselves lie in lines of their own.
 const LIMITS: Limits = Limits {
     participants: 4,
@@ -280,10 +281,10 @@ fn runs_with_one<R: Threads + Wait + Clock + Sync>(
     course: &Course<'_>,
     local: &mut Local<'_, u64>,
 ) -> Result<Findings, Trouble>
-    requires seated { IsSeated (seat_of local.old) }
-    requires home { (seat_of local.old).home.slots ≡ slots_in course.now.domain.now }
+    requires seated { IsSeated (caller_of local.old) }
+    requires home { (caller_of local.old).home.slots ≡ slots_in course.now.domain.now }
     ensures found { IfOk result (λ found. All (λ (r : EndedCounts). r.home ≡ slots_in course.now.domain.now) found.receipts.items) }
-    ensures seat { seat_of local.new ≡ seat_of local.old }
+    ensures caller { caller_of local.new ≡ caller_of local.old }
     ensures guards { local.new.member.own.guards ≡ local.old.member.own.guards }
 {
     let owner = match Shared::new(1, local) {
@@ -316,10 +317,10 @@ fn runs_with_cell<R: Threads + Wait + Clock + Sync>(
     course: &Course<'_>,
     local: &mut Local<'_, u64>,
 ) -> Result<Findings, Trouble>
-    requires seated { IsSeated (seat_of local.old) }
-    requires home { (seat_of local.old).home.cells ≡ cells_in course.now.domain.now }
+    requires seated { IsSeated (caller_of local.old) }
+    requires home { (caller_of local.old).home.cells ≡ cells_in course.now.domain.now }
     ensures found { IfOk result (λ found. All (λ (r : EndedCounts). r.home ≡ slots_in course.now.domain.now) found.receipts.items) }
-    ensures seat { seat_of local.new ≡ seat_of local.old }
+    ensures caller { caller_of local.new ≡ caller_of local.old }
     ensures guards { local.new.member.own.guards ≡ local.old.member.own.guards }
 {
     let made = match AtomicShared::new(1, local) {

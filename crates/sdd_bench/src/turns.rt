@@ -3,7 +3,7 @@ ghost use Rattle.std.specs.Prelude.{◌≡◌, Some};
 ghost use Rattle.sdd_participants.specs.declared.standing.Standing.TheVariants.{Shared as shared_by};
 ghost use Rattle.sdd_space.specs.CallerId.{IsExact, IsSeated};
 ghost use Rattle.sdd_space.specs.Guard.{reader_of};
-ghost use Rattle.sdd_space.specs.World.{standing_at};
+ghost use Rattle.sdd_world_model.specs.World.{standing_at};
 ghost use Rattle.sdd_space.specs.Owned.{slot_of, slots_home};
 ghost use Rattle.sdd_space.specs.Shared as shared;
 ghost use Rattle.sdd_bench.specs.Leaves.{Leaves};
@@ -17,8 +17,8 @@ use sdd_space::{Deferrals, Guard, Guards, Items, Look, Owned, RawItems, Shared, 
 /// Does something with guards that often.
 #[inline(always)]
 pub fn guards<S: Guards<u64>>(space: &mut S, guarding: Guarding, turns: u64) -> Result<(), Refused>
-    requires { IsSeated (S.seat space.old) }
-    ensures { Leaves (S.seat space.old) (S.own space.old) (S.world space.old) (S.seat space.new) (S.own space.new) (S.world space.new) }
+    requires { IsSeated (S.caller space.old) }
+    ensures { Leaves (S.caller space.old) (S.own space.old) (S.world space.old) (S.caller space.new) (S.own space.new) (S.world space.new) }
 {
     match guarding {
         Guarding::Outermost => plain(space, turns),
@@ -29,8 +29,8 @@ pub fn guards<S: Guards<u64>>(space: &mut S, guarding: Guarding, turns: u64) -> 
 
 #[inline(always)]
 fn plain<S: Guards<u64>>(space: &mut S, turns: u64) -> Result<(), Refused>
-    requires { IsSeated (S.seat space.old) }
-    ensures { Leaves (S.seat space.old) (S.own space.old) (S.world space.old) (S.seat space.new) (S.own space.new) (S.world space.new) }
+    requires { IsSeated (S.caller space.old) }
+    ensures { Leaves (S.caller space.old) (S.own space.old) (S.world space.old) (S.caller space.new) (S.own space.new) (S.world space.new) }
 {
     for _turn in 0..turns {
         let guard = Guard::new(space)?;
@@ -41,8 +41,8 @@ fn plain<S: Guards<u64>>(space: &mut S, turns: u64) -> Result<(), Refused>
 
 #[inline(always)]
 fn nested<S: Guards<u64>>(space: &mut S, turns: u64) -> Result<(), Refused>
-    requires { IsSeated (S.seat space.old) }
-    ensures { Leaves (S.seat space.old) (S.own space.old) (S.world space.old) (S.seat space.new) (S.own space.new) (S.world space.new) }
+    requires { IsSeated (S.caller space.old) }
+    ensures { Leaves (S.caller space.old) (S.own space.old) (S.world space.old) (S.caller space.new) (S.own space.new) (S.world space.new) }
 {
     let outer = Guard::new(space)?;
     let done = plain(space, turns);
@@ -52,8 +52,8 @@ fn nested<S: Guards<u64>>(space: &mut S, turns: u64) -> Result<(), Refused>
 
 #[inline(always)]
 fn accelerated<S: Guards<u64>>(space: &mut S, turns: u64) -> Result<(), Refused>
-    requires { IsSeated (S.seat space.old) }
-    ensures { Leaves (S.seat space.old) (S.own space.old) (S.world space.old) (S.seat space.new) (S.own space.new) (S.world space.new) }
+    requires { IsSeated (S.caller space.old) }
+    ensures { Leaves (S.caller space.old) (S.own space.old) (S.world space.old) (S.caller space.new) (S.own space.new) (S.world space.new) }
 {
     for _turn in 0..turns {
         let guard = Guard::new(space)?;
@@ -66,8 +66,8 @@ fn accelerated<S: Guards<u64>>(space: &mut S, turns: u64) -> Result<(), Refused>
 /// Makes and retires an item under a guard that often.
 #[inline(always)]
 pub fn items<S: Guards<u64> + Items<u64>>(space: &mut S, turns: u64) -> Result<(), Refused>
-    requires { IsSeated (S.seat space.old) }
-    ensures { Leaves (S.seat space.old) (S.own space.old) (S.world space.old) (S.seat space.new) (S.own space.new) (S.world space.new) }
+    requires { IsSeated (S.caller space.old) }
+    ensures { Leaves (S.caller space.old) (S.own space.old) (S.world space.old) (S.caller space.new) (S.own space.new) (S.world space.new) }
 {
     for turn in 0..turns {
         let guard = Guard::new(space)?;
@@ -89,8 +89,8 @@ pub fn jobs<S: Guards<u64> + Deferrals<u64, Job = Idle>>(
     space: &mut S,
     turns: u64,
 ) -> Result<(), Refused>
-    requires { IsSeated (S.seat space.old) }
-    ensures { Leaves (S.seat space.old) (S.own space.old) (S.world space.old) (S.seat space.new) (S.own space.new) (S.world space.new) }
+    requires { IsSeated (S.caller space.old) }
+    ensures { Leaves (S.caller space.old) (S.own space.old) (S.world space.old) (S.caller space.new) (S.own space.new) (S.world space.new) }
 {
     for _ in 0..turns {
         let guard = Guard::new(space)?;
@@ -106,8 +106,8 @@ pub fn jobs<S: Guards<u64> + Deferrals<u64, Job = Idle>>(
 /// Makes two items, has their owners look that often, and retires both.
 #[inline(always)]
 pub fn looks<S: Look<u64> + Items<u64>>(space: &mut S, turns: u64) -> Result<u64, Refused>
-    requires { IsSeated (S.seat space.old) }
-    ensures { Leaves (S.seat space.old) (S.own space.old) (S.world space.old) (S.seat space.new) (S.own space.new) (S.world space.new) }
+    requires { IsSeated (S.caller space.old) }
+    ensures { Leaves (S.caller space.old) (S.own space.old) (S.world space.old) (S.caller space.new) (S.own space.new) (S.world space.new) }
 {
     let one = match Owned::new(1, space) {
         Ok(one) => one,
@@ -153,8 +153,8 @@ pub fn items_beside<S: Guards<u64> + Items<u64>>(
     others: u64,
     turns: u64,
 ) -> Result<(), Refused>
-    requires { IsSeated (S.seat space.old) }
-    ensures { Leaves (S.seat space.old) (S.own space.old) (S.world space.old) (S.seat space.new) (S.own space.new) (S.world space.new) }
+    requires { IsSeated (S.caller space.old) }
+    ensures { Leaves (S.caller space.old) (S.own space.old) (S.world space.old) (S.caller space.new) (S.own space.new) (S.world space.new) }
 {
     if others == 0 {
         return items(space, turns);
@@ -176,8 +176,8 @@ pub fn sights<S: Guards<u64> + Items<u64>>(
     once: bool,
     turns: u64,
 ) -> Result<u64, Refused>
-    requires { IsSeated (S.seat space.old) }
-    ensures { Leaves (S.seat space.old) (S.own space.old) (S.world space.old) (S.seat space.new) (S.own space.new) (S.world space.new) }
+    requires { IsSeated (S.caller space.old) }
+    ensures { Leaves (S.caller space.old) (S.own space.old) (S.world space.old) (S.caller space.new) (S.own space.new) (S.world space.new) }
 {
     let guard = Guard::new(space)?;
     let sum = sights_under(space, &guard, once, turns);
@@ -192,9 +192,9 @@ fn sights_under<S: Items<u64>>(
     once: bool,
     turns: u64,
 ) -> Result<u64, Refused>
-    requires seated { IsSeated (S.seat space.old) }
-    requires reader { reader_of guard.now ≡ (S.seat space.old).reader }
-    ensures { Leaves (S.seat space.old) (S.own space.old) (S.world space.old) (S.seat space.new) (S.own space.new) (S.world space.new) }
+    requires seated { IsSeated (S.caller space.old) }
+    requires reader { reader_of guard.now ≡ (S.caller space.old).reader }
+    ensures { Leaves (S.caller space.old) (S.own space.old) (S.world space.old) (S.caller space.new) (S.own space.new) (S.world space.new) }
 {
     let one = match Owned::new(1, space) {
         Ok(one) => one,
@@ -223,13 +223,13 @@ fn sum_found<S: Items<u64>>(
     once: bool,
     turns: u64,
 ) -> u64
-    requires seated { IsSeated (S.seat space.old) }
-    requires one { slots_home one.now ≡ (S.seat space.old).home.slots }
-    requires other { slots_home other.now ≡ (S.seat space.old).home.slots }
-    requires reader { reader_of guard.now ≡ (S.seat space.old).reader }
-    ensures seat { S.seat space.new ≡ S.seat space.old }
+    requires seated { IsSeated (S.caller space.old) }
+    requires one { slots_home one.now ≡ (S.caller space.old).home.slots }
+    requires other { slots_home other.now ≡ (S.caller space.old).home.slots }
+    requires reader { reader_of guard.now ≡ (S.caller space.old).reader }
+    ensures caller { S.caller space.new ≡ S.caller space.old }
     ensures own { S.own space.new ≡ S.own space.old }
-    ensures exact { IsExact (S.seat space.old) → S.world space.new ≡ S.world space.old }
+    ensures exact { IsExact (S.caller space.old) → S.world space.new ≡ S.world space.old }
 {
     if once {
         sum_read(space, one, other, guard, turns)
@@ -247,13 +247,13 @@ fn sum_seen<S: Items<u64>>(
     guard: &Guard,
     turns: u64,
 ) -> u64
-    requires seated { IsSeated (S.seat space.old) }
-    requires one { slots_home one.now ≡ (S.seat space.old).home.slots }
-    requires other { slots_home other.now ≡ (S.seat space.old).home.slots }
-    requires reader { reader_of guard.now ≡ (S.seat space.old).reader }
-    ensures seat { S.seat space.new ≡ S.seat space.old }
+    requires seated { IsSeated (S.caller space.old) }
+    requires one { slots_home one.now ≡ (S.caller space.old).home.slots }
+    requires other { slots_home other.now ≡ (S.caller space.old).home.slots }
+    requires reader { reader_of guard.now ≡ (S.caller space.old).reader }
+    ensures caller { S.caller space.new ≡ S.caller space.old }
     ensures own { S.own space.new ≡ S.own space.old }
-    ensures exact { IsExact (S.seat space.old) → S.world space.new ≡ S.world space.old }
+    ensures exact { IsExact (S.caller space.old) → S.world space.new ≡ S.world space.old }
 {
     let mut sum = 0u64;
     for _turn in 0..turns {
@@ -272,13 +272,13 @@ fn sum_read<S: Items<u64>>(
     guard: &Guard,
     turns: u64,
 ) -> u64
-    requires seated { IsSeated (S.seat space.old) }
-    requires one { slots_home one.now ≡ (S.seat space.old).home.slots }
-    requires other { slots_home other.now ≡ (S.seat space.old).home.slots }
-    requires reader { reader_of guard.now ≡ (S.seat space.old).reader }
-    ensures seat { S.seat space.new ≡ S.seat space.old }
+    requires seated { IsSeated (S.caller space.old) }
+    requires one { slots_home one.now ≡ (S.caller space.old).home.slots }
+    requires other { slots_home other.now ≡ (S.caller space.old).home.slots }
+    requires reader { reader_of guard.now ≡ (S.caller space.old).reader }
+    ensures caller { S.caller space.new ≡ S.caller space.old }
     ensures own { S.own space.new ≡ S.own space.old }
-    ensures exact { IsExact (S.seat space.old) → S.world space.new ≡ S.world space.old }
+    ensures exact { IsExact (S.caller space.old) → S.world space.new ≡ S.world space.old }
 {
     let one = one.get_guarded_ref(guard, space);
     let other = other.get_guarded_ref(guard, space);
@@ -293,8 +293,8 @@ fn sum_read<S: Items<u64>>(
 /// Makes an item with a shared owner, clones the owner and releases the clone that often, and releases the owner.
 #[inline(always)]
 pub fn shares<S: Items<u64> + SharedOwners<u64>>(space: &mut S, turns: u64) -> Result<(), Refused>
-    requires { IsSeated (S.seat space.old) }
-    ensures { Leaves (S.seat space.old) (S.own space.old) (S.world space.old) (S.seat space.new) (S.own space.new) (S.world space.new) }
+    requires { IsSeated (S.caller space.old) }
+    ensures { Leaves (S.caller space.old) (S.own space.old) (S.world space.old) (S.caller space.new) (S.own space.new) (S.world space.new) }
 {
     match Shared::new(1, space) {
         Ok(owner) => {
@@ -313,11 +313,11 @@ fn clones<S: Items<u64> + SharedOwners<u64>>(
     owner: &Shared<u64>,
     turns: u64,
 ) -> Result<(), Refused>
-    requires seated { IsSeated (S.seat space.old) }
-    requires home { shared.slots_home owner.now ≡ (S.seat space.old).home.slots }
-    requires alone { IsExact (S.seat space.old) → standing_at (S.world space.old) (shared.slot_of owner.now) ≡ Some (shared_by 1) }
-    ensures leaves { Leaves (S.seat space.old) (S.own space.old) (S.world space.old) (S.seat space.new) (S.own space.new) (S.world space.new) }
-    ensures alone { IsExact (S.seat space.old) → standing_at (S.world space.new) (shared.slot_of owner.now) ≡ Some (shared_by 1) }
+    requires seated { IsSeated (S.caller space.old) }
+    requires home { shared.slots_home owner.now ≡ (S.caller space.old).home.slots }
+    requires alone { IsExact (S.caller space.old) → standing_at (S.world space.old) (shared.slot_of owner.now) ≡ Some (shared_by 1) }
+    ensures leaves { Leaves (S.caller space.old) (S.own space.old) (S.world space.old) (S.caller space.new) (S.own space.new) (S.world space.new) }
+    ensures alone { IsExact (S.caller space.old) → standing_at (S.world space.new) (shared.slot_of owner.now) ≡ Some (shared_by 1) }
 {
     for _turn in 0..turns {
         let other = owner.clone(space)?;
@@ -329,9 +329,9 @@ fn clones<S: Items<u64> + SharedOwners<u64>>(
 /// Makes an item, which goes raw and comes back that often, and retires it.
 #[inline(always)]
 pub fn raws<S: Items<u64> + RawItems<u64>>(space: &mut S, turns: u64) -> Result<(), Refused>
-    requires seated { IsSeated (S.seat space.old) }
-    requires exact { IsExact (S.seat space.old) }
-    ensures { Leaves (S.seat space.old) (S.own space.old) (S.world space.old) (S.seat space.new) (S.own space.new) (S.world space.new) }
+    requires seated { IsSeated (S.caller space.old) }
+    requires exact { IsExact (S.caller space.old) }
+    ensures { Leaves (S.caller space.old) (S.own space.old) (S.world space.old) (S.caller space.new) (S.own space.new) (S.world space.new) }
 {
     match Owned::new(1, space) {
         Ok(owner) => {
@@ -346,13 +346,13 @@ pub fn raws<S: Items<u64> + RawItems<u64>>(space: &mut S, turns: u64) -> Result<
 /// An item goes raw and comes back that often.
 #[inline(always)]
 fn round_trips<S: RawItems<u64>>(space: &mut S, owner: Owned<u64>, turns: u64) -> Owned<u64>
-    requires seated { IsSeated (S.seat space.old) }
-    requires exact { IsExact (S.seat space.old) }
-    requires home { slots_home owner ≡ (S.seat space.old).home.slots }
-    ensures seat { S.seat space.new ≡ S.seat space.old }
+    requires seated { IsSeated (S.caller space.old) }
+    requires exact { IsExact (S.caller space.old) }
+    requires home { slots_home owner ≡ (S.caller space.old).home.slots }
+    ensures caller { S.caller space.new ≡ S.caller space.old }
     ensures own { S.own space.new ≡ S.own space.old }
     ensures world { S.world space.new ≡ S.world space.old }
-    ensures home { slots_home result ≡ (S.seat space.new).home.slots }
+    ensures home { slots_home result ≡ (S.caller space.new).home.slots }
     ensures same { slot_of result ≡ slot_of owner }
 {
     let mut owner = owner;
@@ -365,13 +365,13 @@ fn round_trips<S: RawItems<u64>>(space: &mut S, owner: Owned<u64>, turns: u64) -
 /// An item goes raw and comes back.
 #[inline(always)]
 fn round_trip<S: RawItems<u64>>(space: &mut S, owner: Owned<u64>) -> Owned<u64>
-    requires seated { IsSeated (S.seat space.old) }
-    requires exact { IsExact (S.seat space.old) }
-    requires home { slots_home owner ≡ (S.seat space.old).home.slots }
-    ensures seat { S.seat space.new ≡ S.seat space.old }
+    requires seated { IsSeated (S.caller space.old) }
+    requires exact { IsExact (S.caller space.old) }
+    requires home { slots_home owner ≡ (S.caller space.old).home.slots }
+    ensures caller { S.caller space.new ≡ S.caller space.old }
     ensures own { S.own space.new ≡ S.own space.old }
     ensures world { S.world space.new ≡ S.world space.old }
-    ensures home { slots_home result ≡ (S.seat space.new).home.slots }
+    ensures home { slots_home result ≡ (S.caller space.new).home.slots }
     ensures same { slot_of result ≡ slot_of owner }
 {
     comes_back(owner, space)

@@ -1,10 +1,10 @@
 //! The operations in a world of one participant.
 ghost use Rattle.std.specs.Prelude.{◌≡◌, [], Err, IfOk};
 ghost use Rattle.sdd_core.specs.Limits.{AreInRange};
-ghost use Rattle.sdd_space.specs.Out.{out};
+ghost use Rattle.sdd_world_model.specs.Out.{out};
 ghost use Rattle.sdd_space.specs.CallerId.{IsExact, IsSeated};
-ghost use Rattle.sdd_space.specs.WorldInvariant.{IsCounted};
-ghost use Rattle.sdd_space.specs.World.{AnyGuardOpen};
+ghost use Rattle.sdd_world_model.specs.WorldInvariant.{IsCounted};
+ghost use Rattle.sdd_world_model.specs.World.{AnyGuardOpen};
 ghost use Rattle.sdd_bench.specs.Leaves.{Leaves};
 
 use crate::operation::Guarding;
@@ -56,9 +56,9 @@ fn in_world(world: &mut World<u64>, work: Work, turns: u64) -> Result<u64, Refus
 
 #[inline(always)]
 fn worked<S: Space<u64, Job = Idle>>(space: &mut S, work: Work, turns: u64) -> Result<u64, Refused>
-    requires seated { IsSeated (S.seat space.old) }
-    requires exact { IsExact (S.seat space.old) }
-    ensures { Leaves (S.seat space.old) (S.own space.old) (S.world space.old) (S.seat space.new) (S.own space.new) (S.world space.new) }
+    requires seated { IsSeated (S.caller space.old) }
+    requires exact { IsExact (S.caller space.old) }
+    ensures { Leaves (S.caller space.old) (S.own space.old) (S.world space.old) (S.caller space.new) (S.own space.new) (S.world space.new) }
 {
     match work {
         Work::Guards(guarding) => turns::guards(space, guarding, turns)?,

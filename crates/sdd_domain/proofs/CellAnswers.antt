@@ -8,17 +8,17 @@ use Rattle.sdd_core.specs.declared.tag.Tag.{Tag}
 use Rattle.sdd_participants.specs.Slab.{IsEmptyAt, IsFull, entry_at}
 use Rattle.sdd_rights.specs.declared.right.Right.{Right}
 use Rattle.sdd_rights.specs.Right.{number_of}
-use Rattle.sdd_standings.specs.Cells.{cell_with}
-use Rattle.sdd_space.specs.OwnerOrCell.{OwnerOrCell}
+use Rattle.sdd_world_model.specs.Cells.{cell_with}
+use Rattle.sdd_world_model.specs.OwnerOrCell.{OwnerOrCell}
 use Rattle.sdd_space.specs.RawPtr as raw
 use Rattle.sdd_space.specs.declared.raw_ptr.RawPtr.{RawPtr}
-use Rattle.sdd_space.specs.WorldChanges.{with_cell}
-use Rattle.sdd_domain_slots.specs.Cells.{AllCellsTaken, ChangesCell, ClaimsNone, FindsAt, WritesAt}
-use Rattle.sdd_domain_slots.specs.LocalState.{LocalState, IsLone, cell_word_of}
-use Rattle.sdd_domain_slots.specs.Local.{LocalModel, contents_of, world_of}
-use Rattle.sdd_domain.specs.Space.{is_lone}
-use Rattle.sdd_domain_slots.specs.WordsAndValues.{WordsMatchValues}
-use Rattle.sdd_domain.proofs.CellWorld.{cells_used_up, empty_exact, full_exact, full_exact, written_exact}
+use Rattle.sdd_world_model.specs.WorldChanges.{with_cell}
+use Rattle.sdd_domain_steps.specs.Cells.{AllCellsTaken, ChangesCell, ClaimsNone, FindsAt, WritesAt}
+use Rattle.sdd_domain_steps.specs.LocalState.{LocalState, IsLone, cell_word_of}
+use Rattle.sdd_domain_steps.specs.Local.{LocalModel, contents_of, world_of}
+use Rattle.sdd_domain_core.specs.Space.{is_lone}
+use Rattle.sdd_domain_steps.specs.WordsAndValues.{WordsMatchValues}
+use Rattle.sdd_domain_core.proofs.CellWorld.{cells_used_up, empty_exact, full_exact, full_exact, written_exact}
 use Rattle.sdd_domain.proofs.Pointers.{finds_exact}
 use Rattle.sdd_domain.proofs.Steps.{IsStep, lone_begun, same_step, writes_step}
 

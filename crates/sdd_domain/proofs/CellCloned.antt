@@ -11,22 +11,22 @@ use Rattle.sdd_participants.specs.declared.standing.Standing.{Standing}
 use Rattle.sdd_participants.specs.declared.standing.Standing.TheVariants.{Shared}
 use Rattle.sdd_rights.specs.declared.right.Right.{Right}
 use Rattle.sdd_rights.specs.Right.{number_of}
-use Rattle.sdd_standings.specs.Cells.{cell_with, slot_held}
-use Rattle.sdd_standings.specs.Slots.{IsSharedBy}
+use Rattle.sdd_world_model.specs.Cells.{cell_with, slot_held}
+use Rattle.sdd_world_model.specs.Slots.{IsSharedBy}
 use Rattle.sdd_rights.specs.declared.views.Sizes.{Sizes}
 use Rattle.sdd_domain_invariant.specs.Codes.{alive, counted, most_owners}
-use Rattle.sdd_space.specs.OwnerOrCell.{OwnerOrCell}
+use Rattle.sdd_world_model.specs.OwnerOrCell.{OwnerOrCell}
 use Rattle.sdd_space.specs.Undisturbed.{Undisturbed}
-use Rattle.sdd_space.specs.World.{World, standing_at}
-use Rattle.sdd_space.specs.WorldChanges.{with_cell, with_standing}
-use Rattle.sdd_domain_slots.specs.Cells.{AllCellsTaken, ClaimsNone, ClonesNone, ClonesTo, SeesMore, WritesAt}
-use Rattle.sdd_domain_slots.specs.Local.{LocalModel, contents_by, contents_of, world_of}
-use Rattle.sdd_domain_slots.specs.LocalState.{AddsAt, IsLone, KnowsOwner, LocalState, cell_word_of, word_of}
-use Rattle.sdd_domain.specs.Space.{Shows, is_lone, known_of, seat_of}
-use Rattle.sdd_domain_slots.specs.WordsAndValues.{WordsMatchValues}
-use Rattle.sdd_domain.proofs.Added.{added_world, few_before, shared_before}
-use Rattle.sdd_domain.proofs.CellWorld.{cells_used_up, found_empty, full_cell, matched_written, world_by, world_written}
-use Rattle.sdd_domain.proofs.Owning.{few_alive, stands_alive}
+use Rattle.sdd_world_model.specs.World.{World, standing_at}
+use Rattle.sdd_world_model.specs.WorldChanges.{with_cell, with_standing}
+use Rattle.sdd_domain_steps.specs.Cells.{AllCellsTaken, ClaimsNone, ClonesNone, ClonesTo, SeesMore, WritesAt}
+use Rattle.sdd_domain_steps.specs.Local.{LocalModel, contents_by, contents_of, world_of}
+use Rattle.sdd_domain_steps.specs.LocalState.{AddsAt, IsLone, KnowsOwner, LocalState, cell_word_of, word_of}
+use Rattle.sdd_domain_core.specs.Space.{Shows, is_lone, known_of, caller_of}
+use Rattle.sdd_domain_steps.specs.WordsAndValues.{WordsMatchValues}
+use Rattle.sdd_domain.proofs.AddedOwner.{added_world, few_before, shared_before}
+use Rattle.sdd_domain_core.proofs.CellWorld.{cells_used_up, found_empty, full_cell, matched_written, world_by, world_written}
+use Rattle.sdd_domain_core.proofs.OwnerLooks.{few_alive, stands_alive}
 use Rattle.sdd_domain.proofs.Steps.{IsStep, adds_step, lone_begun, same_step, sees_step, sees_tied, sees_world, step_leaves, step_then, writes_step}
 
 -- ---- one owner more came of what a cell holds, or the cell holds none
@@ -265,7 +265,7 @@ module _ {T J : Type 0} (v : LocalModel T J) (m : LocalState J) (cell : ℕ) whe
 
   module _ (shown : T → Gv) (holds : T → List OwnerOrCell) (p : LocalModel T J) (same : v ≡ p) (tied : WordsMatchValues v.member v.entries) where
     pub answered_undisturbed : (r : Result Right Refused) → Cloned r
-        → Undisturbed seat_of (λ (q : LocalModel T J). q.member.own) known_of (λ (q : LocalModel T J). Shows shown holds q) p now
+        → Undisturbed caller_of (λ (q : LocalModel T J). q.member.own) known_of (λ (q : LocalModel T J). Shows shown holds q) p now
     answered_undisturbed r a = step_leaves shown holds v now p same (answered_step shown holds r a) tied
 
     module _ (inside : cell < v.member.sizes.cells) (full : IsLone v.member → 0 < cell_word_of v.member cell) where

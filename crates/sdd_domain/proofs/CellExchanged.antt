@@ -5,17 +5,17 @@ use denote.RattleType.{RattleType}
 use Rattle.sdd_participants.specs.Slab.{entry_at}
 use Rattle.sdd_participants.specs.declared.standing.CellContents.{CellContents}
 use Rattle.sdd_shared_values.specs.SharedValues.{showing}
-use Rattle.sdd_space.specs.OwnerOrCell.{OwnerOrCell}
+use Rattle.sdd_world_model.specs.OwnerOrCell.{OwnerOrCell}
 use Rattle.sdd_space.specs.Ptr.{PtrIsShown, cell_seen}
 use Rattle.sdd_space.specs.declared.ptr.Ptr.{Ptr}
-use Rattle.sdd_space.specs.World.{World}
-use Rattle.sdd_space.specs.WorldChanges.{with_cell}
-use Rattle.sdd_domain_slots.specs.Cells.{ChangesCell, FindsAt, LooksThrough}
-use Rattle.sdd_domain_slots.specs.Local.{LocalModel, contents_of, world_of}
-use Rattle.sdd_domain_slots.specs.LocalState.{IsLone, LocalState, cell_word_of}
-use Rattle.sdd_domain.specs.Space.{Shows, is_lone}
-use Rattle.sdd_domain_slots.specs.WordsAndValues.{WordsMatchValues}
-use Rattle.sdd_domain.proofs.CellWorld.{found_full, full_cell, world_written}
+use Rattle.sdd_world_model.specs.World.{World}
+use Rattle.sdd_world_model.specs.WorldChanges.{with_cell}
+use Rattle.sdd_domain_steps.specs.Cells.{ChangesCell, FindsAt, LooksThrough}
+use Rattle.sdd_domain_steps.specs.Local.{LocalModel, contents_of, world_of}
+use Rattle.sdd_domain_steps.specs.LocalState.{IsLone, LocalState, cell_word_of}
+use Rattle.sdd_domain_core.specs.Space.{Shows, is_lone}
+use Rattle.sdd_domain_steps.specs.WordsAndValues.{WordsMatchValues}
+use Rattle.sdd_domain_core.proofs.CellWorld.{found_full, full_cell, world_written}
 use Rattle.sdd_domain.proofs.Pointers.{keeps_pointer, through_more, through_shown, through_step, through_world}
 use Rattle.sdd_domain.proofs.Steps.{IsStep, lone_begun, same_step, sees_tied, step_then, writes_step}
 

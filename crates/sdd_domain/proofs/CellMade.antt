@@ -13,24 +13,24 @@ use Rattle.sdd_rights.specs.declared.right.StandingKind.{StandingKind}
 use Rattle.sdd_rights.specs.StandingKind.{is_shared}
 use Rattle.sdd_rights.specs.Right.{number_of}
 use Rattle.sdd_shared_values.specs.SharedValues.{showing}
-use Rattle.sdd_standings.specs.Slots.{first_standing}
+use Rattle.sdd_world_model.specs.Slots.{first_standing}
 use Rattle.sdd_rights.specs.declared.views.Sizes.{Sizes}
-use Rattle.sdd_space.specs.OwnerOrCell.{OwnerOrCell, SpaceId, AreOf}
-use Rattle.sdd_space.specs.KnownEpochs.{KnowsOn}
+use Rattle.sdd_world_model.specs.OwnerOrCell.{OwnerOrCell, SpaceId, AreOf}
+use Rattle.sdd_world_model.specs.KnownEpochs.{KnowsOn}
 use Rattle.sdd_space.specs.Refusals.{IsRefusedBy}
-use Rattle.sdd_space.specs.World.{World, value_at}
-use Rattle.sdd_space.specs.WorldChanges.{made_as, with_cell}
-use Rattle.sdd_domain_slots.specs.Cells.{AllCellsTaken, MakesInCell, MakesNone, WritesAt}
-use Rattle.sdd_domain.specs.Laws.{shows_is_value}
-use Rattle.sdd_domain_slots.specs.Local.{LocalModel, contents_by, world_of}
-use Rattle.sdd_domain_slots.specs.LocalState.{IsLone, IsUsedUp, LocalState, cell_word_of}
-use Rattle.sdd_domain.specs.Space.{Shows, is_lone, known_of, seat_in, seat_of}
-use Rattle.sdd_domain_slots.specs.SpaceIds.{home_in}
-use Rattle.sdd_domain_slots.specs.WordsAndValues.{Entries, WordsMatchValues}
-use Rattle.sdd_domain.proofs.CellWorld.{cells_used_up, found_empty, matched_written, world_by, world_written}
-use Rattle.sdd_domain.proofs.Filled.{as_many, not_full}
-use Rattle.sdd_domain.proofs.Makes.{makes_tied, makes_world, used_up}
-use Rattle.sdd_domain.proofs.Refusals.{IsBack, back_keeps, back_sound, back_tied, back_world}
+use Rattle.sdd_world_model.specs.World.{World, value_at}
+use Rattle.sdd_world_model.specs.WorldChanges.{made_as, with_cell}
+use Rattle.sdd_domain_steps.specs.Cells.{AllCellsTaken, MakesInCell, MakesNone, WritesAt}
+use Rattle.sdd_domain_core.specs.Laws.{shows_is_value}
+use Rattle.sdd_domain_steps.specs.Local.{LocalModel, contents_by, world_of}
+use Rattle.sdd_domain_steps.specs.LocalState.{IsLone, IsUsedUp, LocalState, cell_word_of}
+use Rattle.sdd_domain_core.specs.Space.{Shows, is_lone, known_of, caller_in, caller_of}
+use Rattle.sdd_domain_steps.specs.SpaceIds.{home_in}
+use Rattle.sdd_domain_steps.specs.WordsAndValues.{Entries, WordsMatchValues}
+use Rattle.sdd_domain_core.proofs.CellWorld.{cells_used_up, found_empty, matched_written, world_by, world_written}
+use Rattle.sdd_domain.proofs.FreeSlots.{as_many, not_full}
+use Rattle.sdd_domain_core.proofs.MadeItem.{makes_tied, makes_world, used_up}
+use Rattle.sdd_domain_core.proofs.Refusals.{IsBack, back_keeps, back_sound, back_tied, back_world}
 use Rattle.sdd_domain.proofs.Steps.{IsStep, lone_begun, makes_step, step_then, writes_step}
 
 -- what a cell holds then
@@ -126,7 +126,7 @@ module _ {J : Type 0} (R : RattleType) (holds : R.Denot → List OwnerOrCell) (v
     tied = back_tied v m es is_back;
     sound = λ _ s. back_sound v m es is_back holds s;
     quiet = λ _. record {
-      seat = ap seat_in none.same;
+      caller = ap caller_in none.same;
       own = ap (λ (y : LocalState J). y.own) none.same;
       known = subst (λ (y : LocalState J). KnowsOn (known_of v) (known_of {T = R.Denot} (record { member = y; entries = es }))) (sym none.same)
           record { told = omega arith; since = refl };

@@ -9,21 +9,21 @@ use Rattle.sdd_participants.specs.Slab.{entry_at}
 use Rattle.sdd_participants.specs.declared.standing.CellContents.{CellContents}
 use Rattle.sdd_participants.specs.declared.standing.Standing.TheVariants.{Shared}
 use Rattle.sdd_rights.specs.declared.right.Right.{Right}
-use Rattle.sdd_standings.specs.Cells.{slot_held}
-use Rattle.sdd_standings.specs.Slots.{IsSharedBy}
+use Rattle.sdd_world_model.specs.Cells.{slot_held}
+use Rattle.sdd_world_model.specs.Slots.{IsSharedBy}
 use Rattle.sdd_domain_invariant.specs.Codes.{alive, counted, most_owners}
-use Rattle.sdd_space.specs.OwnerOrCell.{OwnerOrCell}
+use Rattle.sdd_world_model.specs.OwnerOrCell.{OwnerOrCell}
 use Rattle.sdd_space.specs.Undisturbed.{Undisturbed}
-use Rattle.sdd_space.specs.World.{standing_at}
-use Rattle.sdd_space.specs.WorldChanges.{with_standing}
-use Rattle.sdd_domain_slots.specs.Cells.{Copies, CopiesNone}
-use Rattle.sdd_domain_slots.specs.Local.{LocalModel, contents_of, world_of}
-use Rattle.sdd_domain_slots.specs.LocalState.{IsLone, LocalState, cell_word_of, word_of}
-use Rattle.sdd_domain.specs.Space.{Shows, is_lone, known_of, seat_of}
-use Rattle.sdd_domain_slots.specs.WordsAndValues.{WordsMatchValues}
+use Rattle.sdd_world_model.specs.World.{standing_at}
+use Rattle.sdd_world_model.specs.WorldChanges.{with_standing}
+use Rattle.sdd_domain_steps.specs.Cells.{Copies, CopiesNone}
+use Rattle.sdd_domain_steps.specs.Local.{LocalModel, contents_of, world_of}
+use Rattle.sdd_domain_steps.specs.LocalState.{IsLone, LocalState, cell_word_of, word_of}
+use Rattle.sdd_domain_core.specs.Space.{Shows, is_lone, known_of, caller_of}
+use Rattle.sdd_domain_steps.specs.WordsAndValues.{WordsMatchValues}
 use Rattle.sdd_domain.proofs.CellCloned.{came_step, came_world}
-use Rattle.sdd_domain.proofs.CellWorld.{full_cell}
-use Rattle.sdd_domain.proofs.Owning.{few_alive, stands_alive}
+use Rattle.sdd_domain_core.proofs.CellWorld.{full_cell}
+use Rattle.sdd_domain_core.proofs.OwnerLooks.{few_alive, stands_alive}
 use Rattle.sdd_domain.proofs.Steps.{IsStep, lone_begun, sees_step, sees_world, step_leaves}
 
 module _ {T J : Type 0} (v : LocalModel T J) (m : LocalState J) (cell : ℕ) where
@@ -49,7 +49,7 @@ module _ {T J : Type 0} (v : LocalModel T J) (m : LocalState J) (cell : ℕ) whe
 
   module _ (shown : T → Gv) (holds : T → List OwnerOrCell) (p : LocalModel T J) (same : v ≡ p) (tied : WordsMatchValues v.member v.entries) where
     pub shared_undisturbed : (r : Result (Option Right) Refused) → Shares r
-        → Undisturbed seat_of (λ (q : LocalModel T J). q.member.own) known_of (λ (q : LocalModel T J). Shows shown holds q) p now
+        → Undisturbed caller_of (λ (q : LocalModel T J). q.member.own) known_of (λ (q : LocalModel T J). Shows shown holds q) p now
     shared_undisturbed r a = step_leaves shown holds v now p same (shared_step shown holds r a) tied
 
     module _ (inside : cell < v.member.sizes.cells) (full : IsLone v.member → 0 < cell_word_of v.member cell) where

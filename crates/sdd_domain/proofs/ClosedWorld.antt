@@ -8,12 +8,12 @@ use Rattle.sdd_participants.specs.declared.participant.Participant.{Participant}
 use Rattle.sdd_participants.specs.declared.place_states.PlaceState.TheVariants.{Live}
 use Rattle.sdd_core.specs.declared.limits.Limits.{Limits}
 use Rattle.sdd_rights.specs.declared.views.SlotsView.{SlotsView}
-use Rattle.sdd_space.specs.ParticipantChanges.{closed_with}
-use Rattle.sdd_space.specs.WorldChanges.{closed}
-use Rattle.sdd_domain_slots.specs.LocalState.{LocalState, IsLone, GuardCloses}
-use Rattle.sdd_domain_slots.specs.WordsAndValues.{AreTied}
-use Rattle.sdd_domain_slots.specs.Local.{LocalModel, world_of}
-use Rattle.sdd_domain.proofs.Alone.{alone, steps_alone}
+use Rattle.sdd_world_model.specs.ParticipantChanges.{closed_with}
+use Rattle.sdd_world_model.specs.WorldChanges.{closed}
+use Rattle.sdd_domain_steps.specs.LocalState.{LocalState, IsLone, GuardCloses}
+use Rattle.sdd_domain_steps.specs.WordsAndValues.{AreTied}
+use Rattle.sdd_domain_steps.specs.Local.{LocalModel, world_of}
+use Rattle.sdd_domain_core.proofs.LoneCalls.{alone, steps_alone}
 
 -- time of one participant at this count
 abbrev time_with : Limits → ℕ → Participant → EpochState

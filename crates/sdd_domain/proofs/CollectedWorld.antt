@@ -16,45 +16,45 @@ use Rattle.sdd_participants.specs.Waiting.{Waiting}
 use Rattle.sdd_rights.specs.declared.right.Right.{Right}
 use Rattle.sdd_rights.specs.StandingKind.{is_shared}
 use Rattle.sdd_rights.specs.Right.{number_of, kind_of}
-use Rattle.sdd_standings.specs.Slots.{IsOwnedBy, has_others}
+use Rattle.sdd_world_model.specs.Slots.{IsOwnedBy, has_others}
 use Rattle.sdd_rights.specs.declared.views.PrivateItem.{PrivateItem}
 use Rattle.sdd_rights.specs.declared.views.WaitingItem.{WaitingItem}
 use Rattle.sdd_domain_invariant.specs.Codes.{alive, waiting, waits_for, full, private, private_word}
-use Rattle.sdd_domain_invariant.specs.CollectorWordSteps.{for_collector}
-use Rattle.sdd_domain_invariant.specs.SlotSteps.{behind, retired_now}
+use Rattle.sdd_domain_invariant.specs.Collectors.CollectorWordSteps.{for_collector}
+use Rattle.sdd_domain_invariant.specs.Slots.SlotSteps.{behind, retired_now}
 use Rattle.sdd_domain_invariant.specs.Sums.{total}
 use Rattle.sdd_domain_invariant.specs.Slots.{waits_in}
 use Rattle.sdd_domain_invariant.proofs.Codes.{sound, private_is, waits_privately}
 use Rattle.sdd_domain_invariant.proofs.Sums.{total_snoc}
 use Rattle.sdd_core.specs.declared.limits.Limits.{Limits}
-use Rattle.sdd_space.specs.Collecting.{collected, owner_collected}
-use Rattle.sdd_space.specs.KnownEpochs.{KnowsOn}
-use Rattle.sdd_space.specs.OwnerOrCell.{OwnerOrCell}
-use Rattle.sdd_space.specs.Out.{is_out}
+use Rattle.sdd_world_model.specs.Collecting.{collected, owner_collected}
+use Rattle.sdd_world_model.specs.KnownEpochs.{KnowsOn}
+use Rattle.sdd_world_model.specs.OwnerOrCell.{OwnerOrCell}
+use Rattle.sdd_world_model.specs.Out.{is_out}
 use Rattle.sdd_space.specs.Ptr.{KeepsShown}
-use Rattle.sdd_space.specs.Releases.{left_waiting}
-use Rattle.sdd_space.specs.World.{World, value_at, standing_at}
-use Rattle.sdd_space.specs.WorldChanges.{owner_given, retired, with_standing}
-use Rattle.sdd_space.specs.WorldInvariant.{IsWhole}
-use Rattle.sdd_space.proofs.Housed.{Whole-waits, live-taken}
-use Rattle.sdd_domain.specs.Collectors.{CollectsAt, OwnerCollected}
-use Rattle.sdd_domain_slots.specs.InBags.{AreInBags, KnownWaiting, known_waiting, is_closed, private_for}
-use Rattle.sdd_domain_slots.specs.Local.{LocalModel, listing, standing_by, standing_in, value_in, world_of}
-use Rattle.sdd_domain_slots.specs.LocalState.{LocalState, place_number, IsLone, KnowsOwner, word_of}
-use Rattle.sdd_domain.specs.Sound.{IsSound}
-use Rattle.sdd_domain_slots.specs.SpaceIds.{home_in}
-use Rattle.sdd_domain.specs.Space.{ShowsBy, Shows, is_lone, seat_of, known_of}
-use Rattle.sdd_domain.specs.Space as space
-use Rattle.sdd_domain_slots.specs.WordsAndValues.{MatchesPlace, AreTied, WordsMatchValues, is_plain_word}
-use Rattle.sdd_domain.proofs.Alone.{alone, steps_alone, cells_kept, pointers_kept}
-use Rattle.sdd_domain.proofs.Exact.{lone_is}
-use Rattle.sdd_domain_slots.proofs.InBags.{none_plain, one_more, turned_private, without_last}
-use Rattle.sdd_domain.proofs.Listings.{listing_same, listing_set}
-use Rattle.sdd_domain.proofs.Owning.{few_owners, low, none_other, one_owner, owned_by, release_keeps, release_last, release_tied, release_world, rewritten_now, rewritten_then, standing_then, stands, taken, value_still, went_knows, went_own, went_seat}
-use Rattle.sdd_domain_slots.proofs.PrivateTables.{for_one, for_other, for_other_slot}
-use Rattle.sdd_domain_slots.proofs.Reclaims.{what_item}
-use Rattle.sdd_domain.proofs.Sound.{lives, lone_true, sound_release, sound_then}
-use Rattle.sdd_domain.proofs.Words.{alive_public, no_private, none_privately, plain_private, stands_private}
+use Rattle.sdd_world_model.specs.Releases.{left_waiting}
+use Rattle.sdd_world_model.specs.World.{World, value_at, standing_at}
+use Rattle.sdd_world_model.specs.WorldChanges.{owner_given, retired, with_standing}
+use Rattle.sdd_world_model.specs.WorldInvariant.{IsWhole}
+use Rattle.sdd_world_model.proofs.PlacesMatchStates.{Whole-waits, live-taken}
+use Rattle.sdd_domain_core.specs.Collectors.{CollectsAt, OwnerCollected}
+use Rattle.sdd_domain_steps.specs.InBags.{AreInBags, KnownWaiting, known_waiting, is_closed, private_for}
+use Rattle.sdd_domain_steps.specs.Local.{LocalModel, listing, standing_by, standing_in, value_in, world_of}
+use Rattle.sdd_domain_steps.specs.LocalState.{LocalState, place_number, IsLone, KnowsOwner, word_of}
+use Rattle.sdd_domain_core.specs.Sound.{IsSound}
+use Rattle.sdd_domain_steps.specs.SpaceIds.{home_in}
+use Rattle.sdd_domain_core.specs.Space.{ShowsBy, Shows, is_lone, caller_of, known_of}
+use Rattle.sdd_domain_core.specs.Space as space
+use Rattle.sdd_domain_steps.specs.WordsAndValues.{MatchesPlace, AreTied, WordsMatchValues, is_plain_word}
+use Rattle.sdd_domain_core.proofs.LoneCalls.{alone, steps_alone, cells_kept, pointers_kept}
+use Rattle.sdd_domain_core.proofs.GuardCalls.{lone_is}
+use Rattle.sdd_domain_steps.proofs.InBags.{none_plain, one_more, turned_private, without_last}
+use Rattle.sdd_domain_core.proofs.Listings.{listing_same, listing_set}
+use Rattle.sdd_domain_core.proofs.OwnerLooks.{few_owners, low, none_other, one_owner, owned_by, release_keeps, release_last, release_tied, release_world, rewritten_now, rewritten_then, standing_then, stands, taken, value_still, went_knows, went_own, went_caller}
+use Rattle.sdd_domain_steps.proofs.PrivateTables.{for_one, for_other, for_other_slot}
+use Rattle.sdd_domain_steps.proofs.Reclaims.{what_item}
+use Rattle.sdd_domain_core.proofs.Sound.{lives, lone_true, sound_release, sound_then}
+use Rattle.sdd_domain_core.proofs.Words.{alive_public, no_private, none_privately, plain_private, stands_private}
 
 -- ---- an item that was to wait for no collector, with none that is being closed, waits for one
 module _ (n : ℕ) (known : KnownWaiting) (waiting_now : List Waiting) (taken_out : List LimboEntry) (x : WaitingItem) (collector : ℕ)
@@ -272,9 +272,9 @@ module _ {T J : Type 0} (v : LocalModel T J) (m : LocalState J) (c : ℕ) (right
   }
   gave_knows false w = went_knows v m right tied knows false w
 
-  pub gave_seat : (last : Bool) → Gave last → seat_of after ≡ seat_of v
-  gave_seat true w = ap (λ (z : LocalState J). seat_of (record { member = z; entries = v.entries })) w.1.member
-  gave_seat false w = went_seat v m right tied knows false w
+  pub gave_caller : (last : Bool) → Gave last → caller_of after ≡ caller_of v
+  gave_caller true w = ap (λ (z : LocalState J). caller_of (record { member = z; entries = v.entries })) w.1.member
+  gave_caller false w = went_caller v m right tied knows false w
 
   gave_lone : (last : Bool) → Gave last → IsLone m → IsLone v.member
   gave_lone last w one = sym (ap (λ (l : Limits). l.participants) (gave_limits last w)) ∙ one

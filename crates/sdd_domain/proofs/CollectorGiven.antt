@@ -5,25 +5,25 @@ use base.Stored.{Gv}
 use Rattle.sdd_core.specs.declared.refused.Refused.{Refused}
 use Rattle.sdd_core.specs.declared.refused.Refused.TheVariants.{GuardOpen}
 use Rattle.sdd_participants.specs.declared.standing.Standing.TheVariants.{Private}
-use Rattle.sdd_space.specs.Collecting.{collector_closed}
-use Rattle.sdd_space.specs.OwnerOrCell.{OwnerOrCell, AreOf}
-use Rattle.sdd_space.specs.Out.{IsNullCell}
-use Rattle.sdd_space.specs.ParticipantChanges.{IsCollected}
+use Rattle.sdd_world_model.specs.Collecting.{collector_closed}
+use Rattle.sdd_world_model.specs.OwnerOrCell.{OwnerOrCell, AreOf}
+use Rattle.sdd_world_model.specs.Out.{IsNullCell}
+use Rattle.sdd_world_model.specs.ParticipantChanges.{IsCollected}
 use Rattle.sdd_space.specs.Ptr.{KeepsShown}
-use Rattle.sdd_space.specs.World.{World, AnyGuardOpen, standing_at, value_at}
-use Rattle.sdd_space.specs.WorldInvariant.{IsWhole}
-use Rattle.sdd_space.proofs.Collecting.{collected-ends}
-use Rattle.sdd_space.proofs.Housed.{Whole-collector_closed, live-taken}
-use Rattle.sdd_domain_slots.specs.Local.{LocalModel, world_of}
-use Rattle.sdd_domain_slots.specs.LocalState.{HasOpenGuard, IsLone}
-use Rattle.sdd_domain.specs.Reclaiming.{rest_of}
-use Rattle.sdd_domain.specs.Sound.{IsSound}
-use Rattle.sdd_domain.specs.Space.{ShowsBy, Shows, is_lone, seat_of}
-use Rattle.sdd_domain.specs.Space as space
-use Rattle.sdd_domain_slots.specs.SpaceIds.{home_in}
-use Rattle.sdd_domain.proofs.Altered.{by_either, opened_there, quiet_there}
-use Rattle.sdd_domain.proofs.Exact.{lone_is}
-use Rattle.sdd_domain.proofs.Sound.{lives}
+use Rattle.sdd_world_model.specs.World.{World, AnyGuardOpen, standing_at, value_at}
+use Rattle.sdd_world_model.specs.WorldInvariant.{IsWhole}
+use Rattle.sdd_world_model.proofs.Collecting.{collected-ends}
+use Rattle.sdd_world_model.proofs.PlacesMatchStates.{Whole-collector_closed, live-taken}
+use Rattle.sdd_domain_steps.specs.Local.{LocalModel, world_of}
+use Rattle.sdd_domain_steps.specs.LocalState.{HasOpenGuard, IsLone}
+use Rattle.sdd_domain_core.specs.Reclaiming.{rest_of}
+use Rattle.sdd_domain_core.specs.Sound.{IsSound}
+use Rattle.sdd_domain_core.specs.Space.{ShowsBy, Shows, is_lone, caller_of}
+use Rattle.sdd_domain_core.specs.Space as space
+use Rattle.sdd_domain_steps.specs.SpaceIds.{home_in}
+use Rattle.sdd_domain_core.proofs.InPlaceCalls.{by_either, opened_there, quiet_there}
+use Rattle.sdd_domain_core.proofs.GuardCalls.{lone_is}
+use Rattle.sdd_domain_core.proofs.Sound.{lives}
 
 module _ {T J : Type 0} (holds : T → List OwnerOrCell) (p q : LocalModel T J) (c : ℕ) where
   -- it was given up, where no guard is open
@@ -49,8 +49,8 @@ module _ {T J : Type 0} (holds : T → List OwnerOrCell) (p q : LocalModel T J) 
     answers (Err e) own shut back exact = record { same = own; why = back.1; guarded = back.2 }
 
   module _ (rest : rest_of q ≡ rest_of p) where
-    pub given_seat : seat_of q ≡ seat_of p
-    given_seat = ap (λ (z : LocalModel T J). seat_of z) rest
+    pub given_caller : caller_of q ≡ caller_of p
+    given_caller = ap (λ (z : LocalModel T J). caller_of z) rest
 
     lone_before : IsLone q.member → IsLone p.member
     lone_before one = sym (ap (λ (z : LocalModel T J). z.member.limits.participants) rest) ∙ one

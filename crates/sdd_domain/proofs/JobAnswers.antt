@@ -4,23 +4,23 @@ use Rattle.std.specs.Prelude.{Result, Ok, Err, MatchResult}
 use base.Stored.{Gv}
 use Rattle.sdd_core.specs.declared.refused.Refused.{Refused}
 use Rattle.sdd_participants.specs.Slab.{IsEmptyAt, IsFull}
-use Rattle.sdd_space.specs.OwnerOrCell.{OwnerOrCell}
+use Rattle.sdd_world_model.specs.OwnerOrCell.{OwnerOrCell}
 use Rattle.sdd_space.specs.Ptr.{KeepsShown}
-use Rattle.sdd_space.specs.KnownEpochs.{KnowsOn}
-use Rattle.sdd_space.specs.World.{value_at}
-use Rattle.sdd_space.specs.WorldChanges.{deferred}
-use Rattle.sdd_space.specs.WorldInvariant.{IsWhole}
-use Rattle.sdd_space.proofs.Housed.{Whole-deferred, live-taken}
-use Rattle.sdd_domain_slots.specs.SpaceIds.{home_in}
-use Rattle.sdd_domain_slots.specs.LocalState.{LocalState, IsLone, DefersTo, AllPlacesTaken}
-use Rattle.sdd_domain_slots.specs.WordsAndValues.{WordsMatchValues}
-use Rattle.sdd_domain_slots.specs.Local.{LocalModel, world_of}
-use Rattle.sdd_domain.specs.Space.{ShowsBy, Shows, is_lone, known_of}
-use Rattle.sdd_domain.specs.Space as space
-use Rattle.sdd_domain.specs.Sound.{IsSound}
-use Rattle.sdd_domain.proofs.Exact.{lone_is}
-use Rattle.sdd_domain.proofs.JobsTied.{tied_deferred, world_deferred, empty_before, all_taken}
-use Rattle.sdd_domain.proofs.Sound.{lives, sound_then}
+use Rattle.sdd_world_model.specs.KnownEpochs.{KnowsOn}
+use Rattle.sdd_world_model.specs.World.{value_at}
+use Rattle.sdd_world_model.specs.WorldChanges.{deferred}
+use Rattle.sdd_world_model.specs.WorldInvariant.{IsWhole}
+use Rattle.sdd_world_model.proofs.PlacesMatchStates.{Whole-deferred, live-taken}
+use Rattle.sdd_domain_steps.specs.SpaceIds.{home_in}
+use Rattle.sdd_domain_steps.specs.LocalState.{LocalState, IsLone, DefersTo, AllPlacesTaken}
+use Rattle.sdd_domain_steps.specs.WordsAndValues.{WordsMatchValues}
+use Rattle.sdd_domain_steps.specs.Local.{LocalModel, world_of}
+use Rattle.sdd_domain_core.specs.Space.{ShowsBy, Shows, is_lone, known_of}
+use Rattle.sdd_domain_core.specs.Space as space
+use Rattle.sdd_domain_core.specs.Sound.{IsSound}
+use Rattle.sdd_domain_core.proofs.GuardCalls.{lone_is}
+use Rattle.sdd_domain_core.proofs.JobsTied.{tied_deferred, world_deferred, empty_before, all_taken}
+use Rattle.sdd_domain_core.proofs.Sound.{lives, sound_then}
 
 module _ {T J : Type 0} (v : LocalModel T J) (m : LocalState J) (tied : WordsMatchValues v.member v.entries) where
   abbrev after : LocalModel T J
@@ -83,9 +83,9 @@ module _ {T J : Type 0} (v : LocalModel T J) (m : LocalState J) (tied : WordsMat
         (subst (λ (y : LocalState J). KnowsOn (known_of v) (known_of {T = T} (record { member = y; entries = v.entries }))) (sym a.1)
         record { told = omega arith; since = refl })
 
-    pub answered_seat : (r : Result ℕ (J × Refused)) (p : LocalModel T J) → v ≡ p → Answers r → space.seat_of after ≡ space.seat_of p
-    answered_seat (Ok place) p is a = ap space.seat_in a.1.member ∙ ap space.seat_of is
-    answered_seat (Err e) p is a = ap space.seat_in a.1 ∙ ap space.seat_of is
+    pub answered_caller : (r : Result ℕ (J × Refused)) (p : LocalModel T J) → v ≡ p → Answers r → space.caller_of after ≡ space.caller_of p
+    answered_caller (Ok place) p is a = ap space.caller_in a.1.member ∙ ap space.caller_of is
+    answered_caller (Err e) p is a = ap space.caller_in a.1 ∙ ap space.caller_of is
 
     pub answered_exact : (r : Result ℕ (J × Refused)) (p : LocalModel T J) → v ≡ p → Answers r → IsTrue (is_lone p.member)
         → MatchResult r (λ place. IsEmptyAt (world_of p).jobs place × (world_of after ≡ deferred (world_of p) p.member.place place))

@@ -3,13 +3,13 @@ use Rattle.std.proofs.Common.{◌≡◌, ℕ, ◌==◌, Bool, true, false, [], m
 use Rattle.std.specs.Prelude.{Result, Ok, Err, MatchResult, if◌then◌else◌}
 use Rattle.sdd_core.specs.declared.refused.Refused.{Refused}
 use Rattle.sdd_participants.specs.EpochState as time
-use Rattle.sdd_domain_invariant.specs.SlotSteps.{older_private}
-use Rattle.sdd_domain_slots.specs.LocalState.{LocalState, CanNest, HasOpenGuard, IsEntered, IsLone, GoesOn}
-use Rattle.sdd_domain.specs.OpeningTally.{CountsGone, CountsReclaimed}
-use Rattle.sdd_domain_slots.specs.Receipt.{with_reclaimed}
-use Rattle.sdd_domain_slots.specs.WaitingItems.{aged_privates_at, items_in, due_at}
-use Rattle.sdd_domain_slots.proofs.Arrivals.{due_stayed}
-use Rattle.sdd_domain.proofs.Guarding.{WasIdle, is_over}
+use Rattle.sdd_domain_invariant.specs.Slots.SlotSteps.{older_private}
+use Rattle.sdd_domain_steps.specs.LocalState.{LocalState, CanNest, HasOpenGuard, IsEntered, IsLone, GoesOn}
+use Rattle.sdd_domain_core.specs.OpeningTally.{CountsGone, CountsReclaimed}
+use Rattle.sdd_domain_steps.specs.Receipt.{with_reclaimed}
+use Rattle.sdd_domain_steps.specs.WaitingItems.{aged_privates_at, items_in, due_at}
+use Rattle.sdd_domain_steps.proofs.Arrivals.{due_stayed}
+use Rattle.sdd_domain_core.proofs.GuardOpenings.{WasIdle, is_over}
 
 -- beside an open guard nothing is
 pub beside : {J : Type 0} (old new : LocalState J) → HasOpenGuard old → new.tally ≡ old.tally → CountsReclaimed old new

@@ -8,21 +8,21 @@ use Rattle.sdd_participants.specs.declared.standing.CellContents.{CellContents}
 use Rattle.sdd_rights.specs.declared.right.StandingKind.{StandingKind}
 use Rattle.sdd_rights.specs.StandingKind.{is_shared}
 use Rattle.sdd_shared_values.specs.SharedValues.{showing}
-use Rattle.sdd_standings.specs.Slots.{IsOwnedBy}
+use Rattle.sdd_world_model.specs.Slots.{IsOwnedBy}
 use Rattle.sdd_domain_invariant.specs.Codes.{alive}
-use Rattle.sdd_space.specs.OwnerOrCell.{OwnerOrCell}
+use Rattle.sdd_world_model.specs.OwnerOrCell.{OwnerOrCell}
 use Rattle.sdd_space.specs.Ptr.{KeepsShown, PtrIsShown, shown_by, slot_named}
 use Rattle.sdd_space.specs.declared.ptr.Ptr.{Ptr}
-use Rattle.sdd_space.specs.World.{standing_at}
-use Rattle.sdd_domain_slots.specs.Cells.{FindsAt, IsOwnedThere, LooksThrough, SeesItem, SeesMore}
-use Rattle.sdd_domain.specs.Laws.{same_value}
-use Rattle.sdd_domain_slots.specs.Local.{LocalModel, contents_of, world_of}
-use Rattle.sdd_domain_slots.specs.LocalState.{IsLone, LocalState, word_of}
-use Rattle.sdd_domain.specs.Space.{Shows, is_lone}
-use Rattle.sdd_domain_slots.specs.WordsAndValues.{WordsMatchValues}
-use Rattle.sdd_domain.proofs.CellWorld.{full_cell}
-use Rattle.sdd_domain.proofs.Owning.{few_alive, owned_by, owned_value, shows_it, stands_alive}
-use Rattle.sdd_domain.proofs.SeesMore.{looks_more, same_sees}
+use Rattle.sdd_world_model.specs.World.{standing_at}
+use Rattle.sdd_domain_steps.specs.Cells.{FindsAt, IsOwnedThere, LooksThrough, SeesItem, SeesMore}
+use Rattle.sdd_domain_core.specs.Laws.{same_value}
+use Rattle.sdd_domain_steps.specs.Local.{LocalModel, contents_of, world_of}
+use Rattle.sdd_domain_steps.specs.LocalState.{IsLone, LocalState, word_of}
+use Rattle.sdd_domain_core.specs.Space.{Shows, is_lone}
+use Rattle.sdd_domain_steps.specs.WordsAndValues.{WordsMatchValues}
+use Rattle.sdd_domain_core.proofs.CellWorld.{full_cell}
+use Rattle.sdd_domain_core.proofs.OwnerLooks.{few_alive, owned_by, owned_value, shows_it, stands_alive}
+use Rattle.sdd_domain_core.proofs.SeesMore.{looks_more, same_sees}
 use Rattle.sdd_domain.proofs.Steps.{IsStep, lone_begun, sees_step, sees_world}
 
 -- ---- a pointer that was made

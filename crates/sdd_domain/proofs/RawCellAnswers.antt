@@ -12,20 +12,20 @@ use Rattle.sdd_rights.specs.Right.{raw_number_of}
 use Rattle.sdd_domain_invariant.specs.Codes.{held_slots}
 use Rattle.sdd_space.specs.declared.raw_ptr.RawPtr.{RawPtr}
 use Rattle.sdd_space.specs.RawPtr.{pointer_of}
-use Rattle.sdd_space.specs.OwnerOrCell.{OwnerOrCell}
-use Rattle.sdd_space.specs.Out.{IsNullCell}
+use Rattle.sdd_world_model.specs.OwnerOrCell.{OwnerOrCell}
+use Rattle.sdd_world_model.specs.Out.{IsNullCell}
 use Rattle.sdd_space.specs.Refusals.{IsContended}
 use Rattle.sdd_space.specs.Undisturbed.{Undisturbed}
-use Rattle.sdd_space.specs.World.{pointer_at}
-use Rattle.sdd_space.specs.WorldChanges.{pointing, with_pointer, without_cell}
-use Rattle.sdd_domain_slots.specs.Cells.{ClaimsNone, FindsPointer, FreesAt, MakesRaw, PointsAt}
-use Rattle.sdd_domain_slots.specs.LocalState.{LocalState, IsLone, pointer_word_of}
-use Rattle.sdd_domain_slots.specs.Local.{LocalModel, contents_of, pointer_by, world_of}
-use Rattle.sdd_domain.specs.Sound.{IsSound}
-use Rattle.sdd_domain.specs.Space.{Shows, is_lone, known_of, seat_of}
-use Rattle.sdd_domain_slots.specs.WordsAndValues.{WordsMatchValues}
-use Rattle.sdd_domain.proofs.CellWorld.{cells_used_up, freed_exact, full_exact}
-use Rattle.sdd_domain.proofs.Exact.{lone_is}
+use Rattle.sdd_world_model.specs.World.{pointer_at}
+use Rattle.sdd_world_model.specs.WorldChanges.{pointing, with_pointer, without_cell}
+use Rattle.sdd_domain_steps.specs.Cells.{ClaimsNone, FindsPointer, FreesAt, MakesRaw, PointsAt}
+use Rattle.sdd_domain_steps.specs.LocalState.{LocalState, IsLone, pointer_word_of}
+use Rattle.sdd_domain_steps.specs.Local.{LocalModel, contents_of, pointer_by, world_of}
+use Rattle.sdd_domain_core.specs.Sound.{IsSound}
+use Rattle.sdd_domain_core.specs.Space.{Shows, is_lone, known_of, caller_of}
+use Rattle.sdd_domain_steps.specs.WordsAndValues.{WordsMatchValues}
+use Rattle.sdd_domain_core.proofs.CellWorld.{cells_used_up, freed_exact, full_exact}
+use Rattle.sdd_domain_core.proofs.GuardCalls.{lone_is}
 use Rattle.sdd_domain.proofs.RawCellWorld.{finds_before, found_exact, made_empty, made_exact, made_undisturbed, matched_made, matched_pointed, pointed_exact, pointed_undisturbed, sound_made, sound_pointed}
 
 module _ {T J : Type 0} (v : LocalModel T J) (m : LocalState J) where
@@ -34,7 +34,7 @@ module _ {T J : Type 0} (v : LocalModel T J) (m : LocalState J) where
 
   -- nothing else of a participant is another
   abbrev pub Leaves : (T → Gv) → (T → List OwnerOrCell) → LocalModel T J → Type 0
-  Leaves shown holds p = Undisturbed seat_of (λ (x : LocalModel T J). x.member.own) known_of (λ (x : LocalModel T J). Shows shown holds x) p after
+  Leaves shown holds p = Undisturbed caller_of (λ (x : LocalModel T J). x.member.own) known_of (λ (x : LocalModel T J). Shows shown holds x) p after
 
   -- ---- nothing has changed
   module _ (same : m ≡ v.member) where
@@ -46,9 +46,9 @@ module _ {T J : Type 0} (v : LocalModel T J) (m : LocalState J) where
 
     same_undisturbed : (p : LocalModel T J) → v ≡ p → (shown : T → Gv) (holds : T → List OwnerOrCell) → Leaves shown holds p
     same_undisturbed p is shown holds = subst (λ (q : LocalModel T J). Leaves shown holds q) is
-        (subst (λ (y : LocalState J). Undisturbed seat_of (λ (x : LocalModel T J). x.member.own) known_of (λ (x : LocalModel T J). Shows shown holds x) v
+        (subst (λ (y : LocalState J). Undisturbed caller_of (λ (x : LocalModel T J). x.member.own) known_of (λ (x : LocalModel T J). Shows shown holds x) v
         (record { member = y; entries = v.entries })) (sym same)
-        record { seat = refl; own = refl; known = record { told = omega arith; since = refl }; shown = λ _ _ shows. shows })
+        record { caller = refl; own = refl; known = record { told = omega arith; since = refl }; shown = λ _ _ shows. shows })
 
   -- ---- nothing has changed, or what a raw cell points to
   module _ (cell : ℕ) where
@@ -74,7 +74,7 @@ module _ {T J : Type 0} (v : LocalModel T J) (m : LocalState J) where
     same_exact same = same_world same ∙ ap world_of is
 
   -- exchanges were lost
-  contended : (e : Refused) → e ≡ Contended → ¬ (IsLone v.member) → (p : LocalModel T J) → v ≡ p → IsContended (seat_of p) e
+  contended : (e : Refused) → e ≡ Contended → ¬ (IsLone v.member) → (p : LocalModel T J) → v ≡ p → IsContended (caller_of p) e
   contended e is_lost several p is = (is_lost, λ one. several (lone_is v.member (subst (λ (q : LocalModel T J). IsTrue (is_lone q.member)) (sym is) one)))
 
   -- ---- a raw cell was made, or refused
@@ -99,7 +99,7 @@ module _ {T J : Type 0} (v : LocalModel T J) (m : LocalState J) where
       made_empty v (raw_number_of cell) pointer m a tied p is exact,
       made_exact v (raw_number_of cell) pointer m a tied p is exact,
     )
-    made_answer (Err e) a tied p is exact = ⊎_elim (λ (none : (e ≡ NoCell) × (IsLone v.member → Rattle.sdd_domain_slots.specs.Cells.AllCellsTaken v.member)). (
+    made_answer (Err e) a tied p is exact = ⊎_elim (λ (none : (e ≡ NoCell) × (IsLone v.member → Rattle.sdd_domain_steps.specs.Cells.AllCellsTaken v.member)). (
       subst (λ (q : LocalModel T J). IsFull (world_of q).cells) is (cells_used_up v (none.1 (lone_here p is exact))),
       none.0,
       same_exact p is exact a.0,
@@ -137,7 +137,7 @@ module _ {T J : Type 0} (v : LocalModel T J) (m : LocalState J) where
     retagged_may (Ok false) a = inl a.1.0
     retagged_may (Err e) a = inl a.1
 
-    pub retagged_back : (r : Result Bool Refused) → Retagged r → (p : LocalModel T J) → v ≡ p → IfErr r (IsContended (seat_of p))
+    pub retagged_back : (r : Result Bool Refused) → Retagged r → (p : LocalModel T J) → v ≡ p → IfErr r (IsContended (caller_of p))
     retagged_back (Ok changed) a p is = tt
     retagged_back (Err e) a p is = contended e a.0 a.2 p is
 
@@ -178,7 +178,7 @@ module _ {T J : Type 0} (v : LocalModel T J) (m : LocalState J) where
     updated_may (Ok (Err now)) a = inl a.0
     updated_may (Err e) a = inl a.1
 
-    pub updated_back : (r : Result (Result (RawPtr T) (RawPtr T)) Refused) → Updated r → (p : LocalModel T J) → v ≡ p → IfErr r (IsContended (seat_of p))
+    pub updated_back : (r : Result (Result (RawPtr T) (RawPtr T)) Refused) → Updated r → (p : LocalModel T J) → v ≡ p → IfErr r (IsContended (caller_of p))
     updated_back (Ok updated) a p is = tt
     updated_back (Err e) a p is = contended e a.0 a.2 p is
 

@@ -5,23 +5,23 @@ use Rattle.sdd_core.specs.declared.tag.Tag.TheVariants.{None as no_tag}
 use Rattle.sdd_participants.specs.Slab.{IsEmptyAt}
 use Rattle.sdd_participants.specs.declared.standing.RawCellContents.{RawCellContents}
 use Rattle.sdd_domain_invariant.specs.Codes.{null_word}
-use Rattle.sdd_domain_invariant.specs.CellWordSteps.{pointer_behind}
-use Rattle.sdd_domain_invariant.specs.SlotSteps.{behind}
-use Rattle.sdd_space.specs.OwnerOrCell.{OwnerOrCell}
+use Rattle.sdd_domain_invariant.specs.Cells.CellWordSteps.{pointer_behind}
+use Rattle.sdd_domain_invariant.specs.Slots.SlotSteps.{behind}
+use Rattle.sdd_world_model.specs.OwnerOrCell.{OwnerOrCell}
 use Rattle.sdd_space.specs.Undisturbed.{Undisturbed}
-use Rattle.sdd_space.specs.World.{World, pointer_at}
-use Rattle.sdd_space.specs.WorldChanges.{with_cell, with_pointer, pointing}
-use Rattle.sdd_domain_slots.specs.Cells.{FindsPointer, MakesRaw, PointsAt}
-use Rattle.sdd_domain_slots.specs.LocalState.{LocalState, IsLone, word_of}
-use Rattle.sdd_domain_slots.specs.WordsAndValues.{AreTied, WordsMatchValues}
-use Rattle.sdd_domain_slots.specs.Local.{LocalModel, listing, contents_by, pointer_by, contents_in, pointer_in, world_of}
-use Rattle.sdd_domain.specs.Sound.{IsSound}
-use Rattle.sdd_domain.specs.Space.{Shows, is_lone, seat_of, known_of}
-use Rattle.sdd_domain_slots.proofs.CellWords.{none_contents}
-use Rattle.sdd_domain.proofs.CellWorld.{empty_exact, matched_written, sound_written, tied_written, world_written, written_undisturbed}
-use Rattle.sdd_domain.proofs.Exact.{lone_is}
-use Rattle.sdd_domain.proofs.Listings.{listing_get, listing_same, listing_set}
-use Rattle.sdd_domain.proofs.NotedWorld.{matched_noted, noted_undisturbed, sound_noted, tied_noted, world_noted}
+use Rattle.sdd_world_model.specs.World.{World, pointer_at}
+use Rattle.sdd_world_model.specs.WorldChanges.{with_cell, with_pointer, pointing}
+use Rattle.sdd_domain_steps.specs.Cells.{FindsPointer, MakesRaw, PointsAt}
+use Rattle.sdd_domain_steps.specs.LocalState.{LocalState, IsLone, word_of}
+use Rattle.sdd_domain_steps.specs.WordsAndValues.{AreTied, WordsMatchValues}
+use Rattle.sdd_domain_steps.specs.Local.{LocalModel, listing, contents_by, pointer_by, contents_in, pointer_in, world_of}
+use Rattle.sdd_domain_core.specs.Sound.{IsSound}
+use Rattle.sdd_domain_core.specs.Space.{Shows, is_lone, caller_of, known_of}
+use Rattle.sdd_domain_steps.proofs.CellWords.{none_contents}
+use Rattle.sdd_domain_core.proofs.CellWorld.{empty_exact, matched_written, sound_written, tied_written, world_written, written_undisturbed}
+use Rattle.sdd_domain_core.proofs.GuardCalls.{lone_is}
+use Rattle.sdd_domain_core.proofs.Listings.{listing_get, listing_same, listing_set}
+use Rattle.sdd_domain_core.proofs.NotedWorld.{matched_noted, noted_undisturbed, sound_noted, tied_noted, world_noted}
 
 -- what is found is what its world says
 module _ {T J : Type 0} (v : LocalModel T J) (cell : ℕ) (found : RawCellContents) (is : FindsPointer cell found v.member) where
@@ -59,7 +59,7 @@ module _ {T J : Type 0} (v : LocalModel T J) (cell : ℕ) (found now : RawCellCo
   sound_pointed = sound_noted v words as_long word_kept m is.member
 
   pub pointed_undisturbed : (p : LocalModel T J) → v ≡ p → (shown : T → Gv) (holds : T → List OwnerOrCell)
-      → Undisturbed seat_of (λ (q : LocalModel T J). q.member.own) known_of (λ (q : LocalModel T J). Shows shown holds q) p
+      → Undisturbed caller_of (λ (q : LocalModel T J). q.member.own) known_of (λ (q : LocalModel T J). Shows shown holds q) p
       (record { member = m; entries = v.entries })
   pointed_undisturbed = noted_undisturbed v words as_long word_kept m is.member
 
@@ -94,11 +94,11 @@ module _ {T J : Type 0} (v : LocalModel T J) (cell : ℕ) (pointer : RawCellCont
       (sound_written v cell 0 (null_word 0) is.reserved is.reserves holds sound)
 
   pub made_undisturbed : (p : LocalModel T J) → v ≡ p → (shown : T → Gv) (holds : T → List OwnerOrCell)
-      → Undisturbed seat_of (λ (q : LocalModel T J). q.member.own) known_of (λ (q : LocalModel T J). Shows shown holds q) p
+      → Undisturbed caller_of (λ (q : LocalModel T J). q.member.own) known_of (λ (q : LocalModel T J). Shows shown holds q) p
       (record { member = m; entries = v.entries })
   made_undisturbed p same shown holds = let a = written_undisturbed v cell 0 (null_word 0) is.reserved is.reserves p same shown holds in
       let b = pointed_undisturbed reserved cell is.last pointer m is.points reserved refl shown holds in record {
-        seat = b.seat ∙ a.seat;
+        caller = b.caller ∙ a.caller;
         own = b.own ∙ a.own;
         known = record { told = let l = a.known.told in let l' = b.known.told in omega arith; since = b.known.since ∙ a.known.since };
         shown = λ i u h. b.shown i u (a.shown i u h);

@@ -9,40 +9,40 @@ use Rattle.sdd_participants.specs.declared.standing.Standing.{Standing}
 use Rattle.sdd_participants.specs.declared.standing.Standing.TheVariants.{Owned, Private, Raw, Retired, Shared}
 use Rattle.sdd_shared_values.specs.SharedValues.{showing}
 use Rattle.sdd_domain_invariant.specs.Codes.{alive, waiting, waits_for, full, counted, private, shared_base}
-use Rattle.sdd_domain_invariant.specs.SlotSteps.{behind}
+use Rattle.sdd_domain_invariant.specs.Slots.SlotSteps.{behind}
 use Rattle.sdd_domain_invariant.proofs.Codes.{none_left, owned_is, raw_is, raw_plain, some_left, sound, waiting_is}
-use Rattle.sdd_domain_invariant.specs.BankInvariant.{one_where}
-use Rattle.sdd_domain_invariant.specs.FilledInvariant.{newest}
-use Rattle.sdd_space.specs.OwnerOrCell.{OwnerOrCell, AreOf}
+use Rattle.sdd_domain_invariant.specs.Fractions.BankInvariant.{one_where}
+use Rattle.sdd_domain_invariant.specs.Slots.FilledInvariant.{newest}
+use Rattle.sdd_world_model.specs.OwnerOrCell.{OwnerOrCell, AreOf}
 use Rattle.sdd_space.specs.Ptr.{KeepsShown}
 use Rattle.sdd_space.specs.Undisturbed.{Undisturbed}
-use Rattle.sdd_space.specs.KnownEpochs.{KnowsOn}
-use Rattle.sdd_space.specs.World.{World, value_at, standing_at}
-use Rattle.sdd_space.specs.WorldInvariant.{IsWhole}
-use Rattle.sdd_space.proofs.Housed.{Whole-restands}
-use Rattle.sdd_space.specs.Out.{is_out}
+use Rattle.sdd_world_model.specs.KnownEpochs.{KnowsOn}
+use Rattle.sdd_world_model.specs.World.{World, value_at, standing_at}
+use Rattle.sdd_world_model.specs.WorldInvariant.{IsWhole}
+use Rattle.sdd_world_model.proofs.PlacesMatchStates.{Whole-restands}
+use Rattle.sdd_world_model.specs.Out.{is_out}
 use Rattle.sdd_rights.specs.declared.right.Right.{Right}
 use Rattle.sdd_rights.specs.declared.right.StandingKind.TheVariants as kinds
 use Rattle.sdd_rights.specs.Right.{number_of}
-use Rattle.sdd_space.specs.WorldChanges.{with_standing}
-use Rattle.sdd_domain_slots.specs.LocalState.{LocalState, IsLone, KnowsOwner, LooksAt, place_number, word_of}
-use Rattle.sdd_domain_slots.specs.SeenSlots.{IsOnce}
-use Rattle.sdd_domain_slots.specs.RawItems.{with_word, put_out, taken_back, IsOut, KnowsRaw}
-use Rattle.sdd_domain_slots.specs.Values.{one_showing}
+use Rattle.sdd_world_model.specs.WorldChanges.{with_standing}
+use Rattle.sdd_domain_steps.specs.LocalState.{LocalState, IsLone, KnowsOwner, LooksAt, place_number, word_of}
+use Rattle.sdd_domain_steps.specs.SeenSlots.{IsOnce}
+use Rattle.sdd_domain_steps.specs.RawItems.{with_word, put_out, taken_back, IsOut, KnowsRaw}
+use Rattle.sdd_domain_steps.specs.Values.{one_showing}
 use Rattle.sdd_participants.specs.Slab.{entry_at}
-use Rattle.sdd_domain_slots.specs.WordsAndValues.{AreTied, MatchesPlace, WordsMatchValues, is_plain_word}
-use Rattle.sdd_domain_slots.specs.Local.{LocalModel, listing, standing_by, value_by, standing_in, value_in, world_of}
-use Rattle.sdd_domain.specs.Space.{ShowsBy, Shows, is_lone, seat_in, seat_of, known_of}
-use Rattle.sdd_domain_slots.specs.SpaceIds.{home_in}
-use Rattle.sdd_domain_slots.specs.Items.{IsRightTo}
-use Rattle.sdd_domain.specs.Sound.{IsSound}
-use Rattle.sdd_domain.proofs.Sound.{sound_then, sound_step}
-use Rattle.sdd_domain.proofs.Listings.{listing_at, listing_past, listing_set, listing_same}
-use Rattle.sdd_domain.proofs.Words.{alive_public, public_alike, plain_by, word_same, word_other, stands_owned, stands_claimed, stands_private, stands_raw, stands_retired}
-use Rattle.sdd_domain.proofs.Owning.{low, taken, stands, shown_entry, closes_looks, only_looks, shows_it, keeps_it}
-use Rattle.sdd_domain.proofs.Exact.{lone_is}
-use Rattle.sdd_domain.proofs.Refusals.{words_only, words_undisturbed}
-use Rattle.sdd_domain.proofs.Alone.{cells_kept, pointers_kept}
+use Rattle.sdd_domain_steps.specs.WordsAndValues.{AreTied, MatchesPlace, WordsMatchValues, is_plain_word}
+use Rattle.sdd_domain_steps.specs.Local.{LocalModel, listing, standing_by, value_by, standing_in, value_in, world_of}
+use Rattle.sdd_domain_core.specs.Space.{ShowsBy, Shows, is_lone, caller_in, caller_of, known_of}
+use Rattle.sdd_domain_steps.specs.SpaceIds.{home_in}
+use Rattle.sdd_domain_steps.specs.Items.{IsRightTo}
+use Rattle.sdd_domain_core.specs.Sound.{IsSound}
+use Rattle.sdd_domain_core.proofs.Sound.{sound_then, sound_step}
+use Rattle.sdd_domain_core.proofs.Listings.{listing_at, listing_past, listing_set, listing_same}
+use Rattle.sdd_domain_core.proofs.Words.{alive_public, public_alike, plain_by, word_same, word_other, stands_owned, stands_claimed, stands_private, stands_raw, stands_retired}
+use Rattle.sdd_domain_core.proofs.OwnerLooks.{low, taken, stands, shown_entry, closes_looks, only_looks, shows_it, keeps_it}
+use Rattle.sdd_domain_core.proofs.GuardCalls.{lone_is}
+use Rattle.sdd_domain_core.proofs.Refusals.{words_only, words_undisturbed}
+use Rattle.sdd_domain_core.proofs.LoneCalls.{cells_kept, pointers_kept}
 
 -- ---- a word changes of an item that stays
 -- an item that neither waits, for no collector or for one, nor is free
@@ -65,7 +65,7 @@ module _ {T J : Type 0} (v : LocalModel T J) (k y : ℕ) where
     word_then i ne = word_other v.member.sizes v.member.words t.long k y i ne
 
     module _ (was : IsKeptBy (word_of v.member k)) (now : IsKeptBy y) where
-      -- words, bags and ledger go together still
+      -- words, bags and ghost values go together still
       pub tied_word : IsTrue (is_plain_word y) → AreTied (with_word k y v.member) v.entries
       tied_word plain = record {
         place = t.place;
@@ -251,7 +251,7 @@ module _ {T J : Type 0} (v : LocalModel T J) (m : LocalState J) (k : ℕ) (is : 
     puts_world exact = puts_world_alone (lone_of exact) ∙ ap (λ (q : LocalModel T J). with_standing (world_of q) k Raw) same
 
     pub puts_undisturbed : (shown : T → Gv) (holds : T → List OwnerOrCell)
-        → Undisturbed seat_of (λ (q : LocalModel T J). q.member.own) known_of (λ (q : LocalModel T J). Shows shown holds q) p
+        → Undisturbed caller_of (λ (q : LocalModel T J). q.member.own) known_of (λ (q : LocalModel T J). Shows shown holds q) p
         (record { member = m; entries = v.entries })
     puts_undisturbed shown holds = words_undisturbed v m (words_only m v.member (put_out k v.member).words is) shown holds p same (subst (λ (y : LocalState J).
         KeepsShown (Shows shown holds v) (Shows shown holds (record { member = y; entries = v.entries }))) (sym is) (out_keeps v k tied knows shown holds))
@@ -298,7 +298,7 @@ module _ {T J : Type 0} (v : LocalModel T J) (m : LocalState J) (slot : ℕ) (ti
     lone_too exact = lone_is v.member (subst (λ (q : LocalModel T J). IsTrue (is_lone q.member)) (sym same) exact)
 
     pub takes_undisturbed : (shown : T → Gv) (holds : T → List OwnerOrCell) (r : Option Right) → TakesOrNot v m slot r
-        → Undisturbed seat_of (λ (q : LocalModel T J). q.member.own) known_of (λ (q : LocalModel T J). Shows shown holds q) p
+        → Undisturbed caller_of (λ (q : LocalModel T J). q.member.own) known_of (λ (q : LocalModel T J). Shows shown holds q) p
         (record { member = m; entries = v.entries })
     takes_undisturbed shown holds r a = words_undisturbed v m (takes_words r a) shown holds p same (takes_keeps shown holds r a)
 
@@ -357,10 +357,10 @@ module _ {J : Type 0} (R : RattleType) (holds : R.Denot → List OwnerOrCell) (v
 
   module _ (p : LocalModel R.Denot J) (same : v ≡ p) where
     pub looks_undisturbed : (r : Option (Bor R.Denot)) → LooksOrNot R holds v m slot r
-        → Undisturbed seat_of (λ (q : LocalModel R.Denot J). q.member.own) known_of (λ (q : LocalModel R.Denot J). Shows (showing R) holds q) p after
-    looks_undisturbed r a = subst (λ (q : LocalModel R.Denot J). Undisturbed seat_of (λ (q : LocalModel R.Denot J). q.member.own) known_of
+        → Undisturbed caller_of (λ (q : LocalModel R.Denot J). q.member.own) known_of (λ (q : LocalModel R.Denot J). Shows (showing R) holds q) p after
+    looks_undisturbed r a = subst (λ (q : LocalModel R.Denot J). Undisturbed caller_of (λ (q : LocalModel R.Denot J). q.member.own) known_of
         (λ (q : LocalModel R.Denot J). Shows (showing R) holds q) q after) same record {
-          seat = ap seat_in (looks_only r a);
+          caller = ap caller_in (looks_only r a);
           own = ap (λ (y : LocalState J). y.own) (looks_only r a);
           known = subst (λ (y : LocalState J). KnowsOn (known_of v) (known_of (record { member = y; entries = v.entries }))) (sym (looks_only r a))
               (record { told = omega arith; since = refl });

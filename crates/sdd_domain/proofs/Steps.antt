@@ -8,27 +8,27 @@ use Rattle.sdd_rights.specs.StandingKind.{is_shared}
 use Rattle.sdd_rights.specs.declared.views.WaitingItem.{WaitingItem}
 use Rattle.sdd_domain_invariant.specs.Slots.{waits_in}
 use Rattle.sdd_domain_invariant.specs.Sums.{total}
-use Rattle.sdd_domain_invariant.specs.Records.{IsIn}
-use Rattle.sdd_space.specs.OwnerOrCell.{OwnerOrCell, AreOf}
-use Rattle.sdd_space.specs.KnownEpochs.{KnowsOn}
+use Rattle.sdd_domain_invariant.specs.Slots.Records.{IsIn}
+use Rattle.sdd_world_model.specs.OwnerOrCell.{OwnerOrCell, AreOf}
+use Rattle.sdd_world_model.specs.KnownEpochs.{KnowsOn}
 use Rattle.sdd_space.specs.Ptr.{KeepsShown}
 use Rattle.sdd_space.specs.Undisturbed.{Undisturbed}
-use Rattle.sdd_space.specs.World.{World, value_at}
-use Rattle.sdd_domain_slots.specs.Cells.{SeesMore, WritesAt}
-use Rattle.sdd_domain_slots.specs.InBags.{AreInBags, KnownWaiting, private_for}
-use Rattle.sdd_domain_slots.specs.Local.{LocalModel, world_of}
-use Rattle.sdd_domain_slots.specs.LocalState.{AddsAt, IsLone, KnowsOwner, LocalState, MakesAt}
-use Rattle.sdd_domain_slots.specs.SeenSlots.{IsOnce}
-use Rattle.sdd_domain.specs.Sound.{IsSound}
-use Rattle.sdd_domain.specs.Space.{ShowsBy, Shows, is_lone, known_of, seat_in, seat_of}
-use Rattle.sdd_domain_slots.specs.SpaceIds.{home_in}
-use Rattle.sdd_domain_slots.specs.WordsAndValues.{AreTied, Entries, WordsMatchValues}
-use Rattle.sdd_domain.proofs.Added.{added_keeps, added_only, added_sound, added_tied}
-use Rattle.sdd_domain.proofs.CellWorld.{matched_written, sound_written, written_undisturbed}
-use Rattle.sdd_domain.proofs.Exact.{lone_is}
-use Rattle.sdd_domain.proofs.Makes.{makes_keeps, makes_tied}
-use Rattle.sdd_domain.proofs.Refusals.{words_undisturbed}
-use Rattle.sdd_domain.proofs.Sound.{sound_makes, sound_step}
+use Rattle.sdd_world_model.specs.World.{World, value_at}
+use Rattle.sdd_domain_steps.specs.Cells.{SeesMore, WritesAt}
+use Rattle.sdd_domain_steps.specs.InBags.{AreInBags, KnownWaiting, private_for}
+use Rattle.sdd_domain_steps.specs.Local.{LocalModel, world_of}
+use Rattle.sdd_domain_steps.specs.LocalState.{AddsAt, IsLone, KnowsOwner, LocalState, MakesAt}
+use Rattle.sdd_domain_steps.specs.SeenSlots.{IsOnce}
+use Rattle.sdd_domain_core.specs.Sound.{IsSound}
+use Rattle.sdd_domain_core.specs.Space.{ShowsBy, Shows, is_lone, known_of, caller_in, caller_of}
+use Rattle.sdd_domain_steps.specs.SpaceIds.{home_in}
+use Rattle.sdd_domain_steps.specs.WordsAndValues.{AreTied, Entries, WordsMatchValues}
+use Rattle.sdd_domain.proofs.AddedOwner.{added_keeps, added_only, added_sound, added_tied}
+use Rattle.sdd_domain_core.proofs.CellWorld.{matched_written, sound_written, written_undisturbed}
+use Rattle.sdd_domain_core.proofs.GuardCalls.{lone_is}
+use Rattle.sdd_domain_core.proofs.MadeItem.{makes_keeps, makes_tied}
+use Rattle.sdd_domain_core.proofs.Refusals.{words_undisturbed}
+use Rattle.sdd_domain_core.proofs.Sound.{sound_makes, sound_step}
 
 -- a participant is lone by what it began with
 pub lone_begun : {T J : Type 0} (v p : LocalModel T J) → v ≡ p → IsTrue (is_lone p.member) → IsLone v.member
@@ -88,7 +88,7 @@ module _ {T J : Type 0} (v : LocalModel T J) (m : LocalState J) (more : SeesMore
 -- ---- a step
 module _ {T J : Type 0} (shown : T → Gv) (holds : T → List OwnerOrCell) where
   abbrev Leaves : LocalModel T J → LocalModel T J → Type 0
-  Leaves = Undisturbed seat_of (λ (q : LocalModel T J). q.member.own) known_of (λ (q : LocalModel T J). Shows shown holds q)
+  Leaves = Undisturbed caller_of (λ (q : LocalModel T J). q.member.own) known_of (λ (q : LocalModel T J). Shows shown holds q)
 
   pub record IsStep (v w : LocalModel T J) : Type 0 where
     pub tied : WordsMatchValues v.member v.entries → WordsMatchValues w.member w.entries
@@ -100,7 +100,7 @@ module _ {T J : Type 0} (shown : T → Gv) (holds : T → List OwnerOrCell) wher
     tied = λ t. second.tied (first.tied t);
     sound = λ t s. second.sound (first.tied t) (first.sound t s);
     quiet = λ t. let a = first.quiet t in let b = second.quiet (first.tied t) in record {
-      seat = b.seat ∙ a.seat;
+      caller = b.caller ∙ a.caller;
       own = b.own ∙ a.own;
       known = record { told = (let x = a.known.told in let y = b.known.told in omega arith); since = b.known.since ∙ a.known.since };
       shown = λ i u h. b.shown i u (a.shown i u h);
@@ -111,7 +111,7 @@ module _ {T J : Type 0} (shown : T → Gv) (holds : T → List OwnerOrCell) wher
   no_step v w same = subst (λ (q : LocalModel T J). IsStep v q) (sym same) record {
     tied = λ t. t;
     sound = λ _ s. s;
-    quiet = λ _. record { seat = refl; own = refl; known = record { told = omega arith; since = refl }; shown = λ i u h. h };
+    quiet = λ _. record { caller = refl; own = refl; known = record { told = omega arith; since = refl }; shown = λ i u h. h };
   }
 
   -- what a call leaves, where this is the participant that it began with
@@ -143,7 +143,7 @@ module _ {T J : Type 0} (shown : T → Gv) (holds : T → List OwnerOrCell) wher
           more.closes (ap home_in more.member)
           (λ _. sees_world v m more);
       quiet = λ _. record {
-        seat = ap seat_in more.member;
+        caller = ap caller_in more.member;
         own = ap (λ (y : LocalState J). y.own) more.member;
         known = sees_known v m more;
         shown = sees_keeps v m more shown holds;
@@ -167,7 +167,7 @@ module _ {J : Type 0} (R : RattleType) (holds : R.Denot → List OwnerOrCell) (v
     tied = makes_tied R v m es kind x slot makes entered;
     sound = λ t s. sound_makes R holds v m es kind x slot makes entered at t s;
     quiet = λ t. record {
-      seat = ap seat_in makes.member;
+      caller = ap caller_in makes.member;
       own = ap (λ (y : LocalState J). y.own) makes.member;
       known = subst (λ (y : LocalState J). KnowsOn (known_of v) (known_of {T = R.Denot} (record { member = y; entries = es }))) (sym makes.member)
           record { told = omega arith; since = refl };

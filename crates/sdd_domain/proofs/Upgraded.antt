@@ -12,28 +12,28 @@ use Rattle.sdd_rights.specs.Right.{number_of}
 use Rattle.sdd_rights.specs.declared.right.Right.{Right}
 use Rattle.sdd_rights.specs.declared.right.StandingKind.TheVariants as kinds
 use Rattle.sdd_shared_values.specs.SharedValues.{showing}
-use Rattle.sdd_standings.specs.Slots.{IsSharedBy, owners_of}
+use Rattle.sdd_world_model.specs.Slots.{IsSharedBy, owners_of}
 use Rattle.sdd_domain_invariant.specs.Codes.{alive, counted, held_word, most_owners, shared_base, waiting}
 use Rattle.sdd_domain_invariant.proofs.Codes.{none_left, owned_is, shared, waiting_is}
-use Rattle.sdd_space.specs.OwnerOrCell.{OwnerOrCell}
+use Rattle.sdd_world_model.specs.OwnerOrCell.{OwnerOrCell}
 use Rattle.sdd_space.specs.Refusals.{IsRefusedBy}
 use Rattle.sdd_space.specs.Undisturbed.{Undisturbed}
-use Rattle.sdd_space.specs.World.{standing_at}
-use Rattle.sdd_space.specs.WorldChanges.{with_standing}
-use Rattle.sdd_domain_slots.specs.Items.{HasValue, IsRightTo, IsSameOwner}
-use Rattle.sdd_domain.specs.Laws.{same_value}
-use Rattle.sdd_domain_slots.specs.Local.{LocalModel, standing_by, standing_in, world_of}
-use Rattle.sdd_domain_slots.specs.LocalState.{AddsAt, IsLone, KnowsOwner, LocalState, word_of}
-use Rattle.sdd_domain_slots.specs.SeenOwners.{HasNoOwner, KnowsStill, OwnsNoMore, ShowsTo}
-use Rattle.sdd_domain.specs.Sound.{IsSound}
-use Rattle.sdd_domain.specs.Space.{ShowsBy, Shows, is_lone, known_of, seat_of}
-use Rattle.sdd_domain_slots.specs.WordsAndValues.{WordsMatchValues, is_plain_word}
-use Rattle.sdd_domain.proofs.Added.{answered_exact, answered_sound, answered_tied, answered_undisturbed}
-use Rattle.sdd_domain.proofs.Exact.{lone_is}
-use Rattle.sdd_domain.proofs.Listings.{listing_at, listing_past}
-use Rattle.sdd_domain.proofs.Owning.{entry, has_value}
-use Rattle.sdd_domain.proofs.Refusals.{back_keeps, back_same, back_sound, back_tied, back_world, words_undisturbed}
-use Rattle.sdd_domain.proofs.Words.{counts_of, plain_by, stands_owned, stands_private, stands_raw, stands_retired}
+use Rattle.sdd_world_model.specs.World.{standing_at}
+use Rattle.sdd_world_model.specs.WorldChanges.{with_standing}
+use Rattle.sdd_domain_steps.specs.Items.{HasValue, IsRightTo, IsSameOwner}
+use Rattle.sdd_domain_core.specs.Laws.{same_value}
+use Rattle.sdd_domain_steps.specs.Local.{LocalModel, standing_by, standing_in, world_of}
+use Rattle.sdd_domain_steps.specs.LocalState.{AddsAt, IsLone, KnowsOwner, LocalState, word_of}
+use Rattle.sdd_domain_steps.specs.SeenOwners.{HasNoOwner, KnowsStill, OwnsNoMore, ShowsTo}
+use Rattle.sdd_domain_core.specs.Sound.{IsSound}
+use Rattle.sdd_domain_core.specs.Space.{ShowsBy, Shows, is_lone, known_of, caller_of}
+use Rattle.sdd_domain_steps.specs.WordsAndValues.{WordsMatchValues, is_plain_word}
+use Rattle.sdd_domain.proofs.AddedOwner.{answered_exact, answered_sound, answered_tied, answered_undisturbed}
+use Rattle.sdd_domain_core.proofs.GuardCalls.{lone_is}
+use Rattle.sdd_domain_core.proofs.Listings.{listing_at, listing_past}
+use Rattle.sdd_domain_core.proofs.OwnerLooks.{entry, has_value}
+use Rattle.sdd_domain_core.proofs.Refusals.{back_keeps, back_same, back_sound, back_tied, back_world, words_undisturbed}
+use Rattle.sdd_domain_core.proofs.Words.{counts_of, plain_by, stands_owned, stands_private, stands_raw, stands_retired}
 
 -- ---- how a slot stands by its word
 -- whose owners aren't counted, or that has none
@@ -139,7 +139,7 @@ module _ {T J : Type 0} (v : LocalModel T J) (m : LocalState J) (slot : ℕ) (ti
 
   module _ (p : LocalModel T J) (same : v ≡ p) where
     pub upgraded_undisturbed : (shown : T → Gv) (holds : T → List OwnerOrCell) (r : Result (Option Right) Refused) → Answers r → Rights r
-        → Undisturbed seat_of (λ (q : LocalModel T J). q.member.own) known_of (λ (q : LocalModel T J). Shows shown holds q) p later
+        → Undisturbed caller_of (λ (q : LocalModel T J). q.member.own) known_of (λ (q : LocalModel T J). Shows shown holds q) p later
     upgraded_undisturbed shown holds (Ok None) a k = let back = back_same v m v.entries a.0 refl in
         words_undisturbed v m back.only shown holds p same (back_keeps v m v.entries back shown holds)
     upgraded_undisturbed shown holds (Ok (Some right)) a k =
@@ -152,7 +152,7 @@ module _ {T J : Type 0} (v : LocalModel T J) (m : LocalState J) (slot : ℕ) (ti
         (exactly (subst (λ (q : LocalModel T J). IsTrue (is_lone q.member)) (sym same) exact) r a k)
 
     -- a lone participant's slot isn't held by another
-    pub upgraded_back : (r : Result (Option Right) Refused) → Answers r → IfErr r (IsRefusedBy (seat_of p) TooManyOwners)
+    pub upgraded_back : (r : Result (Option Right) Refused) → Answers r → IfErr r (IsRefusedBy (caller_of p) TooManyOwners)
     upgraded_back (Ok o) a = tt
     upgraded_back (Err why) a = ⊎_elim
         (λ (many : (why ≡ TooManyOwners) × (IsLone v.member → (counted (word_of v.member slot) ≡ 1) × (most_owners ≤ alive (word_of v.member slot)))).

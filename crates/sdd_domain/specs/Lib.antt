@@ -1,14 +1,4 @@
 pub mod Domain
+pub mod Space
 pub mod Local
 pub mod Receipt
-pub mod ScanAtClose
-pub mod Collectors
-pub mod DetachedLocal
-pub mod Sound
-pub mod Space
-pub mod Reclaiming
-pub mod Noted
-pub mod OpeningTally
-pub mod Laws
-pub mod ReceiptContents
-pub mod Draining

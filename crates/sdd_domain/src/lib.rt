@@ -1,15 +1,8 @@
-//! A domain: what participants in several threads share, values and guards over them.
+//! A participant of a domain as a space: it has the calls of guards, items, cells, jobs and collectors, and the laws of a world where it is lone.
 #![tactic(auto)]
 
-mod closing;
-pub mod domain;
-mod draining;
 pub mod local;
-mod local_core;
-pub mod receipt;
-mod reclaiming;
 mod space;
 
-pub use domain::Domain;
 pub use local::Local;
-pub use receipt::Receipt;
+pub use sdd_domain_core::{Domain, Receipt};

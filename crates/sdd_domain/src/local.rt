@@ -1,16 +1,16 @@
 //! A participant of a domain. Where it is lone, it shows the world that its domain is then.
 ghost use Rattle.std.specs.Prelude.{◌≡◌, ◌⊎◌, IfErr, IfOk, MatchResult};
-ghost use Rattle.sdd_domain.specs.Domain.{home_of, book_of, limits_of};
-ghost use Rattle.sdd_domain_slots.specs.SpaceIds.{home_at, home_in};
-ghost use Rattle.sdd_domain_slots.specs.LocalState.{HasOpenGuard, IsLone, IsNew, waits};
-ghost use Rattle.sdd_domain.specs.Space.{slots_home};
+ghost use Rattle.sdd_domain_core.specs.Domain.{home_of, gamma_of, limits_of};
+ghost use Rattle.sdd_domain_steps.specs.SpaceIds.{home_at, home_in};
+ghost use Rattle.sdd_domain_steps.specs.LocalState.{HasOpenGuard, IsLone, IsNew, waits};
+ghost use Rattle.sdd_domain_core.specs.Space.{slots_home};
 
-use crate::domain::Domain;
-use crate::local_core::LocalCore;
-use crate::receipt::Receipt;
-use crate::reclaiming::LocalGiver;
 use sdd_core::Refused;
-use sdd_domain_slots::sightings::without_sightings;
+use sdd_domain_core::domain::Domain;
+use sdd_domain_core::local_core::LocalCore;
+use sdd_domain_core::receipt::Receipt;
+use sdd_domain_core::reclaiming::LocalGiver;
+use sdd_domain_steps::sightings::without_sightings;
 use sdd_participants::{Idle, Job, Tally};
 use sdd_shared_values::GhostValues;
 use sdd_space::Item;
@@ -24,30 +24,30 @@ mod laws;
 ///
 /// It must be spent by `end`. It is *lone* where its domain has one place: then nobody else changes the domain, and what its calls do is said exactly.
 pub struct Local<'d, T: Item<T>, J: Job = Idle> {
-    /// Its membership, with which value it moved into each slot, for clauses.
-    pub(crate) partner: LocalGiver<'d, T, J>,
+    /// Its core, with which value it moved into each slot, for clauses.
+    pub(crate) giver: LocalGiver<'d, T, J>,
 }
 
 impl<'d, T: Item<T>, J: Job> Model for Local<'d, T, J> {
-    ghost use Rattle.sdd_domain_slots.specs.Local.{LocalModel};
-    ghost use Rattle.sdd_domain.specs.Sound.{IsSound};
+    ghost use Rattle.sdd_domain_steps.specs.Local.{LocalModel};
+    ghost use Rattle.sdd_domain_core.specs.Sound.{IsSound};
 
     ghost Value = { LocalModel T J };
 
-    ghost view = { λ l. l.partner };
+    ghost view = { λ l. l.giver };
 
-    ghost invariant = { λ l. IsSound T.holds l.partner };
+    ghost invariant = { λ l. IsSound T.holds l.giver };
 }
 
 impl<'d, T: Item<T>> Local<'d, T> {
-    ghost use Rattle.sdd_domain_slots.specs.Local.{world_of, IsBlankAlone};
+    ghost use Rattle.sdd_domain_steps.specs.Local.{world_of, IsBlankAlone};
 
     /// Registers a participant that defers no jobs.
     ///
     /// All memory is taken here, and none later: for what may wait with it, and for the slots that it gave back, as many
     /// as there are slots. `NoPlace` where all places were found taken; `NoMemory` where this memory was refused.
     pub fn register(domain: &'d Domain<T>) -> Result<Local<'d, T>, Refused>
-        ensures registered { IfOk result (λ local. IsNew (home_of domain.now) (book_of domain.now) (limits_of domain.now) local.member) }
+        ensures registered { IfOk result (λ local. IsNew (home_of domain.now) (gamma_of domain.now) (limits_of domain.now) local.member) }
         ensures blank { IfOk result (λ local. IsLone local.member → IsBlankAlone (limits_of domain.now) (world_of local)) }
         ensures refused { IfErr result (λ e. (e ≡ Refused.NoPlace) ⊎ (e ≡ Refused.NoMemory)) }
     {
@@ -56,7 +56,7 @@ impl<'d, T: Item<T>> Local<'d, T> {
 }
 
 impl<'d, T: Item<T>, J: Job> Local<'d, T, J> {
-    ghost use Rattle.sdd_domain_slots.specs.Local.{world_of, IsBlankAlone};
+    ghost use Rattle.sdd_domain_steps.specs.Local.{world_of, IsBlankAlone};
 
     /// Registers a participant that defers jobs of this type.
     ///
@@ -64,17 +64,17 @@ impl<'d, T: Item<T>, J: Job> Local<'d, T, J> {
     /// jobs that it defers, as many as the table of jobs has places. `NoPlace` where all places were found taken; `NoMemory` where this memory was
     /// refused.
     pub fn register_with_jobs(domain: &'d Domain<T>) -> Result<Local<'d, T, J>, Refused>
-        ensures registered { IfOk result (λ local. IsNew (home_of domain.now) (book_of domain.now) (limits_of domain.now) local.member) }
+        ensures registered { IfOk result (λ local. IsNew (home_of domain.now) (gamma_of domain.now) (limits_of domain.now) local.member) }
         ensures blank { IfOk result (λ local. IsLone local.member → IsBlankAlone (limits_of domain.now) (world_of local)) }
         ensures refused { IfErr result (λ e. (e ≡ Refused.NoPlace) ⊎ (e ≡ Refused.NoMemory)) }
     {
-        let membership = match LocalCore::register(domain) {
-            Ok(membership) => membership,
+        let core = match LocalCore::register(domain) {
+            Ok(core) => core,
             Err(missed) => return Err(without_sightings(missed)),
         };
-        let ledger = GhostValues::new(domain.limits.slots as usize);
+        let ghost_values = GhostValues::new(domain.limits.slots as usize);
         Ok(Local {
-            partner: LocalGiver { membership, ledger },
+            giver: LocalGiver { core, ghost_values },
         })
     }
 
@@ -88,25 +88,25 @@ impl<'d, T: Item<T>, J: Job> Local<'d, T, J> {
             × (receipt ≡ record { home = slots_home self.entry; tally = self.entry.member.tally; waits = waits self.entry.member }))
             (λ local. HasOpenGuard self.entry.member × (local ≡ self.entry)) }
     {
-        if self.partner.membership.is_guarded() {
+        if self.giver.core.is_guarded() {
             return Err(self);
         }
-        let Local { partner } = self;
-        Ok(Receipt::of(partner))
+        let Local { giver } = self;
+        Ok(Receipt::of(giver))
     }
 
     /// Its domain, through which owners look at their items also while the participant goes on.
     pub fn domain(&self) -> &'d Domain<T>
-        ensures home { home_at (home_of result.now) (book_of result.now) (limits_of result.now) ≡ home_in self.now.member }
+        ensures home { home_at (home_of result.now) (gamma_of result.now) (limits_of result.now) ≡ home_in self.now.member }
         ensures limits { limits_of result.now ≡ self.now.member.limits }
     {
-        self.partner.membership.domain()
+        self.giver.core.domain()
     }
 
     /// How many items it made, reclaimed and dropped in place.
     pub fn tally(&self) -> Tally
         ensures { result ≡ self.now.member.tally }
     {
-        self.partner.membership.tally()
+        self.giver.core.tally()
     }
 }

@@ -5,10 +5,9 @@ mod cells;
 mod collectors;
 mod raw_cells;
 
-use crate::domain::Domain;
 use crate::local::Local;
-use crate::reclaiming::LocalGiver;
 use sdd_core::{Refused, SlotName};
+use sdd_domain_core::reclaiming::LocalGiver;
 use sdd_participants::Job;
 use sdd_rights::{Right, StandingKind};
 use sdd_space::inner::value_of_ptr;
@@ -29,10 +28,10 @@ impl<T: Item<T>, J: Job> Space<T> for Local<'_, T, J> {
 }
 
 impl<T: Item<T>, J: Job> Shows<T> for Local<'_, T, J> {
-    ghost use Rattle.sdd_domain_slots.specs.SpaceIds.{home_in};
-    ghost use Rattle.sdd_domain_slots.specs.Items.{HasValue};
-    ghost use Rattle.sdd_domain.specs.Space.{Shows};
-    ghost use Rattle.sdd_domain_slots.specs.Values.{one_value};
+    ghost use Rattle.sdd_domain_steps.specs.SpaceIds.{home_in};
+    ghost use Rattle.sdd_domain_steps.specs.Items.{HasValue};
+    ghost use Rattle.sdd_domain_core.specs.Space.{Shows};
+    ghost use Rattle.sdd_domain_steps.specs.Values.{one_value};
 
     ghost home = { λ p. home_in p.member };
 
@@ -41,7 +40,7 @@ impl<T: Item<T>, J: Job> Shows<T> for Local<'_, T, J> {
     ghost owns_value = { λ _ right value. HasValue (showing T.row value) right };
 
     fn shown_is_of_home(&self) {
-        let _partner = &self.partner;
+        let _giver = &self.giver;
     }
 
     ghost one_owned = { λ _ right u v a b. one_value T.row right u v a b };
@@ -49,25 +48,25 @@ impl<T: Item<T>, J: Job> Shows<T> for Local<'_, T, J> {
     ghost keeps_owned = { λ _ _ _ _ _ _ owns. owns };
 }
 
-/// An owner looks at its item without a guard. Its token tells the value, so that no step is needed.
+/// An owner looks at its item without a guard. Its seat tells the value, so that no step is needed.
 impl<T: Item<T>, J: Job> Look<T> for Local<'_, T, J> {
     ghost knows_slots = { λ _. ⊥ };
 
     #[inline]
     fn value<'a>(&'a self, right: &'a Right) -> &'a T {
-        self.partner
-            .membership
+        self.giver
+            .core
             .domain()
-            .shelf
-            .view(right.number() as usize, right.grip())
+            .values
+            .view(right.number() as usize, right.read_fraction())
     }
 }
 
 impl<T: Item<T>, J: Job> LookThrough<T> for Local<'_, T, J> {
     ghost use Rattle.std.specs.Prelude.{◌≡◌, option_copied};
     ghost use Rattle.sdd_space.specs.Ptr.{shown_by};
-    ghost use Rattle.sdd_domain.specs.Space.{is_lone};
-    ghost use Rattle.sdd_domain.specs.Laws.{one_shown};
+    ghost use Rattle.sdd_domain_core.specs.Space.{is_lone};
+    ghost use Rattle.sdd_domain_core.specs.Laws.{one_shown};
 
     #[inline]
     fn look<'g>(&self, ptr: Ptr<'g, T>) -> Option<&'g T>
@@ -79,57 +78,13 @@ impl<T: Item<T>, J: Job> LookThrough<T> for Local<'_, T, J> {
     ghost one_value = { λ p slot u v a b. one_shown T.row p T.holds slot u v (is_lone p.member) a b };
 }
 
-impl<T: Item<T>> Shows<T> for Domain<T> {
-    ghost use Rattle.sdd_domain.specs.Domain.{home_of, book_of, limits_of};
-    ghost use Rattle.sdd_domain_slots.specs.Items.{HasValue};
-    ghost use Rattle.sdd_domain_slots.specs.SpaceIds.{home_at};
-    ghost use Rattle.sdd_domain_slots.specs.Values.{one_value};
-
-    ghost home = { λ d. home_at (home_of d) (book_of d) (limits_of d) };
-
-    ghost shows = { λ _ _ _. ⊥ };
-
-    ghost owns_value = { λ _ right value. HasValue (showing T.row value) right };
-
-    fn shown_is_of_home(&self) {}
-
-    ghost one_owned = { λ _ right u v a b. one_value T.row right u v a b };
-
-    ghost keeps_owned = { λ _ _ _ _ _ _ owns. owns };
-}
-
-/// The same where no participant is at hand.
-impl<T: Item<T>> Look<T> for Domain<T> {
-    ghost knows_slots = { λ _. ⊥ };
-
-    #[inline]
-    fn value<'a>(&'a self, right: &'a Right) -> &'a T {
-        self.shelf.view(right.number() as usize, right.grip())
-    }
-}
-
-/// A pointer that was loaded under a guard of a participant, where that participant isn't at hand.
-impl<T: Item<T>> LookThrough<T> for Domain<T> {
-    ghost use Rattle.std.specs.Prelude.{◌≡◌, option_copied};
-    ghost use Rattle.sdd_space.specs.Ptr.{shown_by};
-
-    #[inline]
-    fn look<'g>(&self, ptr: Ptr<'g, T>) -> Option<&'g T>
-        ensures { option_copied result ≡ shown_by ptr.entry }
-    {
-        value_of_ptr(ptr)
-    }
-
-    ghost one_value = { λ _ _ _ _ none. absurd none };
-}
-
 impl<T: Item<T>, J: Job> Caller<T> for Local<'_, T, J> {
     ghost use Rattle.std.specs.Prelude.{refl};
-    ghost use Rattle.sdd_domain_slots.specs.Local.{world_of};
-    ghost use Rattle.sdd_domain.specs.Space.{seat_of, known_of, is_lone};
-    ghost use Rattle.sdd_domain.specs.Laws.{own_is_place, shows_is_value};
+    ghost use Rattle.sdd_domain_steps.specs.Local.{world_of};
+    ghost use Rattle.sdd_domain_core.specs.Space.{caller_of, known_of, is_lone};
+    ghost use Rattle.sdd_domain_core.specs.Laws.{own_is_place, shows_is_value};
 
-    ghost seat = { λ p. seat_of p };
+    ghost caller = { λ p. caller_of p };
 
     ghost own = { λ p. p.member.own };
 
@@ -139,7 +94,7 @@ impl<T: Item<T>, J: Job> Caller<T> for Local<'_, T, J> {
 
     fn values_fit_slots(&self) {}
 
-    ghost home_is_seat = { λ _. refl };
+    ghost home_is_caller = { λ _. refl };
 
     ghost own_is_place = { λ p _. own_is_place p };
 
@@ -150,16 +105,16 @@ impl<T: Item<T>, J: Job> Guards<T> for Local<'_, T, J> {
     ghost use Rattle.std.specs.Prelude.{◌≡◌, Option, MatchResult, IfOk, IsTrue};
     ghost use Rattle.sdd_participants.specs.EpochState.{CanNest, is_open};
     ghost use Rattle.sdd_space.specs.CallerId.{IsSeated, IsExact, IsLone, MayNest};
-    ghost use Rattle.sdd_space.specs.ParticipantChanges.{GuardOpened};
-    ghost use Rattle.sdd_space.specs.KnownEpochs.{KnowsOn, KnowsOpened};
+    ghost use Rattle.sdd_world_model.specs.ParticipantChanges.{GuardOpened};
+    ghost use Rattle.sdd_world_model.specs.KnownEpochs.{KnowsOn, KnowsOpened};
     ghost use Rattle.sdd_space.specs.Guard.{reader_of};
     ghost use Rattle.sdd_space.specs.Ptr.{KeepsShown};
-    ghost use Rattle.sdd_space.specs.WorldChanges.{opened};
-    ghost use Rattle.sdd_domain_slots.specs.Local.{world_of};
-    ghost use Rattle.sdd_domain_slots.specs.declared.scan.ScanEnd.{ScanEnd};
-    ghost use Rattle.sdd_domain.specs.OpeningTally.{CountsReclaimed};
-    ghost use Rattle.sdd_domain.specs.ScanAtClose.{TellsScan};
-    ghost use Rattle.sdd_domain.specs.Space.{Shows, seat_of, known_of};
+    ghost use Rattle.sdd_world_model.specs.WorldChanges.{opened};
+    ghost use Rattle.sdd_domain_steps.specs.Local.{world_of};
+    ghost use Rattle.sdd_domain_steps.specs.declared.epoch.scan.ScanEnd.{ScanEnd};
+    ghost use Rattle.sdd_domain_core.specs.OpeningTally.{CountsReclaimed};
+    ghost use Rattle.sdd_domain_core.specs.ScanAtClose.{TellsScan};
+    ghost use Rattle.sdd_domain_core.specs.Space.{Shows, caller_of, known_of};
 
     ghost says_at_opening = { λ p q. CountsReclaimed p.member q.member };
 
@@ -168,64 +123,64 @@ impl<T: Item<T>, J: Job> Guards<T> for Local<'_, T, J> {
     // The compiler puts an opening into its caller as long as it is short: that is all but spent. Five instructions more here, and each guard takes 12 more.
     #[inline(always)]
     fn new_guard(&mut self) -> Result<Guard, Refused>
-        requires seated { IsSeated (seat_of self.old) }
-        ensures seat { seat_of self.new ≡ seat_of self.old }
-        ensures reader { IfOk result (λ guard. reader_of guard ≡ (seat_of self.old).reader) }
+        requires seated { IsSeated (caller_of self.old) }
+        ensures caller { caller_of self.new ≡ caller_of self.old }
+        ensures reader { IfOk result (λ guard. reader_of guard ≡ (caller_of self.old).reader) }
         ensures own { MatchResult result
-            (λ _. MayNest (seat_of self.old) self.old.member.own × GuardOpened self.old.member.own self.new.member.own)
-            (λ e. (e ≡ Refused.TooManyGuards) × ¬ (MayNest (seat_of self.old) self.old.member.own) × (self.new.member.own ≡ self.old.member.own)) }
+            (λ _. MayNest (caller_of self.old) self.old.member.own × GuardOpened self.old.member.own self.new.member.own)
+            (λ e. (e ≡ Refused.TooManyGuards) × ¬ (MayNest (caller_of self.old) self.old.member.own) × (self.new.member.own ≡ self.old.member.own)) }
         ensures known { MatchResult result
             (λ _. KnowsOpened (known_of self.old) self.old.member.own self.new.member.own (known_of self.new))
             (λ _. KnowsOn (known_of self.old) (known_of self.new)) }
-        ensures lone { IsLone (seat_of self.old) → (known_of self.new).told ≡ (known_of self.old).told }
-        ensures exact { IsExact (seat_of self.old) → MatchResult result
-            (λ _. CanNest (world_of self.old).time (seat_of self.old).place ×
-            (world_of self.new ≡ opened T.holds (world_of self.old) (seat_of self.old).place))
-            (λ e. (e ≡ Refused.TooManyGuards) × ¬ (CanNest (world_of self.old).time (seat_of self.old).place) ×
+        ensures lone { IsLone (caller_of self.old) → (known_of self.new).told ≡ (known_of self.old).told }
+        ensures exact { IsExact (caller_of self.old) → MatchResult result
+            (λ _. CanNest (world_of self.old).time (caller_of self.old).place ×
+            (world_of self.new ≡ opened T.holds (world_of self.old) (caller_of self.old).place))
+            (λ e. (e ≡ Refused.TooManyGuards) × ¬ (CanNest (world_of self.old).time (caller_of self.old).place) ×
             (world_of self.new ≡ world_of self.old)) }
         ensures keeps { IsTrue (is_open self.old.member.own) →
             KeepsShown (Shows (showing T.row) T.holds self.old) (Shows (showing T.row) T.holds self.new) }
         ensures says { CountsReclaimed self.old.member self.new.member }
     {
-        if self.partner.membership.is_guarded() {
-            return self.partner.membership.nest();
+        if self.giver.core.is_guarded() {
+            return self.giver.core.nest();
         }
-        let (guard, goes_on) = self.partner.membership.enter();
+        let (guard, goes_on) = self.giver.core.enter();
         if goes_on {
-            self.partner.change();
+            self.giver.change();
         }
         Ok(guard)
     }
 
     #[inline(always)]
     fn close_guard(&mut self, guard: Guard) {
-        let _told = self.partner.membership.close_guard(guard);
+        let _told = self.giver.core.close_guard(guard);
     }
 
     #[inline]
     fn count(&mut self) -> u64 {
-        self.partner.membership.count()
+        self.giver.core.count()
     }
 
     #[inline]
     fn has_garbage(&self) -> bool {
-        self.partner.membership.has_garbage()
+        self.giver.core.has_garbage()
     }
 
     #[inline]
     fn set_has_garbage(&mut self) {
-        self.partner.membership.set_has_garbage();
+        self.giver.core.set_has_garbage();
     }
 
     #[inline]
     fn accelerate(&mut self) {
-        self.partner.membership.accelerate();
+        self.giver.core.accelerate();
     }
 }
 
 impl<T: Item<T>, J: Job> Items<T> for Local<'_, T, J> {
     ghost use Rattle.sdd_participants.specs.Slab.{IsFull};
-    ghost use Rattle.sdd_domain_slots.specs.Local.{world_of};
+    ghost use Rattle.sdd_domain_steps.specs.Local.{world_of};
 
     ghost is_used_up = { λ p. IsFull (world_of p).standings };
 
@@ -233,8 +188,8 @@ impl<T: Item<T>, J: Job> Items<T> for Local<'_, T, J> {
 
     #[inline(always)]
     fn new_item(&mut self, value: T, kind: StandingKind) -> Result<Right, (T, Refused)> {
-        let LocalGiver { membership, ledger } = &mut self.partner;
-        membership.new_item(value, kind, ledger)
+        let LocalGiver { core, ghost_values } = &mut self.giver;
+        core.new_item(value, kind, ghost_values)
     }
 
     fn new_item_with<F: FnOnce() -> T>(
@@ -242,55 +197,55 @@ impl<T: Item<T>, J: Job> Items<T> for Local<'_, T, J> {
         make: F,
         kind: StandingKind,
     ) -> Result<Right, (F, Refused)> {
-        let LocalGiver { membership, ledger } = &mut self.partner;
-        membership.new_item_with(make, kind, ledger)
+        let LocalGiver { core, ghost_values } = &mut self.giver;
+        core.new_item_with(make, kind, ghost_values)
     }
 
     #[inline]
     fn get_guarded<'g>(&mut self, right: &Right, guard: &'g Guard) -> &'g T {
-        self.partner.ledger.codes();
-        self.partner.membership.get_guarded(right, guard)
+        self.giver.ghost_values.codes();
+        self.giver.core.get_guarded(right, guard)
     }
 
     #[inline(always)]
     fn release(&mut self, right: Right, kind: StandingKind) -> bool {
-        self.partner.membership.release(right, kind)
+        self.giver.core.release(right, kind)
     }
 
     #[inline]
     fn slots(&self) -> u64 {
-        self.partner.membership.domain().limits.slots
+        self.giver.core.domain().limits.slots
     }
 
     fn has_slot(&mut self) -> bool {
-        self.partner.membership.has_slot()
+        self.giver.core.has_slot()
     }
 
     #[inline]
     fn owned_is_shown(&mut self, right: &Right) {
-        self.partner.ledger.codes();
-        self.partner.membership.recall_owner(right);
+        self.giver.ghost_values.codes();
+        self.giver.core.recall_owner(right);
     }
 }
 
 impl<T: Item<T>, J: Job> SharedOwners<T> for Local<'_, T, J> {
     #[inline]
     fn clone_owner(&mut self, right: &Right) -> Result<Right, Refused> {
-        self.partner.membership.clone_owner(right)
+        self.giver.core.clone_owner(right)
     }
 }
 
 /// Where others take part, what a slot's word tells isn't enough: while an item is being made its word counts an owner already. Who sees the item by a guard
 /// of its own knows that it is there.
 impl<T: Item<T>, J: Job> SharedItems<T> for Local<'_, T, J> {
-    ghost use Rattle.sdd_domain_slots.specs.LocalState.{IsLone};
-    ghost use Rattle.sdd_domain.specs.Laws.{lone_asks_nothing};
+    ghost use Rattle.sdd_domain_steps.specs.LocalState.{IsLone};
+    ghost use Rattle.sdd_domain_core.specs.Laws.{lone_asks_nothing};
 
-    ghost asks_sight = { λ p. ¬ (IsLone p.member) };
+    ghost asks_shown = { λ p. ¬ (IsLone p.member) };
 
     fn get_shared(&mut self, slot: SlotName) -> Result<Option<Right>, Refused> {
-        self.partner.ledger.codes();
-        self.partner.membership.own_seen(slot.number())
+        self.giver.ghost_values.codes();
+        self.giver.core.own_seen(slot.number())
     }
 
     ghost exact_asks_nothing = { λ p exact. lone_asks_nothing p.member exact };
@@ -303,9 +258,9 @@ impl<T: Item<T>, J: Job> InPlaceItems<T> for Local<'_, T, J> {
         kind: StandingKind,
         f: F,
     ) -> Result<R, (F, Refused)> {
-        let LocalGiver { membership, ledger } = &mut self.partner;
-        ledger.codes();
-        membership.get_mut(right, kind, f, ledger)
+        let LocalGiver { core, ghost_values } = &mut self.giver;
+        ghost_values.codes();
+        core.get_mut(right, kind, f, ghost_values)
     }
 
     fn drop_in_place(
@@ -313,27 +268,25 @@ impl<T: Item<T>, J: Job> InPlaceItems<T> for Local<'_, T, J> {
         right: Right,
         kind: StandingKind,
     ) -> Result<bool, (Right, Refused)> {
-        self.partner.drop_in_place(right, kind)
+        self.giver.drop_in_place(right, kind)
     }
 }
 
 impl<T: Item<T>, J: Job> RawItems<T> for Local<'_, T, J> {
     #[inline]
     fn into_raw(&mut self, right: Right) -> SlotName {
-        SlotName::of(self.partner.membership.into_raw(right))
+        SlotName::of(self.giver.core.into_raw(right))
     }
 
     #[inline]
     fn from_raw(&mut self, slot: SlotName) -> Option<Right> {
-        self.partner.membership.from_raw(slot.number())
+        self.giver.core.from_raw(slot.number())
     }
 
     #[inline]
     fn get_guarded_raw<'g>(&mut self, slot: SlotName, guard: &'g Guard) -> Option<&'g T> {
-        self.partner.ledger.codes();
-        self.partner
-            .membership
-            .get_guarded_raw(slot.number(), guard)
+        self.giver.ghost_values.codes();
+        self.giver.core.get_guarded_raw(slot.number(), guard)
     }
 }
 
@@ -343,6 +296,6 @@ impl<T: Item<T>, J: Job> Deferrals<T> for Local<'_, T, J> {
 
     #[inline]
     fn defer_execute(&mut self, job: J) -> Result<u32, (J, Refused)> {
-        self.partner.membership.defer_execute(job)
+        self.giver.core.defer_execute(job)
     }
 }

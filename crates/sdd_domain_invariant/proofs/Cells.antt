@@ -1,4 +1,7 @@
 -- What cells hold, after one step
+pub mod CellWordSteps
+pub mod CellSteps
+pub mod RightSeats
 use Rattle.std.specs.Prelude.{None}
 use Rattle.std.proofs.Common.{◌≡◌, ◌≢◌, ◌⊎◌, inl, inr, ℕ, zero, suc, ◌+◌, ◌*◌, Bool, true, false, ◌<◌, ◌≤◌, List, [], ◌∷◌, ◌++◌, length, get_or, set, sym, refl, ap, ◌∙◌, subst, ⊎_elim, arith, get_or-set_other, get_or-set_same}
 use mathlib.Core.Logic.{dite}
@@ -19,13 +22,13 @@ use Rattle.sdd_domain_invariant.specs.Collectors.{one_in, Closes}
 use Rattle.sdd_domain_invariant.specs.Sums.{total}
 use Rattle.sdd_domain_invariant.proofs.Codes.{sound}
 use Rattle.sdd_domain_invariant.proofs.Frame.{each_snoc}
-use Rattle.sdd_domain_invariant.proofs.SlotWords.{named_in}
+use Rattle.sdd_domain_invariant.proofs.Slots.SlotWords.{named_in}
 use Rattle.sdd_domain_invariant.proofs.Sums.{is_same, is_other, total_set, total_snoc, total_has, total_two, total_some, span_has}
 use Rattle.atomic_table.proofs.Lists.{at_set}
-use Rattle.sdd_domain_invariant.specs.BankInvariant.{one_where}
-use Rattle.sdd_domain_invariant.specs.CellSteps.{IsBare}
+use Rattle.sdd_domain_invariant.specs.Fractions.BankInvariant.{one_where}
+use Rattle.sdd_domain_invariant.specs.Cells.CellSteps.{IsBare}
 use Rattle.sdd_rights.specs.Owner.{cell_kind}
-use Rattle.sdd_domain_invariant.specs.CellsInvariant.{cell_at, pointer_at, IsInCell, is_right, rights_at, HasRight, IsWordOf, IsTaken, HavePointers, closes_by, is_closing_right, closing_rights_at, closes_at, CellsInvariant}
+use Rattle.sdd_domain_invariant.specs.Cells.CellsInvariant.{cell_at, pointer_at, IsInCell, is_right, rights_at, HasRight, IsWordOf, IsTaken, HavePointers, closes_by, is_closing_right, closing_rights_at, closes_at, CellsInvariant}
 
 -- a flag is told by its number
 pub one_flag : (a b : Bool) → one_where a ≡ one_where b → a ≡ b
@@ -72,7 +75,11 @@ module _ (sizes : Sizes) (ws : List ℕ) where
   cells_same j = subst (SameCells sizes ws) (sym (set-get_or ws j 0)) (no_change sizes ws).cells
 
   pub words_beside : (j y : ℕ) → IsEpochWord sizes j → SameWords sizes ws (set ws j y)
-  words_beside j y word = let low = word.1 in record { cells = cells_beside j y word; slots = λ i. get_or-set_other ws j (slot_word sizes i) y 0 (λ e. omega arith) }
+  words_beside j y word = let low = word.1 in record {
+    cells = cells_beside j y word;
+    slots = λ i. get_or-set_other ws j (slot_word sizes i) y 0
+        (λ e. omega arith);
+  }
 
   pub words_same : (j : ℕ) → SameWords sizes ws (set ws j (get_or ws j 0))
   words_same j = record { cells = cells_same j; slots = λ i. ap (λ (l : List ℕ). slot_at sizes l i) (set-get_or ws j 0) }
@@ -189,7 +196,7 @@ module _ (sizes : Sizes) (ws : List ℕ) (vs : List View) (part : CellsInvariant
       let b = total_some (is_closing_right k) x.cells.rights a.3 in let r : CellRight = b.1 in
       (a.0, x, r, a.2, (b.0, b.2), told_closing r.kind k r.cell b.3)
 
-  -- a new token that has the right to none
+  -- a new seat that has the right to none
   pub cells_more : (t : View) → t.cells.rights ≡ [] → t.slots.closes ≡ None → CellsInvariant sizes ws (vs ++ t ∷ [])
   cells_more t none idle = record {
     inside = part.inside;

@@ -1,4 +1,8 @@
--- The collectors' part after one step of one participant that takes no part in it, and after tokens come and go
+-- The collectors' part after one step of one participant that takes no part in it, and after seats come and go
+pub mod PrivateSlots
+pub mod CollectorWordSteps
+pub mod PrivateItemSteps
+pub mod CollectorSteps
 use Rattle.std.proofs.Common.{◌≡◌, ◌≢◌, ◌⊎◌, ℕ, suc, ◌<◌, ◌≤◌, List, [], ◌∷◌, ◌++◌, length, set, sym, refl, ap, ◌∙◌, subst, inl, inr, ⊎_elim, arith, length-set, get_or-set_other, get_or-set_same}
 use Rattle.std.proofs.lemmas.List.{get_or_past}
 use Rattle.std.specs.Prelude.{None, Some}
@@ -13,17 +17,17 @@ use Rattle.sdd_rights.specs.declared.views.View.{View}
 use Rattle.sdd_rights.specs.declared.views.Sizes.{Sizes}
 use Rattle.sdd_domain_invariant.specs.Words.{first_slot, slot_word}
 use Rattle.sdd_domain_invariant.specs.Epoch.{IsClosed}
-use Rattle.sdd_domain_invariant.specs.EpochSteps.{published}
+use Rattle.sdd_domain_invariant.specs.Epoch.EpochSteps.{published}
 use Rattle.sdd_domain_invariant.specs.Codes.{WordReading, IsWordReading}
 use Rattle.sdd_domain_invariant.specs.Slots.{slot_at, Sees, IsTimed}
 use Rattle.sdd_domain_invariant.specs.Collectors.{private_in, privates_at, one_in, empties_at, Empties, Closes, HasPrivate, HasValue, KnowsPrivates, SeenBeforeClosed, CollectorsInvariant}
-use Rattle.sdd_domain_invariant.specs.SlotSteps.{older_private, aged, seeing}
+use Rattle.sdd_domain_invariant.specs.Slots.SlotSteps.{older_private, aged, seeing}
 use Rattle.sdd_domain_invariant.specs.Sums.{total, times}
 use Rattle.sdd_domain_invariant.specs.WordInvariant.{with_both}
 use Rattle.sdd_domain_invariant.proofs.Frame.{each_set, each_snoc}
 use Rattle.sdd_domain_invariant.proofs.Sums.{total_set, total_snoc, total_has, total_map, both_set, is_same}
-use Rattle.sdd_domain_invariant.proofs.Seeing.{sees_more}
-use Rattle.sdd_domain_invariant.proofs.SlotEpochs.{of_map}
+use Rattle.sdd_domain_invariant.proofs.Slots.SeenSlots.{sees_more}
+use Rattle.sdd_domain_invariant.proofs.Slots.SlotEpochs.{of_map}
 
 -- what it has of private items and of collectors stays, and what it knows of the epoch rises
 pub record KeepsPrivates (v w : View) : Type 0 where
@@ -274,7 +278,7 @@ module _ (z : WordReading) (sound : IsWordReading z) where
                 (λ j u _ e. (guards u (c.two id j v u at e), closers j u e));
           }
 
-    -- a new token, which has none
+    -- a new seat, which has none
     pub more : (t : View) → HasNoPrivates t → CollectorsInvariant z sizes ws (vs ++ t ∷ [])
     more t none = let blind : (i : ℕ) → ¬ (Sees t i) = λ i h. let e = ap (times i) none.sees in omega arith in
         let without : (x : PrivateItem) → ¬ (HasPrivate t x)

@@ -15,7 +15,7 @@ use Rattle.sdd_domain_invariant.specs.Words.{first_slot, state_word, slot_word, 
 use Rattle.sdd_domain_invariant.specs.Codes.{valued}
 use Rattle.sdd_domain_invariant.specs.Epoch.{HasPlace}
 use Rattle.sdd_domain_invariant.specs.Slots.{slot_at}
-use Rattle.sdd_domain_invariant.proofs.Barred.{Spares}
+use Rattle.sdd_domain_invariant.proofs.Epoch.Barred.{Spares}
 use Rattle.sdd_domain_invariant.proofs.Frame.{each_set, each_snoc}
 use Rattle.sdd_domain_invariant.proofs.Sums.{total_set, total_snoc, span_same, span_set}
 use Rattle.sdd_domain_invariant.specs.Counts.{made_by, gone_by, over_by, over, ended_places, full_slots, CountsByPlace, CountsInvariant}
@@ -93,7 +93,7 @@ module _ (sizes : Sizes) (ws : List ℕ) (vs : List View) (c : CountsInvariant s
     }
 
     -- nothing is
-    pub uncounted : (ws' : List ℕ) (w : View) → w.stakes.counts ≡ v.stakes.counts → (HasPlace v.epoch → HasPlace w.epoch)
+    pub uncounted : (ws' : List ℕ) (w : View) → w.fractions.counts ≡ v.fractions.counts → (HasPlace v.epoch → HasPlace w.epoch)
         → full_slots sizes ws' ≡ full_slots sizes ws → ended_places sizes ws n ≤ ended_places sizes ws' n → CountsInvariant sizes ws' (set vs id w)
     uncounted ws' w same lives filled ended = let m = ap (λ (x : CountsView). x.made) same in let g = ap (λ (x : CountsView). x.gone) same in
         let o = ap (λ (x : CountsView). x.over) same in counted ws' w (omega arith) (omega arith)
@@ -101,10 +101,10 @@ module _ (sizes : Sizes) (ws : List ℕ) (vs : List View) (c : CountsInvariant s
         (omega arith) in (m ∙ old.0, g ∙ old.1))
 
     -- on no word
-    pub uncounted_alone : (w : View) → w.stakes.counts ≡ v.stakes.counts → w.epoch.state ≡ v.epoch.state → CountsInvariant sizes ws (set vs id w)
+    pub uncounted_alone : (w : View) → w.fractions.counts ≡ v.fractions.counts → w.epoch.state ≡ v.epoch.state → CountsInvariant sizes ws (set vs id w)
     uncounted_alone w same state = uncounted ws w same (λ live. omega arith) refl (omega arith)
 
-  -- a new token
+  -- a new seat
   pub more_counts : (t : View) → made_by t ≡ 0 → gone_by t ≡ 0 → over_by t ≡ 0 → CountsInvariant sizes ws (vs ++ t ∷ [])
   more_counts t made gone over = record {
     items = let a = total_snoc made_by vs t in let b = total_snoc gone_by vs t in let d = c.items in omega arith;

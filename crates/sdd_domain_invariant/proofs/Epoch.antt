@@ -1,4 +1,7 @@
 -- Each step of the epoch's part keeps it.
+pub mod PlaceBound
+pub mod EpochSteps
+pub mod Barred
 use Rattle.std.proofs.Common.{◌≡◌, ◌≢◌, ◌⊎◌, ℕ, zero, suc, ◌+◌, ◌<◌, ◌≤◌, eqb, List, [], ◌∷◌, ◌++◌, length, get_or, set, sym, refl, ap, ◌∙◌, subst, ⊎_elim, inl, inr, arith, length-set, get_or-set_other, get_or-set_same}
 use mathlib.Core.Option.{some, some-ne-none, some-injective}
 use mathlib.Core.Logic.{dite}
@@ -12,7 +15,7 @@ use Rattle.sdd_rights.specs.declared.views.Sizes.{Sizes}
 use Rattle.sdd_domain_invariant.specs.Words.{IsBeside, global_word, lock_word, state_word, count_word, after_cells, first_slot}
 use Rattle.sdd_domain_invariant.specs.Epoch.{HasPlace, IsClosed, IsOpen, Scans, IsLone, MatchesWords, Apart, EpochInvariant}
 use Rattle.sdd_rights.specs.Views.{nobody}
-use Rattle.sdd_domain_invariant.specs.EpochSteps.{Steps, Rises, Keeps, registered, knowing, counted, published, closed, ended, scanning, passed_by, unlocked, IsNext, Registers, Reads, Counts, Publishes, Closes, Ends, Locks, LooksAtLock, LooksAtState, LooksAtCount, Advances, Unlocks}
+use Rattle.sdd_domain_invariant.specs.Epoch.EpochSteps.{Steps, Rises, Keeps, registered, knowing, counted, published, closed, ended, scanning, passed_by, unlocked, IsNext, Registers, Reads, Counts, Publishes, Closes, Ends, Locks, LooksAtLock, LooksAtState, LooksAtCount, Advances, Unlocks}
 use Rattle.sdd_domain_invariant.proofs.Frame.{each_set, two_set, each_snoc, two_snoc}
 
 pub at_length : {A : Type 0} (l : List A) (i : ℕ) (a : A) → get_elem? l i ≡ some a → i < length l
@@ -58,7 +61,8 @@ module _ (sizes : Sizes) where
       )) f
 
   -- a participant whose words a step does not name
-  untouched : (ws : List ℕ) (i x : ℕ) (u : EpochView) → lock_word < i → (HasPlace u → (i ≢ state_word sizes u.place) × (i ≢ count_word sizes u.place)) → MatchesWords sizes ws u
+  untouched : (ws : List ℕ) (i x : ℕ) (u : EpochView) → lock_word < i → (HasPlace u → (i ≢ state_word sizes u.place) × (i ≢ count_word sizes u.place))
+      → MatchesWords sizes ws u
       → MatchesWords sizes (set ws i x) u
   untouched ws i x u high apart f = spared ws (set ws i x) u (get_or-set_other ws i global_word x 0 (λ e. omega arith))
       (λ _. get_or-set_other ws i lock_word x 0 (λ e. omega arith))
@@ -68,8 +72,10 @@ module _ (sizes : Sizes) where
       )) f
 
   -- a step of the seat id, from v to w, with x in the word i
-  moved : (ws : List ℕ) (vs : List EpochView) (id i x : ℕ) (v w : EpochView) → EpochInvariant sizes ws vs → get_elem? vs id ≡ some v → MatchesWords sizes (set ws i x) w
-      → ((j : ℕ) (u : EpochView) → j ≢ id → get_elem? vs j ≡ some u → MatchesWords sizes ws u → Apart v u → Apart u v → MatchesWords sizes (set ws i x) u × Apart w u ×
+  moved : (ws : List ℕ) (vs : List EpochView) (id i x : ℕ) (v w : EpochView) → EpochInvariant sizes ws vs → get_elem? vs id ≡ some v
+      → MatchesWords sizes (set ws i x) w
+      → ((j : ℕ) (u : EpochView) → j ≢ id → get_elem? vs j ≡ some u → MatchesWords sizes ws u → Apart v u → Apart u v → MatchesWords sizes (set ws i x) u
+      × Apart w u ×
       Apart u w)
       → (n ≡ 1 → get_or (set ws i x) (state_word sizes 0) 0 ≡ 0 → (k : ℕ) → get_or (set ws i x) k 0 ≡ 0)
       → (get_or (set ws i x) lock_word 0 ≢ 0 → (j : ℕ) × (u : EpochView) × (get_elem? (set vs id w) j ≡ some u) × Scans u)
@@ -129,7 +135,8 @@ module _ (sizes : Sizes) where
       → ((u : EpochView) → MatchesWords sizes ws u → Apart v u → Apart u v → Apart w u × Apart u w)
       → (Scans v → Scans w) → EpochInvariant sizes (set ws i x) (set vs id w)
   own ws vs id i x v w t at live which mine others goes =
-      let high : lock_word < i = ⊎_elim (λ (e : (i ≡ state_word sizes v.place) × (0 < x)). let e0 = e.0 in omega arith) (λ (e : i ≡ count_word sizes v.place). omega arith)
+      let high : lock_word < i = ⊎_elim (λ (e : (i ≡ state_word sizes v.place) × (0 < x)). let e0 = e.0 in
+      omega arith) (λ (e : i ≡ count_word sizes v.place). omega arith)
       which in
       let f = t.each id v at in let inside = f.inside live in let wide = t.wide in
       moved ws vs id i x v w t at mine
@@ -146,7 +153,8 @@ module _ (sizes : Sizes) where
       (λ (e : (i ≡ state_word sizes v.place) × (0 < x)). let e0 = e.0 in let e1 = e.1 in let is : i ≡ state_word sizes 0 = omega arith in
       let now : get_or (set ws i x) i 0 ≡ x = get_or-set_same ws i x 0 (omega arith) in
       let now' : get_or (set ws i x) (state_word sizes 0) 0 ≡ x = ap (λ (k : ℕ). get_or (set ws i x) k 0) (sym is) ∙ now in absurd (omega arith))
-      (λ (e : i ≡ count_word sizes v.place). absurd (used ws (set ws i x) v f live (get_or-set_other ws i (state_word sizes 0) x 0 (λ c. omega arith)) one none))
+      (λ (e : i ≡ count_word sizes v.place). absurd (used ws (set ws i x) v f live (get_or-set_other ws i (state_word sizes 0) x 0
+      (λ c. omega arith)) one none))
       which)
       (λ locked. held_set ws vs id v w t at goes (λ e. locked (get_or-set_other ws i lock_word x 0 (λ e. omega arith) ∙ e)))
 
@@ -290,7 +298,8 @@ module _ (sizes : Sizes) where
       )
 
   -- a lone participant that doesn't scan finds the lock free
-  unlocked_alone : (ws : List ℕ) (vs : List EpochView) (id : ℕ) (v : EpochView) → EpochInvariant sizes ws vs → get_elem? vs id ≡ some v → HasPlace v → ¬ (Scans v)
+  unlocked_alone : (ws : List ℕ) (vs : List EpochView) (id : ℕ) (v : EpochView) → EpochInvariant sizes ws vs → get_elem? vs id ≡ some v → HasPlace v
+      → ¬ (Scans v)
       → IsLone v → get_or ws lock_word 0 ≡ 0
   unlocked_alone ws vs id v t at placed free a' = let x : ℕ = get_or ws lock_word 0 in let f = t.each id v at in let wide = t.wide in
       let inside = f.inside placed in let a : n ≡ 1 = sym (f.all (λ z. omega arith)) ∙ a' in
@@ -330,7 +339,8 @@ module _ (sizes : Sizes) where
               record { places = a.places; locks = λ _ z. let l = (fu.locked z).0 in omega arith; passed = λ _ _ z. absurd (omega arith) },
               record { places = b.places; locks = λ z _. let l = (fu.locked z).0 in omega arith; passed = b.passed },
             ))
-            (λ one none. absurd (used ws (set ws lock_word 1) v f (omega arith) (get_or-set_other ws lock_word (state_word sizes 0) 1 0 (λ c. omega arith)) one none))
+            (λ one none. absurd (used ws (set ws lock_word 1) v f (omega arith) (get_or-set_other ws lock_word (state_word sizes 0) 1 0
+            (λ c. omega arith)) one none))
             (λ _. (id, w, set_here vs id w (at_length vs id v at), refl)),
         record { known = omega arith; found = omega arith; guard = λ z. (z, refl, refl) },
         ((λ _. refl), (λ no. absurd (no hit)), never),
@@ -396,7 +406,8 @@ module _ (sizes : Sizes) where
       (λ z. z)
 
   -- look at a place's state
-  pub looks_at_state : (id : ℕ) (v : EpochView) (q : ℕ) → IsNext v q → Keeps sizes id v (state_word sizes q) (λ x. x) (LooksAtState sizes (state_word sizes q) v)
+  pub looks_at_state : (id : ℕ) (v : EpochView) (q : ℕ) → IsNext v q → Keeps sizes id v (state_word sizes q) (λ x. x) (LooksAtState sizes
+      (state_word sizes q) v)
   looks_at_state id v q next ws vs t at small = let x : ℕ = get_or ws (state_word sizes q) 0 in
       dite (ℕ_discrete x 2)
       (λ e. (v, unmoved ws vs id (state_word sizes q) v t at, level v, λ q' is. ((λ no. absurd (no e)), (λ _. refl))))
@@ -409,7 +420,8 @@ module _ (sizes : Sizes) where
       ))
 
   -- look at its count
-  pub looks_at_count : (id : ℕ) (v : EpochView) (q : ℕ) → IsNext v q → Keeps sizes id v (count_word sizes q) (λ x. x) (LooksAtCount sizes (count_word sizes q) v)
+  pub looks_at_count : (id : ℕ) (v : EpochView) (q : ℕ) → IsNext v q → Keeps sizes id v (count_word sizes q) (λ x. x) (LooksAtCount sizes
+      (count_word sizes q) v)
   looks_at_count id v q next ws vs t at small = let x : ℕ = get_or ws (count_word sizes q) 0 in
       dite (ℕ_discrete x v.count)
       (λ e. (
@@ -472,9 +484,11 @@ module _ (sizes : Sizes) where
       (λ miss. (v, unmoved ws vs id global_word v t at, level v, ((λ e. absurd (miss e)), (λ _. refl), alone)))
 
   -- take a place
-  pub registers : (id p : ℕ) → p < n → Keeps sizes id (nobody n) (state_word sizes p) (λ x. either (eqb x 0) 1 x) (Registers sizes (state_word sizes p) (nobody n))
+  pub registers : (id p : ℕ) → p < n → Keeps sizes id (nobody n) (state_word sizes p) (λ x. either (eqb x 0) 1 x) (Registers sizes (state_word sizes p)
+      (nobody n))
   registers id p inside ws vs t at small = let i : ℕ = state_word sizes p in let x : ℕ = get_or ws i 0 in let v : EpochView = nobody n in let wide = t.wide in
-      exchanged x 0 1 (λ y. (w : EpochView) × EpochInvariant sizes (set ws i y) (set vs id w) × Rises (nobody n) w × Registers sizes (state_word sizes p) (nobody n) x w)
+      exchanged x 0 1 (λ y. (w : EpochView) × EpochInvariant sizes (set ws i y) (set vs id w) × Rises (nobody n) w
+      × Registers sizes (state_word sizes p) (nobody n) x w)
       (λ hit. let c : ℕ = get_or ws (count_word sizes p) 0 in let g : ℕ = get_or ws global_word 0 in let w : EpochView = registered n p c g in
       let zero_same = get_or-set_other ws i global_word 1 0 (λ e. omega arith) in
       let other_place : (u : EpochView) → MatchesWords sizes ws u → HasPlace u → u.place ≢ p = λ u fu z e. let s = fu.state z in
@@ -594,7 +608,7 @@ module _ (sizes : Sizes) where
     record { places = λ _ z. absurd (omega arith); locks = λ _ z. omega arith; passed = λ _ z. absurd (omega arith) },
   )
 
-  -- a new token, which may be one without a size
+  -- a new seat, which may be one without a size
   pub seated : (a : ℕ) → (a ≢ 0 → a ≡ n) → (ws : List ℕ) (vs : List EpochView) → EpochInvariant sizes ws vs → EpochInvariant sizes ws (vs ++ nobody a ∷ [])
   seated a is ws vs t = record {
     wide = t.wide;
@@ -604,7 +618,7 @@ module _ (sizes : Sizes) where
     held = λ z. let h = t.held z in (h.0, h.1, at_longer vs (nobody a ∷ []) h.0 h.1 h.2, h.3);
   }
 
-  -- the start: all words are 0, and there is one token, which knows nothing
+  -- the start: all words are 0, and there is one seat, which knows nothing
   pub begins : (ws : List ℕ) → first_slot sizes ≤ length ws → ((i : ℕ) → get_or ws i 0 ≡ 0) → EpochInvariant sizes ws (nobody n ∷ [])
   begins ws wide none = record {
     wide = wide;

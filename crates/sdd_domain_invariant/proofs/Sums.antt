@@ -9,7 +9,7 @@ use lib.ListN.{get_elem?}
 use prog.Atomic.{either}
 use Rattle.atomic_table.proofs.Lists.{at_set}
 use Rattle.sdd_domain_invariant.specs.Sums.{total, span, is, times}
-use Rattle.sdd_domain_invariant.specs.SlotSteps.{without}
+use Rattle.sdd_domain_invariant.specs.Slots.SlotSteps.{without}
 use Rattle.std.specs.Prelude.{not}
 
 module _ {X : Type 0} (f : X → ℕ) where

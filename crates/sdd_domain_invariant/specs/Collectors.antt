@@ -1,4 +1,6 @@
 -- The collectors' part of the rule: which items wait privately, which of them a close empties, and that no guard sees what a close may take
+pub mod CollectorWordSteps
+pub mod CollectorSteps
 use Rattle.std.specs.Prelude.{◌≡◌, ℕ, ◌<◌, ◌≤◌, List, Option, Some, None, true}
 use mathlib.Core.Option.{some}
 use lib.ListN.{get_elem?}

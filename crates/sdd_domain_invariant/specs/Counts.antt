@@ -11,13 +11,13 @@ use Rattle.sdd_domain_invariant.specs.Codes.{valued}
 
 -- how many items it made, how many it gave back, and how many places it counts for that have ended
 abbrev pub made_by : View → ℕ
-made_by v = v.stakes.counts.made
+made_by v = v.fractions.counts.made
 
 abbrev pub gone_by : View → ℕ
-gone_by v = v.stakes.counts.gone
+gone_by v = v.fractions.counts.gone
 
 abbrev pub over_by : View → ℕ
-over_by v = v.stakes.counts.over
+over_by v = v.fractions.counts.over
 
 -- 1 where a place in this state has ended, or is barred
 abbrev pub over : ℕ → ℕ

@@ -1,4 +1,6 @@
 -- The epoch's part of the rule
+pub mod EpochSteps
+pub mod Barred
 use Rattle.std.specs.Prelude.{◌≡◌, ◌≢◌, ℕ, ◌+◌, ◌<◌, ◌≤◌, List, length, slice_index}
 use mathlib.Core.Option.{some}
 use lib.ListN.{get_elem?}

@@ -1,4 +1,9 @@
 -- The part of the rule for slots and cells
+pub mod SlotSteps
+pub mod Records
+pub mod FilledInvariant
+pub mod BoundInvariant
+pub mod KindsInvariant
 use Rattle.std.specs.Prelude.{◌≡◌, ℕ, ◌+◌, ◌*◌, ◌<◌, ◌≤◌, List, length, slice_index, Some}
 use mathlib.Core.Option.{some}
 use lib.ListN.{get_elem?}

@@ -13,8 +13,8 @@ use Rattle.sdd_domain_invariant.specs.Epoch.{EpochInvariant}
 use Rattle.sdd_domain_invariant.specs.Slots.{SlotsInvariant, LoneInvariant}
 use Rattle.sdd_domain_invariant.specs.Collectors.{CollectorsInvariant}
 use Rattle.sdd_rights.specs.Views.{nobody, none_ended, bare, no_rights, at_rest, no_pledges}
-use Rattle.sdd_domain_invariant.specs.SlotSteps.{blank}
-use Rattle.sdd_domain_invariant.specs.Barred.{AreBarred, AreQuiet}
+use Rattle.sdd_domain_invariant.specs.Slots.SlotSteps.{blank}
+use Rattle.sdd_domain_invariant.specs.Epoch.Barred.{AreBarred, AreQuiet}
 
 abbrev pub epoch_of : View → EpochView
 epoch_of v = v.epoch
@@ -25,15 +25,15 @@ with_epoch v w = record v { epoch = w }
 abbrev pub with_both : View → EpochView → SlotsView → View
 with_both v w s = record v { epoch = w; slots = s }
 
--- a token that knows nothing, but how many of each there are and which book
+-- a seat that knows nothing, but how many of each there are and which ghost map
 abbrev pub idle : Sizes → ℕ → View
-idle sizes book = record {
+idle sizes gamma = record {
   sizes = sizes;
   epoch = nobody sizes.participants;
   places = none_ended;
   slots = bare;
   cells = no_rights;
-  stakes = at_rest book;
+  fractions = at_rest gamma;
   pledges = no_pledges;
   words = blank sizes;
   plain = [];

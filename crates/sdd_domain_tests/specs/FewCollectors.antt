@@ -1,17 +1,17 @@
 -- Collectors that threads share, and participants of one domain
 use Rattle.std.specs.Prelude.{◌≡◌, Option, IfSome}
-use Rattle.sdd_rights.specs.Units as token
+use Rattle.sdd_rights.specs.Units as units
 use Rattle.sdd_space.specs.CallerId.{IsSeated}
 use Rattle.sdd_space.specs.Collector.{cells_home}
 use Rattle.sdd_space.specs.declared.private_collector.PrivateCollector.{PrivateCollector}
 use Rattle.sdd_domain.specs.Domain.{cells_in, slots_in}
 use Rattle.sdd_domain.specs.Local.{LocalModel}
-use Rattle.sdd_domain.specs.Space.{seat_of, slots_home}
-use Rattle.sdd_domain.specs.declared.domain.Domain.{Domain}
-use Rattle.sdd_domain_tests.specs.declared.few_collectors.FewCollectors.{FewCollectors}
+use Rattle.sdd_domain.specs.Space.{caller_of, slots_home}
+use Rattle.sdd_domain_core.specs.declared.domain.Domain.{Domain}
+use Rattle.sdd_domain_tests.specs.declared.few.FewCollectors.{FewCollectors}
 
 -- their cells are numbered there
-pub record AreCollectorsOf {T : Type 0} (home : token.GhostName) (collectors : FewCollectors T) : Type 0 where
+pub record AreCollectorsOf {T : Type 0} (home : units.GhostName) (collectors : FewCollectors T) : Type 0 where
   pub first : cells_home collectors.first ≡ home
   pub second : cells_home collectors.second ≡ home
   pub third : cells_home collectors.third ≡ home
@@ -20,9 +20,9 @@ pub record AreCollectorsOf {T : Type 0} (home : token.GhostName) (collectors : F
 module _ {T J : Type 0} (domain : Domain T) where
   -- the participant is one of the domain's
   pub record IsOneOf (local : LocalModel T J) : Type 0 where
-    pub seated : IsSeated (seat_of local)
+    pub seated : IsSeated (caller_of local)
     pub slots : slots_home local ≡ slots_in domain
-    pub cells : (seat_of local).home.cells ≡ cells_in domain
+    pub cells : (caller_of local).home.cells ≡ cells_in domain
 
   -- both are
   pub record AreBothOf (locals : LocalModel T J × LocalModel T J) : Type 0 where

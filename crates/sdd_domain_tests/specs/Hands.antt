@@ -1,6 +1,6 @@
 -- What a participant has in its hand that makes calls as they come
 use Rattle.std.specs.Prelude.{◌≡◌, All, List}
-use Rattle.sdd_rights.specs.Units as token
+use Rattle.sdd_rights.specs.Units as units
 use Rattle.sdd_space.specs.Collector as collector
 use Rattle.sdd_space.specs.Guard.{ReaderId, reader_of}
 use Rattle.sdd_space.specs.Owned as owned
@@ -16,23 +16,23 @@ use Rattle.sdd_space.specs.declared.shared.Shared.{Shared}
 
 module _ {T : Type 0} where
   -- the owners are of these slots
-  abbrev pub AreOwnedIn : token.GhostName → List (Owned T) → Type 0
+  abbrev pub AreOwnedIn : units.GhostName → List (Owned T) → Type 0
   AreOwnedIn home = All (λ o. owned.slots_home o ≡ home)
 
-  abbrev pub AreSharedIn : token.GhostName → List (Shared T) → Type 0
+  abbrev pub AreSharedIn : units.GhostName → List (Shared T) → Type 0
   AreSharedIn home = All (λ o. shared.slots_home o ≡ home)
 
   -- the cells are numbered there
-  abbrev pub AreOwnedCellsIn : token.GhostName → List (AtomicOwned T) → Type 0
+  abbrev pub AreOwnedCellsIn : units.GhostName → List (AtomicOwned T) → Type 0
   AreOwnedCellsIn home = All (λ c. owned.cells_home c ≡ home)
 
-  abbrev pub AreSharedCellsIn : token.GhostName → List (AtomicShared T) → Type 0
+  abbrev pub AreSharedCellsIn : units.GhostName → List (AtomicShared T) → Type 0
   AreSharedCellsIn home = All (λ c. shared.cells_home c ≡ home)
 
-  abbrev pub AreRawCellsIn : token.GhostName → List (AtomicRaw T) → Type 0
+  abbrev pub AreRawCellsIn : units.GhostName → List (AtomicRaw T) → Type 0
   AreRawCellsIn home = All (λ c. raw_cell.cells_home c ≡ home)
 
-  abbrev pub AreCollectorsIn : token.GhostName → List (PrivateCollector T) → Type 0
+  abbrev pub AreCollectorsIn : units.GhostName → List (PrivateCollector T) → Type 0
   AreCollectorsIn home = All (λ c. collector.cells_home c ≡ home)
 
 -- the guards are this reader's

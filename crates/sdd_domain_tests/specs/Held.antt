@@ -1,6 +1,6 @@
 -- What a value of these tests holds
 use Rattle.std.specs.Prelude.{List, [], ◌∷◌}
-use Rattle.sdd_space.specs.OwnerOrCell.{OwnerOrCell}
+use Rattle.sdd_world_model.specs.OwnerOrCell.{OwnerOrCell}
 use Rattle.sdd_space.specs.Owned as owned
 use Rattle.sdd_space.specs.Shared as shared
 use Rattle.sdd_domain_tests.specs.declared.node.Node.{Node, out-Node}

@@ -1,15 +1,15 @@
 -- Receipts of a domain
 use Rattle.std.specs.Prelude.{◌≡◌, All, List, length}
-use Rattle.sdd_rights.specs.Units as token
+use Rattle.sdd_rights.specs.Units as units
 use Rattle.sdd_domain.specs.Domain.{limits_of}
 use Rattle.sdd_domain.specs.Receipt.{Receipt}
-use Rattle.sdd_domain.specs.declared.domain.Domain.{Domain}
+use Rattle.sdd_domain_core.specs.declared.domain.Domain.{Domain}
 
 -- the receipt is of the domain whose slots are numbered there
-abbrev pub IsReceiptIn : token.GhostName → Receipt → Type 0
+abbrev pub IsReceiptIn : units.GhostName → Receipt → Type 0
 IsReceiptIn home receipt = receipt.home ≡ home
 
-abbrev pub AreReceiptsIn : token.GhostName → List Receipt → Type 0
+abbrev pub AreReceiptsIn : units.GhostName → List Receipt → Type 0
 AreReceiptsIn home = All (IsReceiptIn home)
 
 -- there are as many as places

@@ -22,8 +22,8 @@ pub trait Plays {
         total: &Total,
         answers: &mut Vec<Answer>,
     )
-        requires seated { IsSeated (S.seat s.old) }
-        ensures seat { S.seat s.new ≡ S.seat s.old };
+        requires seated { IsSeated (S.caller s.old) }
+        ensures caller { S.caller s.new ≡ S.caller s.old };
 }
 
 /// What was answered, what was counted before and after the close, and what the jobs added.

@@ -3,7 +3,7 @@ ghost use Rattle.std.specs.Prelude.{◌≡◌, IfErr, IfOk};
 ghost use Rattle.sdd_space.specs.CallerId.{IsSeated};
 ghost use Rattle.sdd_space.specs.Guard.{reader_of};
 ghost use Rattle.sdd_space.specs.Owned as owned;
-ghost use Rattle.sdd_domain.specs.Space.{seat_of, slots_home};
+ghost use Rattle.sdd_domain.specs.Space.{caller_of, slots_home};
 ghost use Rattle.sdd_domain.specs.Receipt.{AddsUp};
 ghost use Rattle.sdd_domain.specs.Domain.{cells_in, slots_in};
 ghost use Rattle.sdd_domain_tests.specs.Slots.{IsReceiptIn, AreReceiptsIn, AreOfAll};
@@ -35,9 +35,9 @@ pub fn new_domain<T: Item<T>>(rt: &(impl Abort + AllocGlobal), limits: Limits) -
 }
 
 pub fn registered<'d, T: Item<T>>(rt: &impl Abort, domain: &'d Domain<T>) -> Local<'d, T>
-    ensures seated { IsSeated (seat_of result) }
+    ensures seated { IsSeated (caller_of result) }
     ensures home { slots_home result ≡ slots_in domain.now }
-    ensures cells { (seat_of result).home.cells ≡ cells_in domain.now }
+    ensures cells { (caller_of result).home.cells ≡ cells_in domain.now }
 {
     Local::register(domain).expect(rt, "a place is free")
 }
@@ -156,26 +156,26 @@ pub fn is_tally(rt: &impl Abort, tally: Tally, made: u128, reclaimed: u128) {
 }
 
 pub fn opened<T: Item<T>>(rt: &impl Abort, local: &mut Local<'_, T>) -> Guard
-    requires { IsSeated (seat_of local.old) }
-    ensures seat { seat_of local.new ≡ seat_of local.old }
-    ensures reader { reader_of result ≡ (seat_of local.old).reader }
+    requires { IsSeated (caller_of local.old) }
+    ensures caller { caller_of local.new ≡ caller_of local.old }
+    ensures reader { reader_of result ≡ (caller_of local.old).reader }
 {
     Guard::new::<T, Local<'_, T>>(local).expect(rt, "a guard may be opened")
 }
 
 pub fn close<T: Item<T>>(guard: Guard, local: &mut Local<'_, T>)
-    requires seated { IsSeated (seat_of local.old) }
-    requires reader { reader_of guard ≡ (seat_of local.old).reader }
-    ensures { seat_of local.new ≡ seat_of local.old }
+    requires seated { IsSeated (caller_of local.old) }
+    requires reader { reader_of guard ≡ (caller_of local.old).reader }
+    ensures { caller_of local.new ≡ caller_of local.old }
 {
     guard.close::<T, Local<'_, T>>(local);
 }
 
 /// Closes a guard that scans then, if it is the last one.
 pub fn close_and_scan<T: Item<T>>(guard: Guard, local: &mut Local<'_, T>)
-    requires seated { IsSeated (seat_of local.old) }
-    requires reader { reader_of guard ≡ (seat_of local.old).reader }
-    ensures { seat_of local.new ≡ seat_of local.old }
+    requires seated { IsSeated (caller_of local.old) }
+    requires reader { reader_of guard ≡ (caller_of local.old).reader }
+    ensures { caller_of local.new ≡ caller_of local.old }
 {
     guard.accelerate::<T, Local<'_, T>>(local);
     guard.close::<T, Local<'_, T>>(local);
@@ -183,16 +183,16 @@ pub fn close_and_scan<T: Item<T>>(guard: Guard, local: &mut Local<'_, T>)
 
 /// Opens an accelerated guard, and closes it.
 pub fn turn<T: Item<T>>(rt: &impl Abort, local: &mut Local<'_, T>)
-    requires { IsSeated (seat_of local.old) }
-    ensures { seat_of local.new ≡ seat_of local.old }
+    requires { IsSeated (caller_of local.old) }
+    ensures { caller_of local.new ≡ caller_of local.old }
 {
     let guard = opened(rt, local);
     close_and_scan(guard, local);
 }
 
 pub fn turns<T: Item<T>>(rt: &impl Abort, local: &mut Local<'_, T>, times: u32)
-    requires { IsSeated (seat_of local.old) }
-    ensures { seat_of local.new ≡ seat_of local.old }
+    requires { IsSeated (caller_of local.old) }
+    ensures { caller_of local.new ≡ caller_of local.old }
 {
     for _ in 0..times {
         turn(rt, local);
@@ -202,7 +202,7 @@ pub fn turns<T: Item<T>>(rt: &impl Abort, local: &mut Local<'_, T>, times: u32)
 /// Under the guard so many items were reclaimed by the participant, and whether something may wait
 /// with it.
 pub fn has(rt: &impl Abort, local: &Local<'_, u64>, guard: &Guard, reclaimed: u128, waits: bool)
-    requires { IsSeated (seat_of local.now) }
+    requires { IsSeated (caller_of local.now) }
 {
     assert_eq!(rt; local.tally().reclaimed, reclaimed);
     assert_eq!(rt; guard.has_garbage::<u64, Local<'_, u64>>(local), waits);
@@ -210,8 +210,8 @@ pub fn has(rt: &impl Abort, local: &Local<'_, u64>, guard: &Guard, reclaimed: u1
 
 /// A free slot takes this value.
 pub fn made(rt: &impl Abort, local: &mut Local<'_, u64>, value: u64) -> Owned<u64>
-    requires { IsSeated (seat_of local.old) }
-    ensures seat { seat_of local.new ≡ seat_of local.old }
+    requires { IsSeated (caller_of local.old) }
+    ensures caller { caller_of local.new ≡ caller_of local.old }
     ensures home { owned.slots_home result ≡ slots_home local.old }
 {
     match Owned::new(value, local) {
@@ -222,8 +222,8 @@ pub fn made(rt: &impl Abort, local: &mut Local<'_, u64>, value: u64) -> Owned<u6
 
 /// No slot is free, and the value comes back.
 pub fn has_no_slot(rt: &impl Abort, local: &mut Local<'_, u64>, value: u64)
-    requires { IsSeated (seat_of local.old) }
-    ensures { seat_of local.new ≡ seat_of local.old }
+    requires { IsSeated (caller_of local.old) }
+    ensures { caller_of local.new ≡ caller_of local.old }
 {
     match Owned::new(value, local) {
         Ok(_owner) => panic!(rt; "a slot was free"),
@@ -242,10 +242,10 @@ pub fn shows<'g>(
     owner: &Owned<u64>,
     value: u64,
 ) -> &'g u64
-    requires seated { IsSeated (seat_of local.old) }
-    requires reader { reader_of guard.now ≡ (seat_of local.old).reader }
+    requires seated { IsSeated (caller_of local.old) }
+    requires reader { reader_of guard.now ≡ (caller_of local.old).reader }
     requires home { owned.slots_home owner.now ≡ slots_home local.old }
-    ensures { seat_of local.new ≡ seat_of local.old }
+    ensures { caller_of local.new ≡ caller_of local.old }
 {
     let seen = owner.get_guarded_ref(guard, local);
     assert_eq!(rt; *seen, value);
@@ -253,9 +253,9 @@ pub fn shows<'g>(
 }
 
 pub fn retire(owner: Owned<u64>, local: &mut Local<'_, u64>)
-    requires seated { IsSeated (seat_of local.old) }
+    requires seated { IsSeated (caller_of local.old) }
     requires home { owned.slots_home owner ≡ slots_home local.old }
-    ensures { seat_of local.new ≡ seat_of local.old }
+    ensures { caller_of local.new ≡ caller_of local.old }
 {
     owner.retire(local);
 }

@@ -1,7 +1,7 @@
 //! What the tests of participants share that defer jobs: their beginning and end, and a job whose runs can be counted.
 ghost use Rattle.std.specs.Prelude.{◌≡◌};
 ghost use Rattle.sdd_space.specs.CallerId.{IsSeated};
-ghost use Rattle.sdd_domain.specs.Space.{seat_of, slots_home};
+ghost use Rattle.sdd_domain.specs.Space.{caller_of, slots_home};
 ghost use Rattle.sdd_domain.specs.Domain.{slots_in};
 ghost use Rattle.sdd_domain_tests.specs.Slots.{IsReceiptIn, AreReceiptsIn};
 
@@ -68,7 +68,7 @@ pub fn is_total(rt: &impl Abort, total: &Total, sum: u64) {
 }
 
 pub fn registered<'d, T: Item<T>, J: Job>(rt: &impl Abort, domain: &'d Domain<T>) -> Local<'d, T, J>
-    ensures seated { IsSeated (seat_of result) }
+    ensures seated { IsSeated (caller_of result) }
     ensures home { slots_home result ≡ slots_in domain.now }
 {
     Local::register_with_jobs(domain).expect(rt, "a place is free")

@@ -4,7 +4,7 @@ use Rattle.std.specs.Prelude.{MatchOption}
 use Rattle.sdd_participants.specs.Slab.{entry_at}
 use Rattle.sdd_space.specs.declared.ptr.Ptr.{Ptr}
 use Rattle.sdd_space.specs.Ptr.{PtrIsShown, cell_seen, shown_by, slot_named}
-use Rattle.sdd_space.specs.World.{World, value_at}
+use Rattle.sdd_world_model.specs.World.{World, value_at}
 use Rattle.sdd_examples.specs.Config.{IsFound}
 
 module _ {T : Type 0} (w : World T) (shows : ℕ → T → Type 0) (p : Ptr T) (is : PtrIsShown shows p)

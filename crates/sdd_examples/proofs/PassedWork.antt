@@ -1,10 +1,10 @@
 -- Working guards of a participant, one after another
 use Rattle.std.proofs.Common.{◌≡◌, ℕ, ◌+◌, ◌≤◌, List, Bool, length, refl, sym, ◌∙◌, arith, false, IsTrue, slice_index_or, subst}
 use Rattle.sdd_participants.specs.EpochState.{lives}
-use Rattle.sdd_space.specs.OwnerOrCell.{OwnerOrCell}
-use Rattle.sdd_space.specs.World.{World, AnyGuardOpen, IsPlaceOf}
-use Rattle.sdd_space.specs.WorkingGuards.{PassesWork, WorkLaws, WorksThrough}
-use Rattle.sdd_space.specs.WorkingGuards.WorksThrough.{starts}
+use Rattle.sdd_world_model.specs.OwnerOrCell.{OwnerOrCell}
+use Rattle.sdd_world_model.specs.World.{World, AnyGuardOpen, IsPlaceOf}
+use Rattle.sdd_world_model.specs.WorkingGuards.{PassesWork, WorkLaws, WorksThrough}
+use Rattle.sdd_world_model.specs.WorkingGuards.WorksThrough.{starts}
 
 module _ {T : Type 0} (holds : T → List OwnerOrCell) (q : ℕ) where
   -- so many have passed

@@ -8,7 +8,7 @@ use Rattle.sdd_values.specs.Block.{settled}
 use Rattle.sdd_values.specs.LentValues.{LentValues}
 use Rattle.sdd_values.specs.ReadSections.{ReadSections, Kept, whole, kept_at}
 use Rattle.sdd_examples.specs.SmallSpace.{IsSound, IsOpenAs}
-use Rattle.sdd_values.proofs.Stakes.{set-there, set-elsewhere, same-place, all-settled}
+use Rattle.sdd_values.proofs.Fractions.{set-there, set-elsewhere, same-place, all-settled}
 
 module _ (old mid new : ReadSections) (r : ℕ) (k : Kept) (next : ℕ) (first : mid.kept ≡ slice_set old.kept r k) (second : new.kept
     ≡ slice_set mid.kept r (whole Closed next)) where
@@ -26,13 +26,13 @@ module _ (old mid new : ReadSections) (r : ℕ) (k : Kept) (next : ℕ) (first :
       ap (λ (ks : List Kept). lib.ListN.get_or ks r none) second ∙ set-there mid.kept r (whole Closed next) none (omega (arith, one, near))
 
   pub sound-closed : {T : Type 0} (places : LentValues T) → IsSound places old → r < old.home.size → mid.home ≡ old.home → new.home ≡ mid.home
-      → IsSound (record places { stakes = settled r places.stakes }) new
+      → IsSound (record places { fractions = settled r places.fractions }) new
   sound-closed places is near same then = let homes : new.home ≡ old.home = then ∙ same in
       let sizes = ap (λ (h : GhostName). h.size) homes in let count = is.count in record {
         readers = is.readers ∙ sym sizes;
         count = ap length second ∙ length-set mid.kept r (whole Closed next) ∙ ap length first ∙ length-set old.kept r k ∙ is.count ∙ sym sizes;
-        lent = λ at q t e. let so = all-settled (IsOpenAs old) places.stakes is.lent r at q t e in let same = kept-elsewhere q so.1 in
-            (ap (λ (x : Kept). x.kind) same ∙ so.0.0, so.0.1 ∙ sym (ap (λ (x : Kept). x.round) same));
+        lent = λ at q t e. let so = all-settled (IsOpenAs old) places.fractions is.lent r at q t e in let same = kept-elsewhere q so.1 in
+            (ap (λ (x : Kept). x.kind) same ∙ so.0.0, so.0.1 ∙ sym (ap (λ (x : Kept). x.lifetime) same));
         whole = λ q closed. by_reader q closed (same-place q r);
       }
     where

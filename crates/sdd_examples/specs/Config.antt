@@ -5,8 +5,8 @@ use Rattle.sdd_rights.specs.Units.{GhostName}
 use Rattle.sdd_participants.specs.Slab.{entry_at}
 use Rattle.sdd_participants.specs.declared.standing.CellContents.{CellContents}
 use Rattle.sdd_participants.specs.declared.standing.Standing.TheVariants.{Shared}
-use Rattle.sdd_space.specs.World.{World, standing_at, value_at}
-use Rattle.sdd_space.specs.WorldChanges.{made_shared, owner_given, spilled, with_cell}
+use Rattle.sdd_world_model.specs.World.{World, standing_at, value_at}
+use Rattle.sdd_world_model.specs.WorldChanges.{made_shared, owner_given, spilled, with_cell}
 use Rattle.sdd_space.specs.Shared as shared
 use Rattle.sdd_examples.specs.declared.config.Config.{Config}
 

@@ -7,20 +7,20 @@ use Rattle.sdd_values.specs.declared.read_sections.SectionState.TheVariants.{Ope
 
 pub record SmallSpace (T : Type 0) : Type 0 where
   pub places : LentValues T
-  pub tenures : ReadSections
+  pub sections : ReadSections
 
 abbrev pub value_in : {T : Type 0} → SmallSpace T → ℕ → Option T
 value_in hall at = value_at hall.places at
 
 abbrev pub kept_in : {T : Type 0} → SmallSpace T → ℕ → Kept
-kept_in hall reader = kept_at hall.tenures reader
+kept_in hall reader = kept_at hall.sections reader
 
--- the reader has a guard, and its tenure is t
+-- the reader has a guard, and its section is t
 abbrev pub IsOpenAs : ReadSections → ℕ → ℕ → ℕ → Type 0
-IsOpenAs tenures at reader t = ((kept_at tenures reader).kind ≡ Open) × (t ≡ (kept_at tenures reader).round)
+IsOpenAs sections at reader t = ((kept_at sections reader).kind ≡ Open) × (t ≡ (kept_at sections reader).lifetime)
 
-pub record IsSound {T : Type 0} (places : LentValues T) (tenures : ReadSections) : Type 0 where
-  pub readers : places.readers ≡ tenures.home.size
-  pub count : length tenures.kept ≡ tenures.home.size
-  pub lent : AllLent (IsOpenAs tenures) places.stakes
-  pub whole : (reader : ℕ) → (kept_at tenures reader).kind ≡ Closed → (kept_at tenures reader).units ≡ 2 ^ 63
+pub record IsSound {T : Type 0} (places : LentValues T) (sections : ReadSections) : Type 0 where
+  pub readers : places.readers ≡ sections.home.size
+  pub count : length sections.kept ≡ sections.home.size
+  pub lent : AllLent (IsOpenAs sections) places.fractions
+  pub whole : (reader : ℕ) → (kept_at sections reader).kind ≡ Closed → (kept_at sections reader).units ≡ 2 ^ 63

@@ -1,12 +1,12 @@
 //! Programs that know by the ledger of a world what becomes of their owners and cells, whatever others call.
 ghost use Rattle.std.specs.Prelude.{◌≡◌, ◌+◌, ℕ, IfOk, IsTrue, option_copied};
 ghost use Rattle.sdd_space.specs.Guard.{reader_of};
-ghost use Rattle.sdd_space.specs.OwnerOrCell.{AreOf};
-ghost use Rattle.sdd_space.specs.Ledger.{Claim, right_to, claims, one, CallsBeside, IsLedger, IsStill};
+ghost use Rattle.sdd_world_model.specs.OwnerOrCell.{AreOf};
+ghost use Rattle.sdd_world_model.specs.Ledger.{Claim, right_to, claims, one, CallsBeside, IsLedger, IsStill};
 ghost use Rattle.sdd_space.specs.CallerId.{IsExact, IsSeated, reader_at};
 ghost use Rattle.sdd_space.specs.Shared.{cell_of, cells_home, slot_of, slots_home};
-ghost use Rattle.sdd_space.specs.WorldChanges.{made_shared, with_standing};
-ghost use Rattle.sdd_space.specs.World.{IsPlaceOf};
+ghost use Rattle.sdd_world_model.specs.WorldChanges.{made_shared, with_standing};
+ghost use Rattle.sdd_world_model.specs.World.{IsPlaceOf};
 ghost use Rattle.sdd_participants.specs.Slab.{IsEmptyAt};
 ghost use Rattle.sdd_world.specs.Place.{index_of};
 
@@ -35,11 +35,11 @@ pub fn made_for_two<T: Item<T>, S: Items<T> + SharedItems<T>>(
     value: T,
     s: &mut S,
 ) -> Result<(Shared<T>, Shared<T>), (T, Refused)>
-    requires seated { IsSeated (S.seat s.old) }
-    requires exact { IsExact (S.seat s.old) }
-    requires home { AreOf (S.seat s.old).home (T.holds value) }
-    ensures seat { S.seat s.new ≡ S.seat s.old }
-    ensures home { IfOk result (λ both. (slots_home both.0 ≡ (S.seat s.old).home.slots) × (slots_home both.1 ≡ (S.seat s.old).home.slots)) }
+    requires seated { IsSeated (S.caller s.old) }
+    requires exact { IsExact (S.caller s.old) }
+    requires home { AreOf (S.caller s.old).home (T.holds value) }
+    ensures caller { S.caller s.new ≡ S.caller s.old }
+    ensures home { IfOk result (λ both. (slots_home both.0 ≡ (S.caller s.old).home.slots) × (slots_home both.1 ≡ (S.caller s.old).home.slots)) }
     ensures same { IfOk result (λ both. slot_of both.1 ≡ slot_of both.0) }
     ensures made { IfOk result (λ both. IsEmptyAt (S.world s.old).standings (slot_of both.0) ×
         (S.world s.new ≡ with_standing (made_shared (S.world s.old) (slot_of both.0) value) (slot_of both.0) (Standing.Shared 2))) }

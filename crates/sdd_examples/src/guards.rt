@@ -1,13 +1,13 @@
 //! Guards in a world, and what can be known under them.
 ghost use Rattle.std.specs.Prelude.{◌≡◌, IfOk, IsTrue, Some, ℕ, ◌+◌, ◌^◌, ◌<◌, ◌≤◌};
-ghost use Rattle.sdd_space.specs.World.{World, AnyGuardOpen, IsPlaceOf, place_at, standing_at, value_at};
-ghost use Rattle.sdd_space.specs.Out.{out};
-ghost use Rattle.sdd_space.specs.ReclaimBound.{WaitsWith, IsCleared, accelerated_guard, four_guards};
-ghost use Rattle.sdd_space.specs.AcceleratedGuards.{Passes};
-ghost use Rattle.sdd_space.specs.WorldInvariant.{IsCounted, taken};
-ghost use Rattle.sdd_space.specs.ReclaimBound.{left};
-ghost use Rattle.sdd_space.specs.Adopting.{AdoptsWhatIsLeft};
-ghost use Rattle.sdd_space.specs.UnderGuards.{CallsUnder, JobStaysUnder};
+ghost use Rattle.sdd_world_model.specs.World.{World, AnyGuardOpen, IsPlaceOf, place_at, standing_at, value_at};
+ghost use Rattle.sdd_world_model.specs.Out.{out};
+ghost use Rattle.sdd_world_model.specs.ReclaimBound.{WaitsWith, IsCleared, accelerated_guard, four_guards};
+ghost use Rattle.sdd_world_model.specs.AcceleratedGuards.{Passes};
+ghost use Rattle.sdd_world_model.specs.WorldInvariant.{IsCounted, taken};
+ghost use Rattle.sdd_world_model.specs.ReclaimBound.{left};
+ghost use Rattle.sdd_world_model.specs.Adopting.{AdoptsWhatIsLeft};
+ghost use Rattle.sdd_world_model.specs.UnderGuards.{CallsUnder, JobStaysUnder};
 ghost use Rattle.sdd_space.specs.Guard.{reader_of};
 ghost use Rattle.sdd_space.specs.Owned.{slot_of, slots_home};
 ghost use Rattle.sdd_space.specs.CallerId.{IsSeated, IsExact, MayNest, reader_at};
@@ -36,11 +36,11 @@ pub fn accelerated_guard<T: Item<T>>(world: &mut World<T>, place: &Place)
 
 /// Opens a guard, accelerates it and closes it, in any exact space in which one more may be opened.
 pub fn accelerated<T: Item<T>, S: Guards<T>>(s: &mut S)
-    requires seated { IsSeated (S.seat s.old) }
-    requires exact { IsExact (S.seat s.old) }
-    requires may { MayNest (S.seat s.old) (S.own s.old) }
-    ensures seat { S.seat s.new ≡ S.seat s.old }
-    ensures passed { S.world s.new ≡ accelerated_guard T.holds (S.world s.old) (S.seat s.old).place }
+    requires seated { IsSeated (S.caller s.old) }
+    requires exact { IsExact (S.caller s.old) }
+    requires may { MayNest (S.caller s.old) (S.own s.old) }
+    ensures caller { S.caller s.new ≡ S.caller s.old }
+    ensures passed { S.world s.new ≡ accelerated_guard T.holds (S.world s.old) (S.caller s.old).place }
 {
     let Ok(guard) = Guard::new(s) else {
         unreachable!()
@@ -71,7 +71,7 @@ pub fn four_guards<T: Item<T>>(world: &mut World<T>, place: &Place)
 
 /// The epoch, looked at twice under one guard, has moved on by one at most.
 pub fn has_hardly_moved<T: Item<T>, S: Guards<T>>(guard: &Guard, s: &mut S) -> bool
-    requires seated { IsSeated (S.seat s.old) }
+    requires seated { IsSeated (S.caller s.old) }
     requires guarded { IsTrue (is_open (S.own s.old)) }
     ensures { IsTrue result }
 {

@@ -2,8 +2,8 @@
 ghost use Rattle.std.specs.Prelude.{◌≡◌, ℕ, IfOk, MatchResult, Some};
 ghost use Rattle.sdd_participants.specs.Slab.{IsEmptyAt, IsFull};
 ghost use Rattle.sdd_space.specs.CallerId.{IsSeated, IsExact};
-ghost use Rattle.sdd_space.specs.WorldChanges.{made, retired};
-ghost use Rattle.sdd_space.specs.World.{place_at, value_at};
+ghost use Rattle.sdd_world_model.specs.WorldChanges.{made, retired};
+ghost use Rattle.sdd_world_model.specs.World.{place_at, value_at};
 ghost use Rattle.sdd_space.specs.Owned.{slot_of, slots_home};
 ghost use Rattle.sdd_participants.specs.EpochState.{has_garbage};
 
@@ -16,11 +16,11 @@ pub fn made_and_read<S: Look<u64> + Items<u64>>(
     value: u64,
     s: &mut S,
 ) -> Result<u64, (u64, Refused)>
-    requires seated { IsSeated (S.seat s.old) }
-    ensures seat { S.seat s.new ≡ S.seat s.old }
+    requires seated { IsSeated (S.caller s.old) }
+    ensures caller { S.caller s.new ≡ S.caller s.old }
     ensures read { IfOk result (λ read. read ≡ value) }
-    ensures exact { IsExact (S.seat s.old) → MatchResult result
-        (λ _. (k : ℕ) × IsEmptyAt (S.world s.old).standings k × (S.world s.new ≡ retired (made (S.world s.old) k value) (S.seat s.old).place k))
+    ensures exact { IsExact (S.caller s.old) → MatchResult result
+        (λ _. (k : ℕ) × IsEmptyAt (S.world s.old).standings k × (S.world s.new ≡ retired (made (S.world s.old) k value) (S.caller s.old).place k))
         (λ e. IsFull (S.world s.old).standings × (e ≡ (value, Refused.NoSlot)) × (S.world s.new ≡ S.world s.old)) }
 {
     let owner = Owned::new(value, s)?;
@@ -31,8 +31,8 @@ pub fn made_and_read<S: Look<u64> + Items<u64>>(
 
 /// The value of an owner's item, in an exact space: the one in its slot.
 pub fn value_in_its_slot<S: Look<u64> + Items<u64>>(owner: &Owned<u64>, s: &mut S) -> u64
-    requires home { slots_home owner.now ≡ (S.seat s.old).home.slots }
-    requires exact { IsExact (S.seat s.old) }
+    requires home { slots_home owner.now ≡ (S.caller s.old).home.slots }
+    requires exact { IsExact (S.caller s.old) }
     ensures same { s.new ≡ s.old }
     ensures value { value_at (S.world s.new) (slot_of owner.now) ≡ Some result }
 {
@@ -45,11 +45,11 @@ pub fn raw_and_back<S: Look<u64> + Items<u64> + RawItems<u64>>(
     owner: Owned<u64>,
     s: &mut S,
 ) -> (Owned<u64>, u64)
-    requires seated { IsSeated (S.seat s.old) }
-    requires home { slots_home owner ≡ (S.seat s.old).home.slots }
-    requires exact { IsExact (S.seat s.old) }
-    ensures seat { S.seat s.new ≡ S.seat s.old }
-    ensures home { slots_home result.0 ≡ (S.seat s.new).home.slots }
+    requires seated { IsSeated (S.caller s.old) }
+    requires home { slots_home owner ≡ (S.caller s.old).home.slots }
+    requires exact { IsExact (S.caller s.old) }
+    ensures caller { S.caller s.new ≡ S.caller s.old }
+    ensures home { slots_home result.0 ≡ (S.caller s.new).home.slots }
     ensures same { slot_of result.0 ≡ slot_of owner }
     ensures read { value_at (S.world s.old) (slot_of owner) ≡ Some result.1 }
     ensures world { S.world s.new ≡ S.world s.old }
@@ -61,10 +61,10 @@ pub fn raw_and_back<S: Look<u64> + Items<u64> + RawItems<u64>>(
 
 /// Whether something may wait with the participant of an exact space, as the world has it.
 pub fn may_wait<S: Guards<u64>>(guard: &Guard, s: &S) -> bool
-    requires seated { IsSeated (S.seat s.now) }
-    requires exact { IsExact (S.seat s.now) }
+    requires seated { IsSeated (S.caller s.now) }
+    requires exact { IsExact (S.caller s.now) }
     ensures own { result ≡ has_garbage (S.own s.now) }
-    ensures place { S.own s.now ≡ place_at (S.world s.now) (S.seat s.now).place }
+    ensures place { S.own s.now ≡ place_at (S.world s.now) (S.caller s.now).place }
 {
     guard.has_garbage(s)
 }

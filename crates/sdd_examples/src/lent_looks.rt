@@ -1,6 +1,6 @@
-//! How a space uses places and tenures: readers look at a value, and it is taken when nobody can look at it any more.
+//! How a space uses places and sections: readers look at a value, and it is taken when nobody can look at it any more.
 ghost use Rattle.std.specs.Prelude.{◌≡◌, ◌≢◌, ◌<◌, ℕ, IsSome, Some, None, length, slice_set};
-ghost use Rattle.sdd_values.specs.Block.{IsUnlent, IsFreeFor, stake_at, lent};
+ghost use Rattle.sdd_values.specs.Block.{IsUnlent, IsFreeFor, fraction_at, lent};
 ghost use Rattle.sdd_values.specs.LentValues.{value_at};
 ghost use Rattle.sdd_values.specs.ReadSections.{kept_at};
 
@@ -20,7 +20,7 @@ pub fn sees_one<'g, T>(
     requires reader { reader < places.old.readers }
     requires filled { IsSome (value_at places.old at) }
     requires empty { value_at places.old other ≡ None }
-    requires free { IsFreeFor guard.now.round (stake_at places.old.stakes at reader) }
+    requires free { IsFreeFor guard.now.lifetime (fraction_at places.old.fractions at reader) }
     ensures first { value_at places.old at ≡ Some result.0.now }
     ensures same { result.0.now ≡ result.1.now }
 {
@@ -33,26 +33,26 @@ pub fn sees_one<'g, T>(
 /// A reader opens two guards, looks, closes the outer guard first, looks again, and closes. Then the value is taken.
 pub fn takes_after<T>(
     places: &mut LentValues<T>,
-    tenures: &mut ReadSections,
+    sections: &mut ReadSections,
     reader: usize,
     at: usize,
 ) -> T
     requires inside { at < length places.old.values }
-    requires reader { (reader < places.old.readers) × (reader < tenures.old.home.size) }
-    requires count { length tenures.old.kept ≡ tenures.old.home.size }
+    requires reader { (reader < places.old.readers) × (reader < sections.old.home.size) }
+    requires count { length sections.old.kept ≡ sections.old.home.size }
     requires filled { IsSome (value_at places.old at) }
-    requires closed { (kept_at tenures.old reader).units ≡ WHOLE }
-    requires home { (k : ℕ) → IsUnlent places.old.stakes k }
+    requires closed { (kept_at sections.old reader).units ≡ WHOLE }
+    requires home { (k : ℕ) → IsUnlent places.old.fractions k }
     ensures value { value_at places.old at ≡ Some result }
 {
-    tenures.begin(reader);
-    let outer = tenures.split(reader);
-    let inner = tenures.split(reader);
+    sections.begin(reader);
+    let outer = sections.split(reader);
+    let inner = sections.split(reader);
     let _ = places.look(at, reader, &outer);
-    tenures.join(reader, outer);
+    sections.join(reader, outer);
     let _ = places.look(at, reader, &inner);
-    tenures.join(reader, inner);
-    let ended = tenures.end(reader);
+    sections.join(reader, inner);
+    let ended = sections.end(reader);
     places.settle(reader, &ended);
     places.take(at)
 }
@@ -63,12 +63,12 @@ fn crosses<X: Send + Sync>(value: X) -> X
     value
 }
 
-/// Places and tenures may cross threads where the values may.
+/// Places and sections may cross threads where the values may.
 pub fn crosses_threads<T: Send + Sync>(
     places: LentValues<T>,
-    tenures: ReadSections,
+    sections: ReadSections,
 ) -> (LentValues<T>, ReadSections)
-    ensures { (result.0 ≡ places) × (result.1 ≡ tenures) }
+    ensures { (result.0 ≡ places) × (result.1 ≡ sections) }
 {
-    (crosses(places), crosses(tenures))
+    (crosses(places), crosses(sections))
 }

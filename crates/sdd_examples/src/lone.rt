@@ -4,19 +4,19 @@ ghost use Rattle.sdd_participants.specs.EpochState.{CanNest};
 ghost use Rattle.sdd_participants.specs.Slab.{IsEmptyAt, IsFull, entry_at};
 ghost use Rattle.sdd_participants.specs.declared.waiting.LimboEntry.{LimboEntry};
 ghost use Rattle.sdd_participants.specs.declared.waiting.LimboEntry.TheVariants as entry;
-ghost use Rattle.sdd_space.specs.AcceleratedGuards.{HavePassed};
+ghost use Rattle.sdd_world_model.specs.AcceleratedGuards.{HavePassed};
 ghost use Rattle.sdd_space.specs.Guard.{reader_of};
 ghost use Rattle.sdd_space.specs.Owned.{slot_of, slots_home};
-ghost use Rattle.sdd_space.specs.ReclaimBound.{WaitsWith, IsCleared, accelerated_guard, four_guards};
-ghost use Rattle.sdd_space.specs.WorkingGuards.{WorkingGuardsReclaim};
+ghost use Rattle.sdd_world_model.specs.ReclaimBound.{WaitsWith, IsCleared, accelerated_guard, four_guards};
+ghost use Rattle.sdd_world_model.specs.WorkingGuards.{WorkingGuardsReclaim};
 ghost use Rattle.sdd_space.specs.CallerId.{IsSeated, IsExact};
-ghost use Rattle.sdd_space.specs.WorldChanges.{made, opened, retired, deferred, reclaims};
-ghost use Rattle.sdd_space.specs.World.{World, IsPlaceOf, value_at};
-ghost use Rattle.sdd_space.specs.WorldInvariant.{taken, times_deferred};
+ghost use Rattle.sdd_world_model.specs.WorldChanges.{made, opened, retired, deferred, reclaims};
+ghost use Rattle.sdd_world_model.specs.World.{World, IsPlaceOf, value_at};
+ghost use Rattle.sdd_world_model.specs.WorldInvariant.{taken, times_deferred};
 ghost use Rattle.sdd_world.specs.Place.{index_of};
 ghost use Rattle.sdd_domain.specs.Domain.{limits_of};
 ghost use Rattle.sdd_domain.specs.Local.{world_of, IsLone};
-ghost use Rattle.sdd_domain.specs.Space.{seat_of};
+ghost use Rattle.sdd_domain.specs.Space.{caller_of};
 
 use crate::guards::accelerated;
 use crate::items::raw_and_back;
@@ -30,10 +30,10 @@ use sdd_world::{Place, World};
 ///
 /// `NoSlot` where no slot is free; the value comes back.
 pub fn made_and_retired<S: Items<u64>>(value: u64, s: &mut S) -> Result<(), (u64, Refused)>
-    requires seated { IsSeated (S.seat s.old) }
-    ensures seat { S.seat s.new ≡ S.seat s.old }
-    ensures exact { IsExact (S.seat s.old) → MatchResult result
-        (λ _. (slot : ℕ) × IsEmptyAt (S.world s.old).standings slot × (S.world s.new ≡ retired (made (S.world s.old) slot value) (S.seat s.old).place slot))
+    requires seated { IsSeated (S.caller s.old) }
+    ensures caller { S.caller s.new ≡ S.caller s.old }
+    ensures exact { IsExact (S.caller s.old) → MatchResult result
+        (λ _. (slot : ℕ) × IsEmptyAt (S.world s.old).standings slot × (S.world s.new ≡ retired (made (S.world s.old) slot value) (S.caller s.old).place slot))
         (λ e. IsFull (S.world s.old).standings × (e ≡ (value, Refused.NoSlot)) × (S.world s.new ≡ S.world s.old)) }
 {
     let owner = Owned::new(value, s)?;
@@ -53,9 +53,9 @@ pub fn in_a_world(value: u64, world: &mut World<u64>, place: &Place) -> Result<(
 
 /// The same by the only participant of a domain.
 pub fn in_a_domain(value: u64, local: &mut Local<'_, u64>) -> Result<(), (u64, Refused)>
-    requires seated { IsSeated (seat_of local.old) }
+    requires seated { IsSeated (caller_of local.old) }
     requires lone { IsLone local.old.member }
-    ensures seat { seat_of local.new ≡ seat_of local.old }
+    ensures caller { caller_of local.new ≡ caller_of local.old }
     ensures exact { MatchResult result
         (λ _. (slot : ℕ) × IsEmptyAt (world_of local.old).standings slot ×
         (world_of local.new ≡ retired (made (world_of local.old) slot value) local.old.member.place slot))
@@ -91,7 +91,7 @@ pub fn first_item(domain: &Domain<u64>) -> Result<u64, Refused>
 
 /// Four accelerated guards of the only participant of a domain, one after another: what waited is reclaimed, and jobs that waited ran.
 pub fn four_guards<T: Item<T>>(local: &mut Local<'_, T>)
-    requires seated { IsSeated (seat_of local.old) }
+    requires seated { IsSeated (caller_of local.old) }
     requires lone { IsLone local.old.member }
     requires shut { local.old.member.own.guards ≡ 0 }
     requires nesting { 0 < local.old.member.limits.nesting }
@@ -109,11 +109,11 @@ pub fn four_guards<T: Item<T>>(local: &mut Local<'_, T>)
 
 /// An accelerated guard of the only participant of a domain, which has none open.
 fn goes_on<T: Item<T>>(local: &mut Local<'_, T>)
-    requires seated { IsSeated (seat_of local.old) }
+    requires seated { IsSeated (caller_of local.old) }
     requires lone { IsLone local.old.member }
     requires shut { local.old.member.own.guards ≡ 0 }
     requires nesting { 0 < local.old.member.limits.nesting }
-    ensures seat { seat_of local.new ≡ seat_of local.old }
+    ensures caller { caller_of local.new ≡ caller_of local.old }
     ensures shut { local.new.member.own.guards ≡ 0 }
     ensures passed { world_of local.new ≡ accelerated_guard T.holds (world_of local.old) local.old.member.place }
 {
@@ -133,11 +133,11 @@ pub fn goes_under_work<T: Item<T>>(local: &Local<'_, T>)
 
 /// The only participant of a domain makes a number and retires it, where a slot is free: it waits, and as much is out as was.
 pub fn number_passes(local: &mut Local<'_, u64>)
-    requires seated { IsSeated (seat_of local.old) }
+    requires seated { IsSeated (caller_of local.old) }
     requires lone { IsLone local.old.member }
     requires room { taken (world_of local.old) < length (world_of local.old).standings }
     requires few { (world_of local.old).tally.made + 1 < 2 ^ 128 }
-    ensures seat { seat_of local.new ≡ seat_of local.old }
+    ensures caller { caller_of local.new ≡ caller_of local.old }
     ensures passed { HavePassed 1 (world_of local.old) (world_of local.new) }
 {
     local.is_whole();
@@ -150,11 +150,11 @@ pub fn number_passes(local: &mut Local<'_, u64>)
 
 /// An item of the only participant of a domain goes out as raw and comes back: answers what is read then, which is what was in its slot.
 pub fn out_and_back(owner: Owned<u64>, local: &mut Local<'_, u64>) -> (Owned<u64>, u64)
-    requires seated { IsSeated (seat_of local.old) }
+    requires seated { IsSeated (caller_of local.old) }
     requires lone { IsLone local.old.member }
-    requires home { slots_home owner ≡ (seat_of local.old).home.slots }
-    ensures seat { seat_of local.new ≡ seat_of local.old }
-    ensures home { slots_home result.0 ≡ (seat_of local.new).home.slots }
+    requires home { slots_home owner ≡ (caller_of local.old).home.slots }
+    ensures caller { caller_of local.new ≡ caller_of local.old }
+    ensures home { slots_home result.0 ≡ (caller_of local.new).home.slots }
     ensures same { slot_of result.0 ≡ slot_of owner }
     ensures read { value_at (world_of local.old) (slot_of owner) ≡ Some result.1 }
     ensures world { world_of local.new ≡ world_of local.old }
@@ -170,10 +170,10 @@ pub fn waits_once<T: Item<T>, J: Job>(
     guard: &Guard,
     local: &mut Local<'_, T, J>,
 ) -> Result<(), (J, Refused)>
-    requires seated { IsSeated (seat_of local.old) }
+    requires seated { IsSeated (caller_of local.old) }
     requires lone { IsLone local.old.member }
-    requires reader { reader_of guard.now ≡ (seat_of local.old).reader }
-    ensures seat { seat_of local.new ≡ seat_of local.old }
+    requires reader { reader_of guard.now ≡ (caller_of local.old).reader }
+    ensures caller { caller_of local.new ≡ caller_of local.old }
     ensures once { MatchResult result
         (λ _. (place : ℕ) × IsEmptyAt (world_of local.old).jobs place × (times_deferred (world_of local.new) place ≡ 1) ×
         (world_of local.new ≡ deferred (world_of local.old) local.old.member.place place))
@@ -188,10 +188,10 @@ pub fn waits_once<T: Item<T>, J: Job>(
 ///
 /// `TooManyGuards` where as many are open as may nest.
 pub fn frees_what_is_due<T: Item<T>, J: Job>(local: &mut Local<'_, T, J>) -> Result<Guard, Refused>
-    requires seated { IsSeated (seat_of local.old) }
+    requires seated { IsSeated (caller_of local.old) }
     requires lone { IsLone local.old.member }
-    ensures seat { seat_of local.new ≡ seat_of local.old }
-    ensures reader { IfOk result (λ guard. reader_of guard ≡ (seat_of local.old).reader) }
+    ensures caller { caller_of local.new ≡ caller_of local.old }
+    ensures reader { IfOk result (λ guard. reader_of guard ≡ (caller_of local.old).reader) }
     ensures freed { IfOk result (λ _. (place : ℕ) → Contains (reclaims (world_of local.old) local.old.member.place) (entry.Job place) →
         IsSome (entry_at (world_of local.old).jobs place) × (entry_at (world_of local.new).jobs place ≡ None)) }
     ensures kept { IfOk result (λ _. (place : ℕ) → ¬ (Contains (reclaims (world_of local.old) local.old.member.place) (entry.Job place)) →

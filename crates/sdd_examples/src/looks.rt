@@ -2,11 +2,11 @@
 ghost use Rattle.std.specs.Prelude.{◌≡◌, ◌≢◌, [], IfErr, IfOk, IsSome, IsTrue, MatchResult, Some};
 ghost use Rattle.sdd_participants.specs.EpochState.{CanNest, is_open};
 ghost use Rattle.sdd_space.specs.Guard.{reader_of};
-ghost use Rattle.sdd_space.specs.OwnerOrCell.{AreOf};
+ghost use Rattle.sdd_world_model.specs.OwnerOrCell.{AreOf};
 ghost use Rattle.sdd_space.specs.Owned.{slot_of, slots_home};
 ghost use Rattle.sdd_space.specs.CallerId.{IsSeated};
-ghost use Rattle.sdd_space.specs.WorldChanges.{opened};
-ghost use Rattle.sdd_space.specs.World.{World, IsPlaceOf, value_at};
+ghost use Rattle.sdd_world_model.specs.WorldChanges.{opened};
+ghost use Rattle.sdd_world_model.specs.World.{World, IsPlaceOf, value_at};
 ghost use Rattle.sdd_world.specs.Place.{index_of};
 
 use sdd_core::Refused;
@@ -71,9 +71,9 @@ fn retires_and_goes_on<S: Guards<u64> + Items<u64>>(
     s: &mut S,
     owner: Owned<u64>,
 ) -> Result<(), Refused>
-    requires seated { IsSeated (S.seat s.old) }
-    requires home { slots_home owner ≡ (S.seat s.old).home.slots }
-    ensures seat { S.seat s.new ≡ S.seat s.old }
+    requires seated { IsSeated (S.caller s.old) }
+    requires home { slots_home owner ≡ (S.caller s.old).home.slots }
+    ensures caller { S.caller s.new ≡ S.caller s.old }
 {
     owner.retire(s);
     goes_on(s)?;
@@ -84,8 +84,8 @@ fn retires_and_goes_on<S: Guards<u64> + Items<u64>>(
 
 /// Opens a guard, accelerates it and closes it.
 fn goes_on<T: Item<T>, S: Guards<T>>(s: &mut S) -> Result<(), Refused>
-    requires seated { IsSeated (S.seat s.old) }
-    ensures seat { S.seat s.new ≡ S.seat s.old }
+    requires seated { IsSeated (S.caller s.old) }
+    ensures caller { S.caller s.new ≡ S.caller s.old }
 {
     let guard = Guard::new(s)?;
     guard.accelerate(s);
@@ -101,10 +101,10 @@ pub fn nested_guards_outer_first<S: Look<u64> + Guards<u64> + Items<u64>>(
     other: &Owned<u64>,
     s: &mut S,
 ) -> Result<(Option<u64>, Option<u64>), Refused>
-    requires seated { IsSeated (S.seat s.old) }
-    requires one { slots_home one.now ≡ (S.seat s.old).home.slots }
-    requires other { slots_home other.now ≡ (S.seat s.old).home.slots }
-    ensures seat { S.seat s.new ≡ S.seat s.old }
+    requires seated { IsSeated (S.caller s.old) }
+    requires one { slots_home one.now ≡ (S.caller s.old).home.slots }
+    requires other { slots_home other.now ≡ (S.caller s.old).home.slots }
+    ensures caller { S.caller s.new ≡ S.caller s.old }
     ensures seen { IfOk result (λ looks. IsSome looks.0) }
     ensures same { IfOk result (λ looks. looks.0 ≡ looks.1) }
     ensures refused { IfErr result (λ e. e ≡ Refused.TooManyGuards) }
@@ -135,9 +135,9 @@ pub fn made_and_seen<T: Item<T> + Copy, S: Guards<T> + Items<T>>(
     value: T,
     s: &mut S,
 ) -> Result<(T, T), Refused>
-    requires seated { IsSeated (S.seat s.old) }
-    requires home { AreOf (S.seat s.old).home (T.holds value) }
-    ensures seat { S.seat s.new ≡ S.seat s.old }
+    requires seated { IsSeated (S.caller s.old) }
+    requires home { AreOf (S.caller s.old).home (T.holds value) }
+    ensures caller { S.caller s.new ≡ S.caller s.old }
     ensures first { IfOk result (λ seen. seen.0 ≡ value) }
     ensures second { IfOk result (λ seen. seen.1 ≡ value) }
 {
@@ -153,11 +153,11 @@ fn made_and_seen_under<T: Item<T> + Copy, S: Guards<T> + Items<T>>(
     outer: &Guard,
     s: &mut S,
 ) -> Result<(T, T), Refused>
-    requires seated { IsSeated (S.seat s.old) }
-    requires home { AreOf (S.seat s.old).home (T.holds value) }
-    requires reader { reader_of outer.now ≡ (S.seat s.old).reader }
+    requires seated { IsSeated (S.caller s.old) }
+    requires home { AreOf (S.caller s.old).home (T.holds value) }
+    requires reader { reader_of outer.now ≡ (S.caller s.old).reader }
     requires open { IsTrue (is_open (S.own s.old)) }
-    ensures seat { S.seat s.new ≡ S.seat s.old }
+    ensures caller { S.caller s.new ≡ S.caller s.old }
     ensures first { IfOk result (λ seen. seen.0 ≡ value) }
     ensures second { IfOk result (λ seen. seen.1 ≡ value) }
 {

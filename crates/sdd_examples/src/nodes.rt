@@ -29,13 +29,13 @@ pub fn next_of<'g, S: Look<Node> + Cells<Node>>(
     guard: &'g Guard,
     s: &mut S,
 ) -> Option<&'g Node>
-    requires seated { IsSeated (S.seat s.old) }
+    requires seated { IsSeated (S.caller s.old) }
     requires shown { (slot : ℕ) × S.shows s.old slot node.now }
-    requires reader { reader_of guard.now ≡ (S.seat s.old).reader }
-    ensures seat { S.seat s.new ≡ S.seat s.old }
+    requires reader { reader_of guard.now ≡ (S.caller s.old).reader }
+    ensures caller { S.caller s.new ≡ S.caller s.old }
     ensures own { S.own s.new ≡ S.own s.old }
     ensures shown { IfSome (option_copied result) (λ next. (slot : ℕ) × S.shows s.new slot next) }
-    ensures exact { IsExact (S.seat s.old) → S.world s.new ≡ S.world s.old }
+    ensures exact { IsExact (S.caller s.old) → S.world s.new ≡ S.world s.old }
     ensures keeps { KeepsShown (S.shows s.old) (S.shows s.new) }
 {
     s.shown_is_of_home();

@@ -2,9 +2,9 @@
 ghost use Rattle.std.specs.Prelude.{◌≡◌, ◌⊎◌, IfErr, IfOk};
 ghost use Rattle.sdd_space.specs.Owned.{slots_home};
 ghost use Rattle.sdd_space.specs.CallerId.{IsSeated};
-ghost use Rattle.sdd_space.specs.World.{World, IsPlaceOf};
+ghost use Rattle.sdd_world_model.specs.World.{World, IsPlaceOf};
 ghost use Rattle.sdd_world.specs.Place.{index_of};
-ghost use Rattle.sdd_domain.specs.Space.{seat_of};
+ghost use Rattle.sdd_domain.specs.Space.{caller_of};
 
 use sdd_core::Refused;
 use sdd_domain::Local;
@@ -18,9 +18,9 @@ pub fn made_and_seen<S: Look<u64> + Items<u64>>(
     value: u64,
     s: &mut S,
 ) -> Result<(Owned<u64>, u64), (u64, Refused)>
-    requires { IsSeated (S.seat s.old) }
-    ensures seat { S.seat s.new ≡ S.seat s.old }
-    ensures home { IfOk result (λ made. slots_home made.0 ≡ (S.seat s.new).home.slots) }
+    requires { IsSeated (S.caller s.old) }
+    ensures caller { S.caller s.new ≡ S.caller s.old }
+    ensures home { IfOk result (λ made. slots_home made.0 ≡ (S.caller s.new).home.slots) }
     ensures seen { IfOk result (λ made. made.1 ≡ value) }
     ensures back { IfErr result (λ e. (e.0 ≡ value) × ((e.1 ≡ Refused.NoSlot) ⊎ (e.1 ≡ Refused.Contended))) }
 {
@@ -48,9 +48,9 @@ pub fn seen_in_a_domain(
     value: u64,
     local: &mut Local<'_, u64>,
 ) -> Result<(Owned<u64>, u64), (u64, Refused)>
-    requires { IsSeated (seat_of local.old) }
-    ensures seat { seat_of local.new ≡ seat_of local.old }
-    ensures home { IfOk result (λ made. slots_home made.0 ≡ (seat_of local.new).home.slots) }
+    requires { IsSeated (caller_of local.old) }
+    ensures caller { caller_of local.new ≡ caller_of local.old }
+    ensures home { IfOk result (λ made. slots_home made.0 ≡ (caller_of local.new).home.slots) }
     ensures seen { IfOk result (λ made. made.1 ≡ value) }
     ensures back { IfErr result (λ e. (e.0 ≡ value) × ((e.1 ≡ Refused.NoSlot) ⊎ (e.1 ≡ Refused.Contended))) }
 {

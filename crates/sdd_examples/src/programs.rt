@@ -3,13 +3,13 @@ ghost use Rattle.std.specs.Prelude.{◌≡◌, ℕ, ◌+◌, ◌^◌, ◌<◌, �
 ghost use Rattle.sdd_participants.specs.Slab.{IsEmptyAt};
 ghost use Rattle.sdd_participants.specs.Tally.{no_items};
 ghost use Rattle.sdd_core.specs.Limits.{AreInRange};
-ghost use Rattle.sdd_space.specs.World.{World, AnyGuardOpen, IsPlaceOf};
-ghost use Rattle.sdd_space.specs.WorldInvariant.{taken};
-ghost use Rattle.sdd_space.specs.Out.{out, HoldsNothing};
-ghost use Rattle.sdd_space.specs.WorldChanges.{made, retired};
+ghost use Rattle.sdd_world_model.specs.World.{World, AnyGuardOpen, IsPlaceOf};
+ghost use Rattle.sdd_world_model.specs.WorldInvariant.{taken};
+ghost use Rattle.sdd_world_model.specs.Out.{out, HoldsNothing};
+ghost use Rattle.sdd_world_model.specs.WorldChanges.{made, retired};
 ghost use Rattle.sdd_world.specs.Closing.{Accounts};
 ghost use Rattle.sdd_world.specs.Place.{index_of};
-ghost use Rattle.sdd_space.specs.AcceleratedGuards.{HavePassed};
+ghost use Rattle.sdd_world_model.specs.AcceleratedGuards.{HavePassed};
 
 use crate::guards::four_guards;
 use crate::items::made_and_read;

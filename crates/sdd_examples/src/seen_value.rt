@@ -1,4 +1,4 @@
-//! How a pointer uses a sight: it is copied as often as wanted, and shows a value or nothing.
+//! How a pointer uses a nullable: it is copied as often as wanted, and shows a value or nothing.
 ghost use Rattle.std.specs.Prelude.{◌≡◌, ◌↔◌, IsSome, IsTrue, Some, None};
 ghost use Rattle.std.specs.Option.{option_copied};
 
@@ -9,10 +9,10 @@ const _: () = prove!(size_of::<Seen<'static, u64>>() == 16);
 
 /// A value that is seen, or none, with a number.
 pub struct Seen<'g, T> {
-    sight: &'g Nullable<T>,
+    nullable: &'g Nullable<T>,
     number: u32,
     named: bool,
-    ghost fits: { IsTrue named ↔ IsSome sight.now },
+    ghost fits: { IsTrue named ↔ IsSome nullable.now },
 }
 
 impl<'g, T> Clone for Seen<'g, T> {
@@ -32,12 +32,12 @@ impl<'g, T> Copy for Seen<'g, T> {}
 impl<'g, T> Seen<'g, T> {
     /// Nothing is seen.
     pub fn nothing(number: u32) -> Seen<'g, T>
-        ensures sight { result.sight.now ≡ None }
+        ensures nullable { result.nullable.now ≡ None }
         ensures number { result.number ≡ number }
     {
-        let sight = Nullable::none();
+        let nullable = Nullable::none();
         Seen {
-            sight,
+            nullable,
             number,
             named: false,
         }
@@ -45,12 +45,12 @@ impl<'g, T> Seen<'g, T> {
 
     /// A value is seen, for as long as it is borrowed.
     pub fn of(value: &'g T, number: u32) -> Seen<'g, T>
-        ensures sight { result.sight.now ≡ Some value.now }
+        ensures nullable { result.nullable.now ≡ Some value.now }
         ensures number { result.number ≡ number }
     {
-        let sight = Nullable::of(value);
+        let nullable = Nullable::of(value);
         Seen {
-            sight,
+            nullable,
             number,
             named: true,
         }
@@ -58,10 +58,10 @@ impl<'g, T> Seen<'g, T> {
 
     /// The value that is seen, if there is one. It lives on without this.
     pub fn shown(&self) -> Option<&'g T>
-        ensures { option_copied result ≡ self.now.sight.now }
+        ensures { option_copied result ≡ self.now.nullable.now }
     {
         if self.named {
-            Some(self.sight.get())
+            Some(self.nullable.get())
         } else {
             None
         }
@@ -70,8 +70,8 @@ impl<'g, T> Seen<'g, T> {
 
 /// Two copies show the same.
 pub fn shows_twice<'g, T>(seen: Seen<'g, T>) -> (Option<&'g T>, Option<&'g T>)
-    ensures first { option_copied result.0 ≡ seen.entry.sight.now }
-    ensures second { option_copied result.1 ≡ seen.entry.sight.now }
+    ensures first { option_copied result.0 ≡ seen.entry.nullable.now }
+    ensures second { option_copied result.1 ≡ seen.entry.nullable.now }
 {
     let first = seen;
     let second = seen;

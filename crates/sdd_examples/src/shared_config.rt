@@ -64,11 +64,11 @@ pub fn looks_twice<S: Look<Bounds> + Guards<Bounds> + Cells<Bounds>>(
     config: &Config<Bounds>,
     s: &mut S,
 ) -> Result<(Option<Bounds>, Option<Bounds>), Refused>
-    requires seated { IsSeated (S.seat s.old) }
-    requires home { cells_home config.now ≡ (S.seat s.old).home.cells }
-    ensures seat { S.seat s.new ≡ S.seat s.old }
+    requires seated { IsSeated (S.caller s.old) }
+    requires home { cells_home config.now ≡ (S.caller s.old).home.cells }
+    ensures caller { S.caller s.new ≡ S.caller s.old }
     ensures same { IfOk result (λ looks. looks.1 ≡ looks.0) }
-    ensures found { IsExact (S.seat s.old) → IfOk result (λ looks. IsFound (S.world s.new) (cell_of config.now) looks.0) }
+    ensures found { IsExact (S.caller s.old) → IfOk result (λ looks. IsFound (S.world s.new) (cell_of config.now) looks.0) }
     ensures refused { IfErr result (λ e. e ≡ Refused.TooManyGuards) }
 {
     let guard = Guard::new(s)?;
@@ -89,9 +89,9 @@ pub fn widen<S: Look<Bounds> + Guards<Bounds> + Items<Bounds> + Cells<Bounds>>(
     by: u64,
     s: &mut S,
 ) -> Result<bool, Refused>
-    requires seated { IsSeated (S.seat s.old) }
-    requires home { cells_home config.now ≡ (S.seat s.old).home.cells }
-    ensures seat { S.seat s.new ≡ S.seat s.old }
+    requires seated { IsSeated (S.caller s.old) }
+    requires home { cells_home config.now ≡ (S.caller s.old).home.cells }
+    ensures caller { S.caller s.new ≡ S.caller s.old }
 {
     let guard = Guard::new(s)?;
     let widened = widen_under(config, by, &guard, s);
@@ -106,10 +106,10 @@ fn widen_under<S: Look<Bounds> + Items<Bounds> + Cells<Bounds>>(
     guard: &Guard,
     s: &mut S,
 ) -> Result<bool, Refused>
-    requires seated { IsSeated (S.seat s.old) }
-    requires home { cells_home config.now ≡ (S.seat s.old).home.cells }
-    requires reader { reader_of guard.now ≡ (S.seat s.old).reader }
-    ensures seat { S.seat s.new ≡ S.seat s.old }
+    requires seated { IsSeated (S.caller s.old) }
+    requires home { cells_home config.now ≡ (S.caller s.old).home.cells }
+    requires reader { reader_of guard.now ≡ (S.caller s.old).reader }
+    ensures caller { S.caller s.new ≡ S.caller s.old }
 {
     let ptr = config.load(guard, s);
     let Some(bounds) = ptr.as_ref(s) else {
@@ -133,11 +133,11 @@ pub fn keep_under<S: LookThrough<Bounds> + SharedItems<Bounds> + Cells<Bounds>>(
     guard: &Guard,
     s: &mut S,
 ) -> Result<Option<(Bounds, Shared<Bounds>)>, Refused>
-    requires seated { IsSeated (S.seat s.old) }
-    requires home { cells_home config.now ≡ (S.seat s.old).home.cells }
-    requires reader { reader_of guard.now ≡ (S.seat s.old).reader }
-    ensures seat { S.seat s.new ≡ S.seat s.old }
-    ensures home { IfOk result (λ o. IfSome o (λ kept. slots_home kept.1 ≡ (S.seat s.old).home.slots)) }
+    requires seated { IsSeated (S.caller s.old) }
+    requires home { cells_home config.now ≡ (S.caller s.old).home.cells }
+    requires reader { reader_of guard.now ≡ (S.caller s.old).reader }
+    ensures caller { S.caller s.new ≡ S.caller s.old }
+    ensures home { IfOk result (λ o. IfSome o (λ kept. slots_home kept.1 ≡ (S.caller s.old).home.slots)) }
     ensures owned { IfOk result (λ o. IfSome o (λ kept. S.owns_value s.new (right_of kept.1) kept.0)) }
 {
     let ptr = config.load(guard, s);
@@ -157,10 +157,10 @@ pub fn keep<S: LookThrough<Bounds> + Guards<Bounds> + SharedItems<Bounds> + Cell
     config: &Config<Bounds>,
     s: &mut S,
 ) -> Result<Option<(Bounds, Shared<Bounds>)>, Refused>
-    requires seated { IsSeated (S.seat s.old) }
-    requires home { cells_home config.now ≡ (S.seat s.old).home.cells }
-    ensures seat { S.seat s.new ≡ S.seat s.old }
-    ensures home { IfOk result (λ o. IfSome o (λ kept. slots_home kept.1 ≡ (S.seat s.old).home.slots)) }
+    requires seated { IsSeated (S.caller s.old) }
+    requires home { cells_home config.now ≡ (S.caller s.old).home.cells }
+    ensures caller { S.caller s.new ≡ S.caller s.old }
+    ensures home { IfOk result (λ o. IfSome o (λ kept. slots_home kept.1 ≡ (S.caller s.old).home.slots)) }
     ensures owned { IfOk result (λ o. IfSome o (λ kept. S.owns_value s.new (right_of kept.1) kept.0)) }
 {
     let guard = Guard::new(s)?;

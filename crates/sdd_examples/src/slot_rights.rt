@@ -14,7 +14,7 @@ pub enum Standing {
     Owned,
 }
 
-/// The book of a space, and its first two slots.
+/// The ghost map of a space, and its first two slots.
 pub fn space_of(size: usize) -> (GhostKeys<Standing>, Fraction<Standing>, Fraction<Standing>)
     ensures size { result.0.home.size ≡ size }
     ensures homes { (result.1.home ≡ result.0.home) × (result.2.home ≡ result.0.home) }
@@ -22,10 +22,10 @@ pub fn space_of(size: usize) -> (GhostKeys<Standing>, Fraction<Standing>, Fracti
     ensures whole { (result.1.units ≡ WHOLE) × (result.2.units ≡ WHOLE) }
     ensures two { result.1.number ≢ result.2.number }
 {
-    let mut book = GhostKeys::new(size);
-    let first = book.issue(&Standing::Free);
-    let second = book.issue(&Standing::Free);
-    (book, first, second)
+    let mut keys = GhostKeys::new(size);
+    let first = keys.issue(&Standing::Free);
+    let second = keys.issue(&Standing::Free);
+    (keys, first, second)
 }
 
 /// A value for a free slot, and its owner.

@@ -2,7 +2,7 @@
 ghost use Rattle.std.specs.Prelude.{◌≡◌, ◌++◌, ◌∷◌, [], IfOk, List, MatchResult, Some, drop, slice_get};
 ghost use Rattle.sdd_space.specs.CallerId.{IsExact, IsSeated};
 ghost use Rattle.sdd_space.specs.Guard.{reader_of};
-ghost use Rattle.sdd_space.specs.World.{World, IsPlaceOf};
+ghost use Rattle.sdd_world_model.specs.World.{World, IsPlaceOf};
 ghost use Rattle.sdd_lists.specs.Filling.{RefusesPush};
 ghost use Rattle.sdd_lists.specs.Queue.{AreOfCells};
 ghost use Rattle.sdd_lists.specs.Values.{QueueHas};
@@ -34,11 +34,11 @@ pub fn put<
         + Cells<LinkedEntry<Task>>
         + LookThrough<LinkedEntry<Task>>,
 >(queue: &Queue<Task>, task: Task, guard: &Guard, s: &mut S) -> Result<(), Refused>
-    requires seated { IsSeated (S.seat s.old) }
-    requires home { AreOfCells (S.seat s.old).home.cells queue.now }
-    requires reader { reader_of guard.now ≡ (S.seat s.old).reader }
-    ensures seat { S.seat s.new ≡ S.seat s.old }
-    ensures tasks { IsExact (S.seat s.old) → (tasks : List Task) → QueueHas (S.world s.old) queue.now tasks → MatchResult result
+    requires seated { IsSeated (S.caller s.old) }
+    requires home { AreOfCells (S.caller s.old).home.cells queue.now }
+    requires reader { reader_of guard.now ≡ (S.caller s.old).reader }
+    ensures caller { S.caller s.new ≡ S.caller s.old }
+    ensures tasks { IsExact (S.caller s.old) → (tasks : List Task) → QueueHas (S.world s.old) queue.now tasks → MatchResult result
         (λ _. QueueHas (S.world s.new) queue.now (tasks ++ task ∷ []))
         (λ e. (S.world s.new ≡ S.world s.old) × RefusesPush (S.world s.old) e) }
 {
@@ -59,11 +59,11 @@ pub fn take<
         + Cells<LinkedEntry<Task>>
         + LookThrough<LinkedEntry<Task>>,
 >(queue: &Queue<Task>, guard: &Guard, s: &mut S) -> Result<Option<Task>, Refused>
-    requires seated { IsSeated (S.seat s.old) }
-    requires home { AreOfCells (S.seat s.old).home.cells queue.now }
-    requires reader { reader_of guard.now ≡ (S.seat s.old).reader }
-    ensures seat { S.seat s.new ≡ S.seat s.old }
-    ensures tasks { IsExact (S.seat s.old) → (tasks : List Task) → QueueHas (S.world s.old) queue.now tasks → MatchResult result
+    requires seated { IsSeated (S.caller s.old) }
+    requires home { AreOfCells (S.caller s.old).home.cells queue.now }
+    requires reader { reader_of guard.now ≡ (S.caller s.old).reader }
+    ensures caller { S.caller s.new ≡ S.caller s.old }
+    ensures tasks { IsExact (S.caller s.old) → (tasks : List Task) → QueueHas (S.world s.old) queue.now tasks → MatchResult result
         (λ task. (task ≡ slice_get tasks 0) × QueueHas (S.world s.new) queue.now (drop 1 tasks))
         (λ e. (S.world s.new ≡ S.world s.old) × (e ≡ Refused.TooManyOwners)) }
 {
@@ -92,10 +92,10 @@ pub fn two_tasks<
     guard: &Guard,
     s: &mut S,
 ) -> Result<(Option<Task>, Option<Task>), Refused>
-    requires seated { IsSeated (S.seat s.old) }
-    requires reader { reader_of guard.now ≡ (S.seat s.old).reader }
-    ensures seat { S.seat s.new ≡ S.seat s.old }
-    ensures in_order { IsExact (S.seat s.old) → IfOk result (λ tasks. tasks ≡ (Some first, Some second)) }
+    requires seated { IsSeated (S.caller s.old) }
+    requires reader { reader_of guard.now ≡ (S.caller s.old).reader }
+    ensures caller { S.caller s.new ≡ S.caller s.old }
+    ensures in_order { IsExact (S.caller s.old) → IfOk result (λ tasks. tasks ≡ (Some first, Some second)) }
 {
     let queue = Queue::new(s)?;
     let tasks = put_and_taken(&queue, first, second, guard, s);
@@ -117,11 +117,11 @@ fn put_and_taken<
     guard: &Guard,
     s: &mut S,
 ) -> Result<(Option<Task>, Option<Task>), Refused>
-    requires seated { IsSeated (S.seat s.old) }
-    requires home { AreOfCells (S.seat s.old).home.cells queue.now }
-    requires reader { reader_of guard.now ≡ (S.seat s.old).reader }
-    ensures seat { S.seat s.new ≡ S.seat s.old }
-    ensures in_order { IsExact (S.seat s.old) → QueueHas (S.world s.old) queue.now [] → IfOk result (λ tasks. tasks ≡ (Some first, Some second)) }
+    requires seated { IsSeated (S.caller s.old) }
+    requires home { AreOfCells (S.caller s.old).home.cells queue.now }
+    requires reader { reader_of guard.now ≡ (S.caller s.old).reader }
+    ensures caller { S.caller s.new ≡ S.caller s.old }
+    ensures in_order { IsExact (S.caller s.old) → QueueHas (S.world s.old) queue.now [] → IfOk result (λ tasks. tasks ≡ (Some first, Some second)) }
 {
     put(queue, first, guard, s)?;
     put(queue, second, guard, s)?;

@@ -4,11 +4,11 @@ ghost use Rattle.sdd_participants.specs.declared.waiting.LimboEntry.{LimboEntry}
 ghost use Rattle.sdd_participants.specs.EpochState.{last_count};
 ghost use Rattle.sdd_participants.specs.Slab.{IsFull};
 ghost use Rattle.sdd_space.specs.CallerId.{IsSeated, IsExact};
-ghost use Rattle.sdd_space.specs.Out.{HoldsNothing};
+ghost use Rattle.sdd_world_model.specs.Out.{HoldsNothing};
 ghost use Rattle.sdd_space.specs.Owned.{cells_home};
-ghost use Rattle.sdd_space.specs.ReclaimBound.{WaitsWith};
-ghost use Rattle.sdd_space.specs.World.{World, AnyGuardOpen, IsPlaceOf};
-ghost use Rattle.sdd_space.specs.WorkingGuards.{HasGone, PassesWork, Works};
+ghost use Rattle.sdd_world_model.specs.ReclaimBound.{WaitsWith};
+ghost use Rattle.sdd_world_model.specs.World.{World, AnyGuardOpen, IsPlaceOf};
+ghost use Rattle.sdd_world_model.specs.WorkingGuards.{HasGone, PassesWork, Works};
 ghost use Rattle.sdd_world.specs.Place.{index_of};
 
 use sdd_core::{Refused, Tag};
@@ -24,12 +24,12 @@ pub fn replaced<T: Item<T>, S: Items<T> + Cells<T>>(
     value: T,
     s: &mut S,
 ) -> Result<(), (T, Refused)>
-    requires seated { IsSeated (S.seat s.old) }
-    requires exact { IsExact (S.seat s.old) }
-    requires home { cells_home cell.now ≡ (S.seat s.old).home.cells }
-    requires place { IsPlaceOf (S.world s.old) (S.seat s.old).place }
+    requires seated { IsSeated (S.caller s.old) }
+    requires exact { IsExact (S.caller s.old) }
+    requires home { cells_home cell.now ≡ (S.caller s.old).home.cells }
+    requires place { IsPlaceOf (S.world s.old) (S.caller s.old).place }
     requires plain { HoldsNothing T.holds }
-    ensures seat { S.seat s.new ≡ S.seat s.old }
+    ensures caller { S.caller s.new ≡ S.caller s.old }
     ensures back { IfErr result (λ e. (e ≡ (value, Refused.NoSlot)) × IsFull (S.world s.old).standings) }
     ensures works { Works T.holds (S.world s.old) (S.world s.new) }
 {
@@ -45,11 +45,11 @@ pub fn replaced<T: Item<T>, S: Items<T> + Cells<T>>(
 
 /// Opens a guard, looks at what the cell holds, and closes the guard.
 pub fn looked_at<T: Item<T>, S: Guards<T> + Cells<T>>(cell: &AtomicOwned<T>, s: &mut S)
-    requires seated { IsSeated (S.seat s.old) }
-    requires exact { IsExact (S.seat s.old) }
-    requires home { cells_home cell.now ≡ (S.seat s.old).home.cells }
-    requires place { IsPlaceOf (S.world s.old) (S.seat s.old).place }
-    ensures seat { S.seat s.new ≡ S.seat s.old }
+    requires seated { IsSeated (S.caller s.old) }
+    requires exact { IsExact (S.caller s.old) }
+    requires home { cells_home cell.now ≡ (S.caller s.old).home.cells }
+    requires place { IsPlaceOf (S.world s.old) (S.caller s.old).place }
+    ensures caller { S.caller s.new ≡ S.caller s.old }
     ensures works { Works T.holds (S.world s.old) (S.world s.new) }
 {
     calls_are_work::<T>();

@@ -1,40 +1,40 @@
 -- What the acts of a script share: what is left in hand is sound, and is what a call means
-use Rattle.sdd_interpreter.proofs.Words.{◌≡◌, ℕ, [], Option, Some, None, IsSome, map, length, slice_index_or, slice_set, refl, sym, ap, ◌∙◌, subst, arith, IsTrue, option_map, get_or-map, map-set, index_of, NamedParticipant, NamedGuard, Environment, List, length-map, ScriptState, OpenSince, opening_at, place_in, since_in, since_of, Acts, IsParticipant, CanPointTo, attending, guarding, owner_holding, cell_holding, collector_holding, newest_holding, oldest_holding, stack_holding, desk_of, IsTied, Answers, AreInRange, Call, CannotGo, GuardsIn, HasOpen, IsNew, IsPlaceOf, IsReclaimed, IsRunBy, IsSound, IsWhole, Limits, Meets, Reply, deferred, is_open, lt-ltb, none as no_call, place_of, replicate, set-get_or, set-set, slot_at, Vec}
+use Rattle.sdd_interpreter.proofs.Words.{◌≡◌, ℕ, [], Option, Some, None, IsSome, map, length, slice_index_or, slice_set, refl, sym, ap, ◌∙◌, subst, arith, IsTrue, option_map, get_or-map, map-set, index_of, NamedParticipant, NamedGuard, Environment, List, length-map, ScriptState, OpenSince, opening_at, place_in, since_in, since_of, Acts, IsParticipant, CanPointTo, open_since, guarding, owner_holding, cell_holding, collector_holding, newest_holding, oldest_holding, stack_holding, state_of, IsTied, Answers, AreInRange, Call, CannotGo, GuardsIn, HasOpen, IsNew, IsPlaceOf, IsReclaimed, IsRunBy, IsSound, IsWhole, Limits, Meets, Reply, deferred, is_open, lt-ltb, none as no_call, place_of, replicate, set-get_or, set-set, slot_at, Vec}
 use Rattle.sdd_participants.specs.EpochState as time
 use Rattle.sdd_interpreter.specs.declared.name_table.NameTable.{NameTable}
 use Rattle.sdd_script_model.specs.Script as script
 use Rattle.sdd_script_model.proofs.Dates.{dated-same}
-use Rattle.sdd_script_model.proofs.Chains.{LeavesSound}
-use Rattle.sdd_script_model.proofs.Going.{open-guard, can-point, sound-start}
+use Rattle.sdd_script_model.proofs.CallChains.{LeavesSound}
+use Rattle.sdd_script_model.proofs.CallSound.{open-guard, can-point, sound-start}
 
--- what is left in hand is sound, and is this desk
+-- what is left in hand is sound, and is this state
 pub record Goes (new : Environment) (e : ScriptState) : Type 0 where
   pub tied : IsTied new
-  pub desk : desk_of new ≡ e
+  pub state : state_of new ≡ e
 
 -- what is left in hand is sound, and is what the call means
 abbrev pub Does : ScriptState → Call → Reply → Environment → Type 0
-Does old call given new = IsTied new × Acts old call given (desk_of new)
+Does old call given new = IsTied new × Acts old call given (state_of new)
 
 pub does : {new : Environment} {e : ScriptState} (old : ScriptState) (call : Call) (given : Reply) → Goes new e → Acts old call given e
     → Does old call given new
-does old call given goes acts = (goes.tied, subst (Acts old call given) (sym goes.desk) acts)
+does old call given goes acts = (goes.tied, subst (Acts old call given) (sym goes.state) acts)
 
-pub goes : {new : Environment} {e : ScriptState} → desk_of new ≡ e → IsSound e →
+pub goes : {new : Environment} {e : ScriptState} → state_of new ≡ e → IsSound e →
     ((g : ℕ) → GuardsIn e.world.home.readers e.places (slice_index_or new.guards.entries.items g None)) → Goes new e
 goes {new} same sound guards = record {
   tied = record {
     sound = subst IsSound (sym same) sound;
     guards = λ g. subst (λ (d : ScriptState). GuardsIn d.world.home.readers d.places (slice_index_or new.guards.entries.items g None)) (sym same) (guards g);
   };
-  desk = same;
+  state = same;
 }
 
 -- with the lines in which items began to wait
 abbrev pub with_dates : Environment → Vec ℕ → Environment
 with_dates h dates = record h { log = record h.log { dates = dates } }
 
--- what a name of a table stands for, as the desk has it
+-- what a name of a table stands for, as the state has it
 pub named : {X Y : Type 0} (f : X → Y) (xs : List (Option X)) (n : ℕ) {x : X} → slice_index_or xs n None ≡ Some x →
     slice_index_or (map (option_map f) xs) n None ≡ Some (f x)
 named f xs n e = get_or-map (option_map f) xs n None ∙ ap (option_map f) e
@@ -56,9 +56,9 @@ pub still : (d : ScriptState) (call : Call) (given : Reply) → Meets d call giv
 still d call given meets = record { meets = meets; dated = dated-same d d refl refl; line = refl; calls = no_call d.world }
 
 -- a call that changes nothing in hand
-pub still-as : (h new : Environment) (call : Call) (given : Reply) → desk_of new ≡ desk_of h → Meets (desk_of h) call given (desk_of h) →
-    Acts (desk_of h) call given (desk_of new)
-still-as h new call given same meets = subst (Acts (desk_of h) call given) (sym same) (still (desk_of h) call given meets)
+pub still-as : (h new : Environment) (call : Call) (given : Reply) → state_of new ≡ state_of h → Meets (state_of h) call given (state_of h) →
+    Acts (state_of h) call given (state_of new)
+still-as h new call given same meets = subst (Acts (state_of h) call given) (sym same) (still (state_of h) call given meets)
 
 abbrev pub place : OpenSince → ℕ
 place x = x.place
@@ -67,22 +67,22 @@ place x = x.place
 pub record Here (h : Environment) (n : ℕ) (a : NamedParticipant) : Type 0 where
   pub tied : IsTied h
   pub whole : IsWhole h.world
-  pub there : attending (Some a) ≡ opening_at (desk_of h).places n
+  pub there : open_since (Some a) ≡ opening_at (state_of h).places n
 
-pub under : {h : Environment} {a : NamedParticipant} (n : ℕ) → IsTied h → IsWhole h.world → attending (Some a) ≡ opening_at (desk_of h).places n → Here h n a
+pub under : {h : Environment} {a : NamedParticipant} (n : ℕ) → IsTied h → IsWhole h.world → open_since (Some a) ≡ opening_at (state_of h).places n → Here h n a
 under n t whole e = record { tied = t; whole = whole; there = e }
 
--- what a name stands for, as the desk has it
+-- what a name stands for, as the state has it
 pub got : (places : NameTable NamedParticipant) (n : ℕ) (a : NamedParticipant) → Some a ≡ slice_index_or places.entries.items n None →
-    attending (Some a) ≡ slice_index_or (map attending places.entries.items) n None
-got places n a e = ap attending e ∙ sym (get_or-map attending places.entries.items n None)
+    open_since (Some a) ≡ slice_index_or (map open_since places.entries.items) n None
+got places n a e = ap open_since e ∙ sym (get_or-map open_since places.entries.items n None)
 
 pub here : {h : Environment} {a : NamedParticipant} (n : ℕ) → IsTied h → IsWhole h.world → Some a ≡ slice_index_or h.places.entries.items n None → Here h n a
 here {h} {a} n t whole e = under n t whole (got h.places n a e)
 
 module _ {h : Environment} {n : ℕ} {a : NamedParticipant} (at : Here h n a) where
   abbrev d : ScriptState
-  d = desk_of h
+  d = state_of h
 
   abbrev p : ℕ
   p = index_of a.place
@@ -98,9 +98,9 @@ module _ {h : Environment} {n : ℕ} {a : NamedParticipant} (at : Here h n a) wh
 
   -- a call of the participant that leaves this, with the same guards in hand
   pub leaves : {new : Environment} {call : Call} {given : Reply} {e : ScriptState} → new.guards.entries.items ≡ h.guards.entries.items →
-      desk_of new ≡ e → LeavesSound d e → Meets d call given e → Does d call given new
-  leaves {call = call} {given = given} same desk left meets =
-      does d call given (goes desk left.sound (λ g. rw (left.home, left.places, same) (at.tied.guards g)))
+      state_of new ≡ e → LeavesSound d e → Meets d call given e → Does d call given new
+  leaves {call = call} {given = given} same state left meets =
+      does d call given (goes state left.sound (λ g. rw (left.home, left.places, same) (at.tied.guards g)))
       (record { meets = meets; dated = left.dated; line = left.line; calls = left.calls })
 
   -- a guard of that name that is the participant's, and one of its place, which is open
@@ -130,10 +130,10 @@ pub tied-start : (h : Environment) (l : Limits) → IsNew l 0 h.world → h.log.
     h.log.dates.items ≡ replicate l.slots 0 → h.log.jobs ≡ 0 → h.log.deferred.items ≡ replicate l.jobs 0 → h.log.job_dates.items ≡ replicate l.jobs 0 →
     AreInRange l → IsTied h
 tied-start h l new start places guards owners cells collectors queues stacks bags slots names dates jobs deferred job_dates ranges = record {
-  sound = sound-start l (desk_of h) (record {
+  sound = sound-start l (state_of h) (record {
     world = new;
     moment = start;
-    places = ap (map attending) places;
+    places = ap (map open_since) places;
     guards = ap (map guarding) guards;
     owners = ap (map (option_map owner_holding)) owners;
     cells = ap (map (option_map cell_holding)) cells;
@@ -148,7 +148,7 @@ tied-start h l new start places guards owners cells collectors queues stacks bag
     deferred = deferred;
     job_dates = job_dates;
   }) names ranges;
-  guards = λ g. subst (λ gs. GuardsIn h.world.home.readers (map attending h.places.entries.items) (slice_index_or gs g None)) (sym guards) tt;
+  guards = λ g. subst (λ gs. GuardsIn h.world.home.readers (map open_since h.places.entries.items) (slice_index_or gs g None)) (sym guards) tt;
 }
 
 -- an answer that names nothing as reclaimed or run

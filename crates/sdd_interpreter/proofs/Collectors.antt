@@ -1,10 +1,10 @@
 -- What a name of a collector stands for
-use Rattle.sdd_interpreter.proofs.Words.{◌≡◌, ℕ, Option, Some, None, map, slice_index_or, slice_set, sym, ap, ◌∙◌, option_map, Vec, get_or-map, map-set, Val, ScriptState, holding_at, collector_holding, Environment, IsTied, desk_of, PrivateCollector, collector_of}
+use Rattle.sdd_interpreter.proofs.Words.{◌≡◌, ℕ, Option, Some, None, map, slice_index_or, slice_set, sym, ap, ◌∙◌, option_map, Vec, get_or-map, map-set, Val, ScriptState, holding_at, collector_holding, Environment, IsTied, state_of, PrivateCollector, collector_of}
 use Rattle.sdd_space.specs.Collector as collector
 
 module _ (h : Environment) (t : IsTied h) where
   abbrev d : ScriptState
-  d = desk_of h
+  d = state_of h
 
   pub named-collector : (k : ℕ) (x : PrivateCollector Val) → Some x ≡ slice_index_or h.collectors.entries.items k None →
       holding_at d.collectors k ≡ Some (collector_holding x)

@@ -1,9 +1,9 @@
 -- What a name of a queue stands for
-use Rattle.sdd_interpreter.proofs.Words.{◌≡◌, ℕ, [], ◌∷◌, ◌++◌, Option, Some, None, map, length, slice_index_or, slice_set, sym, ap, ◌∙◌, option_map, Vec, get_or-map, false≢true, length-map, map-set, map_push, cells_in, Queue, Body, ScriptState, holding_at, shared_cell, newest_holding, oldest_holding, Environment, IsTied, desk_of, AreOfCells, IsQueueName}
+use Rattle.sdd_interpreter.proofs.Words.{◌≡◌, ℕ, [], ◌∷◌, ◌++◌, Option, Some, None, map, length, slice_index_or, slice_set, sym, ap, ◌∙◌, option_map, Vec, get_or-map, false≢true, length-map, map-set, map_push, cells_in, Queue, Body, ScriptState, holding_at, shared_cell, newest_holding, oldest_holding, Environment, IsTied, state_of, AreOfCells, IsQueueName}
 
 module _ (h : Environment) where
   abbrev d : ScriptState
-  d = desk_of h
+  d = state_of h
 
   -- each has both cells
   pub both-long : length d.queues ≡ length d.newest

@@ -1,10 +1,10 @@
 -- What a name of a stack stands for
-use Rattle.sdd_interpreter.proofs.Words.{◌≡◌, ℕ, [], ◌∷◌, ◌++◌, Option, Some, None, map, slice_index_or, slice_set, sym, ap, ◌∙◌, option_map, Vec, get_or-map, false≢true, map-set, map_push, Stack, Body, ScriptState, holding_at, shared_cell, stack_holding, Environment, IsTied, desk_of, IsStackName}
+use Rattle.sdd_interpreter.proofs.Words.{◌≡◌, ℕ, [], ◌∷◌, ◌++◌, Option, Some, None, map, slice_index_or, slice_set, sym, ap, ◌∙◌, option_map, Vec, get_or-map, false≢true, map-set, map_push, Stack, Body, ScriptState, holding_at, shared_cell, stack_holding, Environment, IsTied, state_of, IsStackName}
 use Rattle.sdd_lists.specs.Stack as stack
 
 module _ (h : Environment) where
   abbrev d : ScriptState
-  d = desk_of h
+  d = state_of h
 
   pub no-stack : (s : ℕ) → None ≡ slice_index_or h.lists.stacks.entries.items s None → ¬ (IsStackName d s)
   no-stack s none there =

@@ -3,11 +3,11 @@ use Rattle.std.specs.Prelude.{ℕ, ◌≡◌, ◌^◌, ◌<◌, ◌+◌, List, �
 use Rattle.sdd_core.specs.declared.refused.Refused.{Refused}
 use Rattle.sdd_core.specs.declared.refused.Refused.TheVariants.{TooManyOwners}
 use Rattle.sdd_participants.specs.declared.standing.Standing.TheVariants.{Shared as shared_by}
-use Rattle.sdd_rights.specs.Units as token
-use Rattle.sdd_standings.specs.Slots.{IsSharedBy}
+use Rattle.sdd_rights.specs.Units as units
+use Rattle.sdd_world_model.specs.Slots.{IsSharedBy}
 use Rattle.sdd_space.specs.Shared.{slot_of, slots_home}
-use Rattle.sdd_space.specs.World.{World, standing_at}
-use Rattle.sdd_space.specs.WorldChanges.{with_standing}
+use Rattle.sdd_world_model.specs.World.{World, standing_at}
+use Rattle.sdd_world_model.specs.WorldChanges.{with_standing}
 use Rattle.sdd_space.specs.declared.shared.Shared.{Shared}
 use Rattle.sdd_lists.specs.Ends.{last_value}
 use Rattle.sdd_lists.specs.Lists.{Entry, first_value, left}
@@ -34,7 +34,7 @@ list_cell (any.Queue queue) = (cells_in queue.now).oldest
 list_cell (any.Stack stack) = stacks.cell_in stack.now
 
 -- its cells are of this home
-abbrev pub IsListOf : token.GhostName → AnyList → Type 0
+abbrev pub IsListOf : units.GhostName → AnyList → Type 0
 IsListOf home (any.Queue queue) = AreOfCells home queue.now
 IsListOf home (any.Stack stack) = stacks.home_in stack.now ≡ home
 
@@ -78,12 +78,12 @@ DrainsList w p (any.Queue queue) es second new = DrainsQueue w p (cells_in queue
 DrainsList w p (any.Stack stack) es second new = Drains w p (stacks.cell_in stack.now) es new
 
 -- a push of the number
-abbrev pub PushesNumber : token.GhostName → World Val → ℕ → AnyList → List (Entry Val) → Option ℕ → ℕ → Result (Shared Val) Refused → World Val → Type 0
+abbrev pub PushesNumber : units.GhostName → World Val → ℕ → AnyList → List (Entry Val) → Option ℕ → ℕ → Result (Shared Val) Refused → World Val → Type 0
 PushesNumber home w p x es second number (Ok owner) new = (slots_home owner ≡ home) × PutsOn w p x es second number (slot_of owner) new
 PushesNumber home w p x es second number (Err refused) new = RefusesEntry w refused × (new ≡ w)
 
 -- a pop
-abbrev pub PopsOff : token.GhostName → World Val → ℕ → AnyList → List (Entry Val) → Option ℕ → Result (Option (Shared Val)) Refused → World Val → Type 0
+abbrev pub PopsOff : units.GhostName → World Val → ℕ → AnyList → List (Entry Val) → Option ℕ → Result (Option (Shared Val)) Refused → World Val → Type 0
 PopsOff home w p x es second (Ok None) new = DrainsList w p x es second new
 PopsOff home w p x es second (Ok (Some owner)) new =
     (slots_home owner ≡ home) × ((e : Entry Val) × (slot_of owner ≡ e.slot) × TakesOff w p x es second e new)
@@ -95,14 +95,14 @@ IsAsked v None = Unit {0}
 IsAsked v (Some m) = HasNumber v m
 
 -- a push of the number, if the newest that isn't deleted is m, where that is asked
-abbrev pub PushesIf : token.GhostName → World Val → ℕ → AnyList → List (Entry Val) → Option ℕ → ℕ → Option ℕ → Result (Shared Val) (Option Refused) →
+abbrev pub PushesIf : units.GhostName → World Val → ℕ → AnyList → List (Entry Val) → Option ℕ → ℕ → Option ℕ → Result (Shared Val) (Option Refused) →
     World Val → Type 0
 PushesIf home w p x es second number m (Ok owner) new = IsAsked (newest_value x es) m × PushesNumber home w p x es second number (Ok owner) new
 PushesIf home w p x es second number m (Err None) new = ¬ (IsAsked (newest_value x es) m) × (new ≡ w)
 PushesIf home w p x es second number m (Err (Some refused)) new = IsAsked (newest_value x es) m × PushesNumber home w p x es second number (Err refused) new
 
 -- a pop, if the first that isn't deleted is m, where that is asked
-abbrev pub PopsIf : token.GhostName → World Val → ℕ → AnyList → List (Entry Val) → Option ℕ → Option ℕ → Result (Option (Shared Val)) (Unpopped Body) →
+abbrev pub PopsIf : units.GhostName → World Val → ℕ → AnyList → List (Entry Val) → Option ℕ → Option ℕ → Result (Option (Shared Val)) (Unpopped Body) →
     World Val → Type 0
 PopsIf home w p x es second m (Ok None) new = PopsOff home w p x es second (Ok None) new
 PopsIf home w p x es second m (Ok (Some owner)) new = IsAsked (first_value (left es)) m × PopsOff home w p x es second (Ok (Some owner)) new

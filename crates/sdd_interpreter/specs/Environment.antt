@@ -1,9 +1,9 @@
 -- What the names of a script stand for
 use Rattle.std.specs.Prelude.{ℕ, ◌≡◌, ◌<◌, ◌≤◌, Bool, false, IsSome, IsTrue, List, [], ◌∷◌, ◌++◌, Option, Some, None, length, slice_index, slice_index_or, slice_set, if◌then◌else◌}
 use Rattle.std.specs.Option.{option_map}
-use Rattle.sdd_standings.specs.Slots.{is_waiting}
-use Rattle.sdd_space.specs.OwnerOrCell.{OwnerOrCell}
-use Rattle.sdd_space.specs.World.{World, standing_at}
+use Rattle.sdd_world_model.specs.Slots.{is_waiting}
+use Rattle.sdd_world_model.specs.OwnerOrCell.{OwnerOrCell}
+use Rattle.sdd_world_model.specs.World.{World, standing_at}
 use Rattle.sdd_script_text.specs.declared.name.ItemName.{ItemName}
 use Rattle.sdd_script_text.specs.declared.name.OwnerName.{OwnerName}
 use Rattle.sdd_script_text.specs.declared.call.Value.{Value}
@@ -26,9 +26,9 @@ use Rattle.sdd_space.specs.Shared as shared
 use Rattle.sdd_script_model.specs.declared.val.Body.TheVariants as body
 use Rattle.sdd_script_model.specs.declared.owner_kind.OwnerKind.TheVariants as ownership
 
-abbrev pub attending : Option NamedParticipant → Option OpenSince
-attending None = None
-attending (Some x) = Some (record { place = index_of x.place; since = x.since })
+abbrev pub open_since : Option NamedParticipant → Option OpenSince
+open_since None = None
+open_since (Some x) = Some (record { place = index_of x.place; since = x.since })
 
 abbrev pub guarding : Option NamedGuard → Option OpenSince
 guarding None = None

@@ -2,8 +2,8 @@
 use Rattle.std.specs.Prelude.{ℕ, ◌≡◌}
 use Rattle.sdd_core.specs.Epoch.{epoch_of}
 use Rattle.sdd_participants.specs.EpochState.{has_garbage}
-use Rattle.sdd_space.specs.World.{World, place_at}
-use Rattle.sdd_space.specs.WorldChanges.{accelerated, stirred}
+use Rattle.sdd_world_model.specs.World.{World, place_at}
+use Rattle.sdd_world_model.specs.WorldChanges.{accelerated, stirred}
 use Rattle.sdd_script_text.specs.declared.answer.Reply.{Reply}
 use Rattle.sdd_script_text.specs.declared.answer.Reply.TheVariants as reply
 use Rattle.sdd_script_model.specs.Val.{Val}

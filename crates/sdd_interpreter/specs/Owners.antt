@@ -5,18 +5,18 @@ use Rattle.sdd_lists.specs.Stack as stacks
 use Rattle.sdd_lists.specs.declared.queue.Queue.{Queue}
 use Rattle.sdd_lists.specs.declared.stack.Stack.{Stack}
 use Rattle.sdd_script_model.specs.declared.val.Body.{Body}
-use Rattle.sdd_space.specs.OwnerOrCell.{OwnerOrCell}
+use Rattle.sdd_world_model.specs.OwnerOrCell.{OwnerOrCell}
 use Rattle.sdd_script_model.specs.Held.{holding_first}
 use Rattle.sdd_script_model.specs.declared.owner_kind.OwnerKind.{OwnerKind}
 use Rattle.sdd_interpreter.specs.declared.holding.AnyOwner.{AnyOwner}
 use Rattle.sdd_interpreter.specs.declared.holding.AnyOwner.TheVariants.{Sole, Share}
 use Rattle.sdd_interpreter.specs.declared.holding.AnyCell.{AnyCell}
 use Rattle.sdd_interpreter.specs.declared.holding.CellOwner.{CellOwner}
-use Rattle.sdd_rights.specs.Units as token
+use Rattle.sdd_rights.specs.Units as units
 use Rattle.sdd_space.specs.declared.private_collector.PrivateCollector.{PrivateCollector}
 use Rattle.sdd_space.specs.Collector.{collector_of, cells_home as collectors_home}
 use Rattle.sdd_script_model.specs.Val.{Val}
-use Rattle.sdd_space.specs.OwnerOrCell as holding
+use Rattle.sdd_world_model.specs.OwnerOrCell as holding
 use Rattle.sdd_space.specs.Owned as owned
 use Rattle.sdd_space.specs.Shared as shared
 use Rattle.sdd_script_model.specs.declared.owner_kind.OwnerKind.TheVariants as ownership
@@ -45,7 +45,7 @@ cell_number (cell.Sole c) = owned.cell_of c
 cell_number (cell.Share c) = shared.cell_of c
 
 -- a cell for such owners
-abbrev pub holding_around : OwnerKind → (cell : ℕ) → token.GhostName → OwnerOrCell
+abbrev pub holding_around : OwnerKind → (cell : ℕ) → units.GhostName → OwnerOrCell
 holding_around ownership.Sole c home = holding.atomic_owned c home
 holding_around ownership.Shared c home = holding.atomic_shared c home
 
@@ -59,7 +59,7 @@ filling_kind (filling.Sole o) = ownership.Sole
 filling_kind (filling.Share o) = ownership.Shared
 
 -- what comes out of a cell for such owners that held this
-abbrev pub held_as : OwnerKind → Option ℕ → token.GhostName → Option OwnerOrCell
+abbrev pub held_as : OwnerKind → Option ℕ → units.GhostName → Option OwnerOrCell
 held_as kind held home = option_map (λ k. holding_first kind k home) held
 
 -- a queue, by the cell in which its list begins

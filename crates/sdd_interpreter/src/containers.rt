@@ -5,7 +5,7 @@ ghost use Rattle.sdd_space.specs.Guard.{reader_of};
 ghost use Rattle.sdd_space.specs.Ptr.{PtrIsShown, slot_named};
 ghost use Rattle.sdd_space.specs.Shared.{slot_of, slots_home};
 ghost use Rattle.sdd_space.specs.Undisturbed.{Undisturbed};
-ghost use Rattle.sdd_space.specs.World.{World, value_at};
+ghost use Rattle.sdd_world_model.specs.World.{World, value_at};
 ghost use Rattle.sdd_lists.specs.Lists.{Entry, content, first_slot, left};
 ghost use Rattle.sdd_lists.specs.Walk.{IsWalkOf, ShowsInOrder, shown_of};
 ghost use Rattle.sdd_script_model.specs.Containers.{HasNumber};
@@ -50,13 +50,13 @@ impl AnyList<'_> {
         guard: &'g Guard,
         s: &mut S,
     ) -> Ptr<'g, Val>
-        requires seated { IsSeated (S.seat s.old) }
-        requires home { IsListOf (S.seat s.old).home.cells self }
-        requires reader { reader_of guard.now ≡ (S.seat s.old).reader }
-        ensures undisturbed { Undisturbed S.seat S.own S.known S.shows s.old s.new }
-        ensures world { IsExact (S.seat s.old) → S.world s.new ≡ S.world s.old }
+        requires seated { IsSeated (S.caller s.old) }
+        requires home { IsListOf (S.caller s.old).home.cells self }
+        requires reader { reader_of guard.now ≡ (S.caller s.old).reader }
+        ensures undisturbed { Undisturbed S.caller S.own S.known S.shows s.old s.new }
+        ensures world { IsExact (S.caller s.old) → S.world s.new ≡ S.world s.old }
         ensures shown { PtrIsShown (S.shows s.new) result }
-        ensures list { IsExact (S.seat s.old) → (es : List (Entry Val)) (second : Option ℕ) → HasEntries (S.world s.old) self.entry es second →
+        ensures list { IsExact (S.caller s.old) → (es : List (Entry Val)) (second : Option ℕ) → HasEntries (S.world s.old) self.entry es second →
             slot_named result ≡ first_slot (left es) }
     {
         match self {
@@ -67,12 +67,12 @@ impl AnyList<'_> {
 
     /// How many entries aren't deleted.
     pub fn len<S: Items<Val> + Cells<Val> + LookThrough<Val>>(self, guard: &Guard, s: &mut S) -> u64
-        requires seated { IsSeated (S.seat s.old) }
-        requires home { IsListOf (S.seat s.old).home.cells self }
-        requires reader { reader_of guard.now ≡ (S.seat s.old).reader }
-        ensures undisturbed { Undisturbed S.seat S.own S.known S.shows s.old s.new }
-        ensures world { IsExact (S.seat s.old) → S.world s.new ≡ S.world s.old }
-        ensures list { IsExact (S.seat s.old) → (es : List (Entry Val)) (second : Option ℕ) → HasEntries (S.world s.old) self.entry es second →
+        requires seated { IsSeated (S.caller s.old) }
+        requires home { IsListOf (S.caller s.old).home.cells self }
+        requires reader { reader_of guard.now ≡ (S.caller s.old).reader }
+        ensures undisturbed { Undisturbed S.caller S.own S.known S.shows s.old s.new }
+        ensures world { IsExact (S.caller s.old) → S.world s.new ≡ S.world s.old }
+        ensures list { IsExact (S.caller s.old) → (es : List (Entry Val)) (second : Option ℕ) → HasEntries (S.world s.old) self.entry es second →
             result ≡ length (content es) }
     {
         match self {
@@ -87,13 +87,13 @@ impl AnyList<'_> {
         guard: &'g Guard,
         s: &mut S,
     ) -> Walk<'g, Body>
-        requires seated { IsSeated (S.seat s.old) }
-        requires home { IsListOf (S.seat s.old).home.cells self }
-        requires reader { reader_of guard.now ≡ (S.seat s.old).reader }
-        ensures undisturbed { Undisturbed S.seat S.own S.known S.shows s.old s.new }
-        ensures home { IsWalkOf (S.seat s.old).home.cells result }
-        ensures world { IsExact (S.seat s.old) → S.world s.new ≡ S.world s.old }
-        ensures list { IsExact (S.seat s.old) → (es : List (Entry Val)) (second : Option ℕ) → HasEntries (S.world s.old) self.entry es second →
+        requires seated { IsSeated (S.caller s.old) }
+        requires home { IsListOf (S.caller s.old).home.cells self }
+        requires reader { reader_of guard.now ≡ (S.caller s.old).reader }
+        ensures undisturbed { Undisturbed S.caller S.own S.known S.shows s.old s.new }
+        ensures home { IsWalkOf (S.caller s.old).home.cells result }
+        ensures world { IsExact (S.caller s.old) → S.world s.new ≡ S.world s.old }
+        ensures list { IsExact (S.caller s.old) → (es : List (Entry Val)) (second : Option ℕ) → HasEntries (S.world s.old) self.entry es second →
             ShowsInOrder (S.world s.new) result (shown_of es) }
     {
         match self {

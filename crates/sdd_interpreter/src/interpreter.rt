@@ -28,7 +28,7 @@ pub struct Environment {
 
 /// A script in the middle of a run.
 pub struct Interpreter {
-    pub hand: Environment,
+    pub environment: Environment,
 }
 
 impl Model for Interpreter {
@@ -36,15 +36,15 @@ impl Model for Interpreter {
     ghost use Rattle.sdd_lists.specs.contracts.linked_entry.LinkedEntry as entry;
     ghost use Rattle.sdd_script_model.specs.contracts.val.Body as body;
     ghost use Rattle.sdd_script_model.specs.ScriptState.{ScriptState};
-    ghost use Rattle.sdd_interpreter.specs.Interpreter.{desk_of, IsTied};
+    ghost use Rattle.sdd_interpreter.specs.Interpreter.{state_of, IsTied};
 
     ghost Value = { ScriptState };
 
     ghost coded = { Prim.hlevel (codes, (entry.the_row body.the_row).coded) };
 
-    ghost view = { λ stage. desk_of stage.hand };
+    ghost view = { λ interpreter. state_of interpreter.environment };
 
-    ghost invariant = { λ stage. IsTied stage.hand };
+    ghost invariant = { λ interpreter. IsTied interpreter.environment };
 }
 
 impl Interpreter {
@@ -66,7 +66,7 @@ impl Interpreter {
         let job_dates = vec![in alloc; 0; limits.jobs as usize]?;
         let world = World::new(alloc, limits)?;
         Ok(Interpreter {
-            hand: Environment {
+            environment: Environment {
                 world,
                 places: NameTable::new(alloc),
                 guards: NameTable::new(alloc),
@@ -96,7 +96,7 @@ impl Interpreter {
     pub fn world(&self) -> &World<Val>
         ensures { result.now ≡ self.now.world }
     {
-        &self.hand.world
+        &self.environment.world
     }
 
     /// An answer without endings.
@@ -105,8 +105,8 @@ impl Interpreter {
     {
         Answer {
             reply,
-            reclaimed: Names::new(self.hand.log.alloc),
-            ran: Names::new(self.hand.log.alloc),
+            reclaimed: Names::new(self.environment.log.alloc),
+            ran: Names::new(self.environment.log.alloc),
         }
     }
 }

@@ -3,8 +3,8 @@ ghost use Rattle.std.specs.Prelude.{◌++◌, ◌+◌, ◌&&◌, is_some, ◌≡
 ghost use Rattle.std.specs.List.Sorted.{IsPermutation, IsNonDecreasingBy};
 ghost use Rattle.std.specs.Vec.{vec_capacity};
 ghost use Rattle.sdd_participants.specs.Collecting.{is_private_to};
-ghost use Rattle.sdd_standings.specs.Slots as slots;
-ghost use Rattle.sdd_space.specs.World.{World, standing_at};
+ghost use Rattle.sdd_world_model.specs.Slots as slots;
+ghost use Rattle.sdd_world_model.specs.World.{World, standing_at};
 ghost use Rattle.sdd_script_text.specs.declared.name.ItemName.{ItemName as Named};
 ghost use Rattle.sdd_script_model.specs.declared.val.Body.TheVariants.{Number};
 ghost use Rattle.sdd_script_model.specs.Held.{slots_among, slots_waiting_for};

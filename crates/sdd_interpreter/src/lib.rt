@@ -1,6 +1,6 @@
 //! A script in the middle of a run: what it has in hand by its names, participants, guards, owners, cells and items, and the world that it plays on. Beside
-//! that what each line does in a space, as a value: a [command](commands) over any space, of which it says what must be so and what is so then; and what a
-//! participant does with it at its place of a world, when it is its [turn](turns).
+//! that what each line does in a space, as a value: a [command](commands) over any space, of which it says what must be so and what is so then; a participant
+//! does it at its place of a world, when it is its turn.
 #![tactic(auto)]
 
 pub mod commands;
@@ -13,7 +13,6 @@ pub mod log;
 pub mod name_table;
 pub mod owners;
 pub mod participants;
-pub mod turns;
 
 pub use containers::Lists;
 pub use holding::{AnyCell, AnyList, AnyOwner, CellOwner};

@@ -2,14 +2,14 @@
 ghost use Rattle.std.specs.Prelude.{◌≡◌, ◌<◌, ◌≤◌, ◌^◌, ℕ, false, not, is_some, All, IsSome, None, Some, MatchOption, length, map, slice_index_or, IfOk, IfSome};
 ghost use Rattle.std.specs.List.Sorted.{IsPermutation, IsNonDecreasingBy};
 ghost use Rattle.std.specs.Option.{option_map};
-ghost use Rattle.sdd_space.specs.World.{World, standing_at};
+ghost use Rattle.sdd_world_model.specs.World.{World, standing_at};
 ghost use Rattle.sdd_script_model.specs.Val.{Val, body_of};
 ghost use Rattle.sdd_script_model.specs.Shown.{told_of, item_in, job_in, names_in};
 ghost use Rattle.sdd_script_model.specs.Held.{places_among, slots_among, slots_waiting_for};
 ghost use Rattle.sdd_interpreter.specs.Environment.{IsOfNamed, CanPointAt, CanCompareAt};
 ghost use Rattle.sdd_script_text.specs.declared.name.ItemName.{ItemName as Named};
 ghost use Rattle.sdd_script_text.specs.declared.name.JobName.{JobName as NamedJob};
-ghost use Rattle.sdd_standings.specs.Slots.{is_waiting as waits};
+ghost use Rattle.sdd_world_model.specs.Slots.{is_waiting as waits};
 
 use crate::holding::{slot_of_share, slot_of_sole};
 use crate::items::{is_waiting, items_in, slots_among, slots_for};

@@ -1,7 +1,7 @@
 //! Names of owners and cells: what they stand for, and how they are spent and given.
 ghost use Rattle.std.specs.Prelude.{◌≡◌, ◌≢◌, ℕ, IsTrue, ◌↔◌, None, Some, MatchOption, map, slice_index_or, slice_set, vec_capacity, ◌<◌, length};
-ghost use Rattle.sdd_space.specs.World.{World, value_at};
-ghost use Rattle.sdd_space.specs.OwnerOrCell.{IsOf};
+ghost use Rattle.sdd_world_model.specs.World.{World, value_at};
+ghost use Rattle.sdd_world_model.specs.OwnerOrCell.{IsOf};
 ghost use Rattle.std.specs.Option.{option_map};
 ghost use Rattle.sdd_interpreter.specs.Owners.{owner_holding, filling_holding};
 ghost use Rattle.sdd_interpreter.specs.Environment.{FitsIn, Fills, IsMissing, BecomesBody, IsGiven, given_back, CanPutBack, owners_back};

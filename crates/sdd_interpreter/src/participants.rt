@@ -2,7 +2,7 @@
 ghost use Rattle.std.specs.Prelude.{◌≡◌, ◌≢◌, ◌<◌, ℕ, IfSome, None, Some, MatchOption, length, map, slice_index_or, if◌then◌else◌};
 ghost use Rattle.sdd_world.specs.Place.{index_of};
 ghost use Rattle.sdd_interpreter.specs.declared.participants.NamedGuard.{NamedGuard as Held};
-ghost use Rattle.sdd_interpreter.specs.Environment.{attending, guarding, opened_since, AreOpen};
+ghost use Rattle.sdd_interpreter.specs.Environment.{open_since, guarding, opened_since, AreOpen};
 
 use crate::name_table::NameTable;
 use sdd_script_text::{GuardName, PlaceName};
@@ -36,15 +36,15 @@ pub fn under<'p, 'g>(
     guard: GuardName,
 ) -> Option<(&'p NamedParticipant, &'g NamedGuard)>
     ensures valid { MatchOption result
-        (¬ (AreOpen (map attending places.now.entries.items) (map guarding guards.now.entries.items) name.0 guard.0))
-        (λ _. AreOpen (map attending places.now.entries.items) (map guarding guards.now.entries.items) name.0 guard.0) }
-    ensures found { IfSome result (λ found. (attending (Some found.0.now) ≡ slice_index_or (map attending places.now.entries.items) name.0 None)
+        (¬ (AreOpen (map open_since places.now.entries.items) (map guarding guards.now.entries.items) name.0 guard.0))
+        (λ _. AreOpen (map open_since places.now.entries.items) (map guarding guards.now.entries.items) name.0 guard.0) }
+    ensures found { IfSome result (λ found. (open_since (Some found.0.now) ≡ slice_index_or (map open_since places.now.entries.items) name.0 None)
         × (slice_index_or guards.now.entries.items guard.0 None ≡ Some found.1.now) × (found.1.now.place ≡ index_of found.0.now.place)) }
 {
-    let attending = places.get(name.0)?;
+    let participant = places.get(name.0)?;
     let held = guards.get(guard.0)?;
-    if held.place == attending.place.index() {
-        Some((attending, held))
+    if held.place == participant.place.index() {
+        Some((participant, held))
     } else {
         None
     }
@@ -73,14 +73,14 @@ pub fn under_any<'p, 'g>(
     name: PlaceName,
 ) -> Option<(&'p NamedParticipant, &'g NamedGuard)>
     ensures { MatchOption result
-        ((g : ℕ) → ¬ (AreOpen (map attending places.now.entries.items) (map guarding guards.now.entries.items) name.0 g))
-        (λ found. (attending (Some found.0.now) ≡ slice_index_or (map attending places.now.entries.items) name.0 None)
+        ((g : ℕ) → ¬ (AreOpen (map open_since places.now.entries.items) (map guarding guards.now.entries.items) name.0 g))
+        (λ found. (open_since (Some found.0.now) ≡ slice_index_or (map open_since places.now.entries.items) name.0 None)
         × (found.1.now.place ≡ index_of found.0.now.place) × ((g : ℕ) × (slice_index_or guards.now.entries.items g None ≡ Some found.1.now)
-        × AreOpen (map attending places.now.entries.items) (map guarding guards.now.entries.items) name.0 g)) }
+        × AreOpen (map open_since places.now.entries.items) (map guarding guards.now.entries.items) name.0 g)) }
 {
-    let attending = places.get(name.0)?;
-    let held = guard_of(guards, attending.place.index())?;
-    Some((attending, held))
+    let participant = places.get(name.0)?;
+    let held = guard_of(guards, participant.place.index())?;
+    Some((participant, held))
 }
 
 /// An opening that isn't nested is the participant's last outermost one, in this line.
@@ -91,13 +91,13 @@ pub fn note_opening(
     is_nested: bool,
 )
     requires { name < length places.old.entries.items }
-    ensures { map attending places.new.entries.items
-        ≡ (if is_nested then map attending places.old.entries.items else opened_since (map attending places.old.entries.items) name since) }
+    ensures { map open_since places.new.entries.items
+        ≡ (if is_nested then map open_since places.old.entries.items else opened_since (map open_since places.old.entries.items) name since) }
 {
     if is_nested {
         return;
     }
-    if let Some(attending) = &mut places.entries[name as usize] {
-        attending.since = since;
+    if let Some(participant) = &mut places.entries[name as usize] {
+        participant.since = since;
     }
 }

@@ -3,7 +3,7 @@ use Rattle.std.proofs.Common.{◌≡◌, ◌≢◌, ℕ, List, [], ◌∷◌, So
 use Rattle.sdd_core.specs.declared.tag.Tag.{Tag}
 use Rattle.sdd_participants.specs.Slab.{entry_at}
 use Rattle.sdd_participants.specs.declared.standing.CellContents.{CellContents}
-use Rattle.sdd_space.specs.World.{World, value_at}
+use Rattle.sdd_world_model.specs.World.{World, value_at}
 use Rattle.sdd_lists.specs.declared.linked_entry.LinkedEntry.{LinkedEntry}
 use Rattle.sdd_lists.specs.declared.walk.Walk.{Walk}
 use Rattle.sdd_lists.specs.Cloning.{AreBeside, IsBeside}

@@ -6,9 +6,9 @@ use Rattle.sdd_core.specs.declared.tag.Tag.TheVariants as tag
 use Rattle.sdd_participants.specs.Slab.{Entries, IsEmptyAt, entry_at}
 use Rattle.sdd_participants.specs.declared.standing.CellContents.{CellContents}
 use Rattle.sdd_participants.specs.declared.standing.Standing.TheVariants.{Shared as shared_by}
-use Rattle.sdd_space.specs.World.{World, standing_at, value_at}
+use Rattle.sdd_world_model.specs.World.{World, standing_at, value_at}
 use Rattle.sdd_space.specs.Shared.{slot_of}
-use Rattle.sdd_space.specs.WorldChanges.{made_as, nulled, with_cell}
+use Rattle.sdd_world_model.specs.WorldChanges.{made_as, nulled, with_cell}
 use Rattle.sdd_lists.specs.declared.linked_entry.LinkedEntry.{LinkedEntry}
 use Rattle.sdd_lists.specs.declared.walk.Walk.{Walk}
 use Rattle.sdd_lists.specs.Cloning.{AreBeside, IsBeside, IsQueueBeside, IsSecondBeside}
@@ -19,10 +19,10 @@ use Rattle.sdd_lists.specs.Queue.{IsQueue, IsSecond, QueueCells, made_newest}
 use Rattle.sdd_lists.specs.QueueFilling.{AddsBehind}
 use Rattle.sdd_lists.specs.Walk.{StandsBefore}
 use Rattle.sdd_lists.proofs.Beside.{beside-still, cell-still, links-still, list-still, standing-still}
-use Rattle.sdd_lists.proofs.Ending.{appended-other, apart-last, apart-through, put-values}
-use Rattle.sdd_lists.proofs.Fresh.{fresh-queue}
-use Rattle.sdd_lists.proofs.Leaving.{spilled-cells, spilled-values}
-use Rattle.sdd_lists.proofs.LetGo.{KeepsGone, gone, gone-then, gone-written, other-free}
+use Rattle.sdd_lists.proofs.Ends.{appended-other, apart-last, apart-through, put-values}
+use Rattle.sdd_lists.proofs.FreshLinks.{fresh-queue}
+use Rattle.sdd_lists.proofs.QueuePops.{spilled-cells, spilled-values}
+use Rattle.sdd_lists.proofs.GoneEntries.{KeepsGone, gone, gone-then, gone-written, other-free}
 use Rattle.sdd_lists.proofs.Lists.{bare}
 
 -- what a second cell holds is one of these, or was let go of

@@ -3,8 +3,8 @@ use Rattle.std.proofs.Common.{◌≡◌, ℕ, List, [], ◌∷◌, ◌++◌, Opt
 use Rattle.std.specs.Iterator.{Yields}
 use Rattle.std.proofs.lemmas.List.{reverse-append}
 use Rattle.sdd_core.specs.declared.tag.Tag.TheVariants as tag
-use Rattle.sdd_space.specs.World.{World, standing_at}
-use Rattle.sdd_space.specs.WorldChanges.{owner_given}
+use Rattle.sdd_world_model.specs.World.{World, standing_at}
+use Rattle.sdd_world_model.specs.WorldChanges.{owner_given}
 use Rattle.sdd_space.specs.Shared.{slot_of}
 use Rattle.sdd_space.specs.declared.shared.Shared.{Shared}
 use Rattle.sdd_lists.specs.declared.linked_entry.LinkedEntry.{LinkedEntry}
@@ -14,7 +14,7 @@ use Rattle.sdd_lists.specs.Lists.{Entry, left}
 use Rattle.sdd_lists.specs.Stack.{IsStack, PushesOnto}
 use Rattle.sdd_lists.specs.Walk.{shown_of}
 use Rattle.sdd_lists.proofs.Lists.{bare, list-same}
-use Rattle.sdd_lists.proofs.Walking.{shown-left}
+use Rattle.sdd_lists.proofs.WalkPositions.{shown-left}
 
 -- a further step of an iterator, behind those that it made
 pub yields-more : {I A : Type 0} (next : I → Option A → I → Type 0) (start : I) (xs : List A) (i j : I) (x : A) → Yields next start xs i →

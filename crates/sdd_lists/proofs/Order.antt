@@ -3,13 +3,13 @@ use Rattle.std.proofs.Common.{◌≡◌, ℕ, List, [], ◌∷◌, ◌++◌, len
 use Rattle.std.specs.Prelude.{if◌then◌else◌}
 use Rattle.std.proofs.lemmas.List.{append-nil, reverse-append}
 use Rattle.sdd_core.specs.declared.tag.Tag.TheVariants as tag
-use Rattle.sdd_space.specs.World.{World}
+use Rattle.sdd_world_model.specs.World.{World}
 use Rattle.sdd_lists.specs.Ends.{is_spent, through_last}
 use Rattle.sdd_lists.specs.Histories.{IsInOrder, IsPartOf, no_more, kept, left_out, IsReversed, QueueHistory, begins, pushes, pops, clears, deletes, others, StackHistory, begins_at, pushes_on, pops_off, drains, deletes_one, others_call, values_of}
 use Rattle.sdd_lists.specs.Lists.{Entry, is_deleted, left}
 use Rattle.sdd_lists.specs.Queue.{QueueCells}
-use Rattle.sdd_lists.proofs.Ending.{both}
-use Rattle.sdd_lists.proofs.Popping.{stays-of}
+use Rattle.sdd_lists.proofs.Ends.{both}
+use Rattle.sdd_lists.proofs.PoppedLists.{stays-of}
 
 module _ {T : Type 0} where
   part-self : (xs : List T) → IsPartOf xs xs

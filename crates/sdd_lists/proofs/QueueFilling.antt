@@ -3,8 +3,8 @@ use Rattle.std.proofs.Common.{◌≡◌, ℕ, List, [], ◌∷◌, ◌++◌, Opt
 use Rattle.std.specs.Prelude.{map}
 use Rattle.std.proofs.lemmas.List.{append-nil, map-append}
 use Rattle.sdd_core.specs.declared.tag.Tag.TheVariants as tag
-use Rattle.sdd_space.specs.World.{World, standing_at}
-use Rattle.sdd_space.specs.WorldChanges.{owner_given}
+use Rattle.sdd_world_model.specs.World.{World, standing_at}
+use Rattle.sdd_world_model.specs.WorldChanges.{owner_given}
 use Rattle.sdd_space.specs.Shared.{slot_of}
 use Rattle.sdd_space.specs.declared.shared.Shared.{Shared}
 use Rattle.sdd_lists.specs.declared.linked_entry.LinkedEntry.{LinkedEntry}
@@ -15,7 +15,7 @@ use Rattle.sdd_lists.specs.Lists.{Entry}
 use Rattle.sdd_lists.specs.Queue.{IsQueue, PushesBehind, QueueCells}
 use Rattle.sdd_lists.specs.QueueFilling.{AddsBehind, FillsQueue, begins_behind, adds_behind}
 use Rattle.sdd_lists.specs.Walk.{shown_of}
-use Rattle.sdd_lists.proofs.Leaving.{queue-same}
+use Rattle.sdd_lists.proofs.QueuePops.{queue-same}
 use Rattle.sdd_lists.proofs.Lists.{bare}
 use Rattle.sdd_lists.proofs.Order.{values-push}
 

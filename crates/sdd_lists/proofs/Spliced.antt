@@ -3,15 +3,15 @@ use Rattle.std.proofs.Common.{◌≡◌, ◌≢◌, ◌⊎◌, inl, inr, eq-eqb,
 use Rattle.std.specs.Prelude.{◌==◌}
 use Rattle.sdd_core.specs.declared.tag.Tag.{Tag}
 use Rattle.sdd_core.specs.declared.tag.Tag.TheVariants as tag
-use Rattle.sdd_space.specs.World.{World}
+use Rattle.sdd_world_model.specs.World.{World}
 use Rattle.sdd_participants.specs.declared.standing.CellContents.{CellContents}
 use Rattle.sdd_participants.specs.Slab.{entry_at}
 use Rattle.sdd_lists.specs.Behind.{spliced}
 use Rattle.sdd_lists.specs.Ends.{EndsWith, IsAmong}
 use Rattle.sdd_lists.specs.Lists.{Apart, AreLinked, Entry, IsList, first_slot}
 use Rattle.sdd_lists.specs.Queue.{IsLetGo, IsQueue, QueueCells}
-use Rattle.sdd_lists.proofs.Ending.{apart-ends, linked-ends, shorter}
-use Rattle.sdd_lists.proofs.LetGo.{KeepsGone, second-kept}
+use Rattle.sdd_lists.proofs.Ends.{apart-ends, linked-ends, shorter}
+use Rattle.sdd_lists.proofs.GoneEntries.{KeepsGone, second-kept}
 use Rattle.sdd_lists.proofs.Lists.{apart, as-long}
 
 module _ {T : Type 0} (link : T → ℕ) (w new : World T) (e : Entry T) (rest : List (Entry T)) (f : Entry T) (others : List (Entry T))

@@ -6,8 +6,8 @@ use Rattle.sdd_core.specs.declared.tag.Tag.TheVariants as tag
 use Rattle.sdd_participants.specs.Slab.{Entries, IsEmptyAt, entry_at}
 use Rattle.sdd_participants.specs.declared.standing.CellContents.{CellContents}
 use Rattle.sdd_participants.specs.declared.standing.Standing.TheVariants.{Shared as shared_by}
-use Rattle.sdd_space.specs.World.{World, standing_at, value_at}
-use Rattle.sdd_space.specs.WorldChanges.{made_as, nulled}
+use Rattle.sdd_world_model.specs.World.{World, standing_at, value_at}
+use Rattle.sdd_world_model.specs.WorldChanges.{made_as, nulled}
 use Rattle.sdd_lists.specs.declared.linked_entry.LinkedEntry.{LinkedEntry}
 use Rattle.sdd_lists.specs.declared.walk.Walk.{Walk}
 use Rattle.sdd_lists.specs.Cloning.{AreBeside, IsBeside}
@@ -20,8 +20,8 @@ use Rattle.sdd_lists.specs.StackCloning.{AppendsTo, ExtendsStack, IsStackBeside,
 use Rattle.sdd_lists.specs.Walk.{StandsBefore, shown_of}
 use Rattle.sdd_lists.proofs.Beside.{beside-still, links-still, list-still, standing-still}
 use Rattle.sdd_lists.proofs.Cloning.{beside-new, links-new}
-use Rattle.sdd_lists.proofs.Ending.{appended-other, apart-last, apart-through, put-values}
-use Rattle.sdd_lists.proofs.Fresh.{fresh-list}
+use Rattle.sdd_lists.proofs.Ends.{appended-other, apart-last, apart-through, put-values}
+use Rattle.sdd_lists.proofs.FreshLinks.{fresh-list}
 use Rattle.sdd_lists.proofs.Lists.{bare}
 use Rattle.sdd_lists.proofs.Order.{values-push}
 

@@ -4,8 +4,8 @@ use Rattle.std.specs.Prelude.{drop, map, slice_get, Result, Ok, Err, IfOk, IfErr
 use Rattle.std.proofs.lemmas.List.{map-append}
 use Rattle.sdd_core.specs.declared.refused.Refused.{Refused}
 use Rattle.sdd_core.specs.declared.tag.Tag.TheVariants as tag
-use Rattle.sdd_space.specs.World.{World, standing_at, value_at}
-use Rattle.sdd_space.specs.WorldChanges.{owner_given}
+use Rattle.sdd_world_model.specs.World.{World, standing_at, value_at}
+use Rattle.sdd_world_model.specs.WorldChanges.{owner_given}
 use Rattle.sdd_space.specs.Shared.{slot_of}
 use Rattle.sdd_space.specs.declared.shared.Shared.{Shared}
 use Rattle.sdd_lists.specs.declared.linked_entry.LinkedEntry.{LinkedEntry}
@@ -18,10 +18,10 @@ use Rattle.sdd_lists.specs.Queue.{Dequeues, IsCleared, IsDequeued, PushesBehind,
 use Rattle.sdd_lists.specs.Stack.{PushesOnto, cell_in}
 use Rattle.sdd_lists.specs.Values.{QueueHas, ReleasesKeepValues, StackHas}
 use Rattle.sdd_lists.specs.Walk.{shown_of}
-use Rattle.sdd_lists.proofs.Leaving.{queue-same}
+use Rattle.sdd_lists.proofs.QueuePops.{queue-same}
 use Rattle.sdd_lists.proofs.Lists.{bare, list-same}
 use Rattle.sdd_lists.proofs.Order.{values-push}
-use Rattle.sdd_lists.proofs.Walking.{left-left, linked-left, shown-first, shown-left}
+use Rattle.sdd_lists.proofs.WalkPositions.{left-left, linked-left, shown-first, shown-left}
 
 pub released-values : (T : Type 0) → ReleasesKeepValues T
 released-values T = record {

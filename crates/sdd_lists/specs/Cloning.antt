@@ -4,8 +4,8 @@ use Rattle.std.specs.List.{AllZip}
 use Rattle.sdd_core.specs.declared.refused.Refused.{Refused}
 use Rattle.sdd_core.specs.declared.refused.Refused.TheVariants.{NoCell, NoMemory}
 use Rattle.sdd_participants.specs.Slab.{IsEmptyAt, IsFull}
-use Rattle.sdd_space.specs.World.{World}
-use Rattle.sdd_space.specs.WorldChanges.{nulled}
+use Rattle.sdd_world_model.specs.World.{World}
+use Rattle.sdd_world_model.specs.WorldChanges.{nulled}
 use Rattle.sdd_lists.specs.declared.linked_entry.LinkedEntry.{LinkedEntry}
 use Rattle.sdd_lists.specs.declared.queue.Queue.{Queue}
 use Rattle.sdd_lists.specs.declared.unfinished.Unfinished.{Unfinished}

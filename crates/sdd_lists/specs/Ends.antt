@@ -1,7 +1,7 @@
 -- The end of a list, and what is put there
 use Rattle.std.specs.Prelude.{ℕ, ◌≡◌, ◌⊎◌, Bool, true, false, List, [], ◌∷◌, Option, None, Some, if◌then◌else◌}
 use Rattle.sdd_core.specs.declared.tag.Tag.{Tag}
-use Rattle.sdd_space.specs.World.{World}
+use Rattle.sdd_world_model.specs.World.{World}
 use Rattle.sdd_lists.specs.Lists.{Entry, is_deleted, linked_in, trimmed}
 
 -- a cell and its tag, and the entries that begin there

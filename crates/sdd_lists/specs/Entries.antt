@@ -1,15 +1,15 @@
 -- What an entry holds
 use Rattle.std.specs.Prelude.{ℕ, List, [], ◌∷◌, ◌++◌}
-use Rattle.sdd_space.specs.OwnerOrCell.{OwnerOrCell}
+use Rattle.sdd_world_model.specs.OwnerOrCell.{OwnerOrCell}
 use Rattle.sdd_space.specs.Shared.{cell_of, cells_home, cell_holding}
-use Rattle.sdd_rights.specs.Units as token
+use Rattle.sdd_rights.specs.Units as units
 use Rattle.sdd_lists.specs.declared.linked_entry.LinkedEntry.{LinkedEntry, out-LinkedEntry, roll-LinkedEntry}
 
 module _ {T : Type 0} where
   abbrev pub link_of : LinkedEntry T → ℕ
   link_of e = cell_of (out-LinkedEntry T e).next
 
-  abbrev pub link_home_of : LinkedEntry T → token.GhostName
+  abbrev pub link_home_of : LinkedEntry T → units.GhostName
   link_home_of e = cells_home (out-LinkedEntry T e).next
 
   abbrev pub value_of : LinkedEntry T → T

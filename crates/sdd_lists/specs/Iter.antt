@@ -2,10 +2,10 @@
 use Rattle.std.specs.Prelude.{ℕ, ◌≡◌, ◌≤◌, List, Option, IfSome, drop, length, option_copied, slice_get}
 use Rattle.std.specs.Borrow.{Bor}
 use Rattle.sdd_rights.specs.Right.{home_of}
-use Rattle.sdd_rights.specs.Units as token
-use Rattle.sdd_standings.specs.Cells.{slot_held}
+use Rattle.sdd_rights.specs.Units as units
+use Rattle.sdd_world_model.specs.Cells.{slot_held}
 use Rattle.sdd_space.specs.CallerId.{CallerId, IsExact}
-use Rattle.sdd_space.specs.World.{World}
+use Rattle.sdd_world_model.specs.World.{World}
 use Rattle.sdd_lists.specs.declared.iter.Iter.{Iter}
 use Rattle.sdd_lists.specs.declared.linked_entry.LinkedEntry.{LinkedEntry}
 use Rattle.sdd_lists.specs.Entries.{link_of}
@@ -22,7 +22,7 @@ module _ {T S : Type 0} where
   values_left it = it.most
 
   -- the entry that is next, if there is one, is in one of these slots
-  abbrev pub IsIterOf : token.GhostName → Iter T S → Type 0
+  abbrev pub IsIterOf : units.GhostName → Iter T S → Type 0
   IsIterOf home it = IfSome it.next.now (λ owner. home_of owner ≡ home)
 
   -- it is before these entries, of which some may be deleted
@@ -38,10 +38,10 @@ module _ {T S : Type 0} where
     pub before : IsBefore w it entries
     pub values : vs ≡ shown_of entries
 
-  module _ (seat : S → CallerId) (world : S → World (LinkedEntry T)) where
+  module _ (caller : S → CallerId) (world : S → World (LinkedEntry T)) where
     -- it looks at the same space, in which it gives what is first, and then what is behind that; at the end it stays, and may be asked again
     pub record GoesInOrder (it : Iter T S) (given : Option (Bor T)) (after : Iter T S) : Type 0 where
       pub space : after.space ≡ it.space
-      pub home : IsIterOf (seat it.space.now).home.slots it → IsIterOf (seat after.space.now).home.slots after
-      pub gives : IsExact (seat it.space.now) → (vs : List T) → GivesInOrder (world it.space.now) it vs →
+      pub home : IsIterOf (caller it.space.now).home.slots it → IsIterOf (caller after.space.now).home.slots after
+      pub gives : IsExact (caller it.space.now) → (vs : List T) → GivesInOrder (world it.space.now) it vs →
           (option_copied given ≡ slice_get vs 0) × GivesInOrder (world it.space.now) after (drop 1 vs)

@@ -2,12 +2,12 @@
 use Rattle.std.specs.Prelude.{ℕ, ◌≡◌, ◌≢◌, ◌<◌, ◌+◌, ◌^◌, Bool, true, false, List, [], ◌∷◌, Option, None, Some, Result, Ok, Err, filter, not, if◌then◌else◌}
 use Rattle.sdd_core.specs.declared.tag.Tag.{Tag}
 use Rattle.sdd_core.specs.declared.tag.Tag.TheVariants as tag
-use Rattle.sdd_space.specs.World.{World, standing_at, value_at}
-use Rattle.sdd_standings.specs.Slots.{IsSharedBy}
+use Rattle.sdd_world_model.specs.World.{World, standing_at, value_at}
+use Rattle.sdd_world_model.specs.Slots.{IsSharedBy}
 use Rattle.sdd_participants.specs.Slab.{IsEmptyAt, entry_at}
 use Rattle.sdd_space.specs.Shared.{slot_of}
 use Rattle.sdd_participants.specs.declared.standing.Standing.TheVariants.{Shared as shared_by}
-use Rattle.sdd_space.specs.WorldChanges.{made_as, owner_given, with_cell, with_standing}
+use Rattle.sdd_world_model.specs.WorldChanges.{made_as, owner_given, with_cell, with_standing}
 use Rattle.sdd_space.specs.declared.shared.Shared.{Shared}
 use Rattle.sdd_core.specs.declared.refused.Refused.{Refused}
 use Rattle.sdd_core.specs.declared.refused.Refused.TheVariants.{TooManyOwners}

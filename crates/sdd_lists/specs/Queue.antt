@@ -2,14 +2,14 @@
 use Rattle.std.specs.Prelude.{ℕ, ◌+◌, ◌^◌, ◌≡◌, ◌≢◌, ◌⊎◌, ◌<◌, ◌==◌, Bool, true, false, List, [], ◌∷◌, ◌++◌, Option, None, Some, Result, Ok, Err, if◌then◌else◌}
 use Rattle.sdd_core.specs.declared.tag.Tag.TheVariants as tag
 use Rattle.sdd_core.specs.declared.refused.Refused.{Refused}
-use Rattle.sdd_space.specs.World.{World, standing_at, value_at}
+use Rattle.sdd_world_model.specs.World.{World, standing_at, value_at}
 use Rattle.sdd_space.specs.Shared.{cell_of, cells_home, slot_of}
-use Rattle.sdd_space.specs.WorldChanges.{made_as, nulled, spilled, with_cell, with_standing, without_cell}
+use Rattle.sdd_world_model.specs.WorldChanges.{made_as, nulled, spilled, with_cell, with_standing, without_cell}
 use Rattle.sdd_space.specs.declared.shared.Shared.{Shared}
-use Rattle.sdd_standings.specs.Slots.{IsSharedBy}
+use Rattle.sdd_world_model.specs.Slots.{IsSharedBy}
 use Rattle.sdd_participants.specs.Slab.{Entries, IsEmptyAt, entry_at}
 use Rattle.sdd_participants.specs.declared.standing.Standing.TheVariants.{Shared as shared_by}
-use Rattle.sdd_rights.specs.Units as token
+use Rattle.sdd_rights.specs.Units as units
 use Rattle.sdd_lists.specs.declared.linked_entry.LinkedEntry.{LinkedEntry}
 use Rattle.sdd_lists.specs.declared.queue.Queue.{Queue}
 use Rattle.sdd_lists.specs.declared.unpopped.Unpopped.{Unpopped}
@@ -32,7 +32,7 @@ module _ {T : Type 0} where
   cells_in queue = record { oldest = cell_of queue.oldest; newest = cell_of queue.newest }
 
   -- both cells are of these
-  pub record AreOfCells (home : token.GhostName) (queue : Queue T) : Type 0 where
+  pub record AreOfCells (home : units.GhostName) (queue : Queue T) : Type 0 where
     pub oldest : cells_home queue.oldest ≡ home
     pub newest : cells_home queue.newest ≡ home
 

@@ -4,8 +4,8 @@ use Rattle.std.specs.Iterator.{YieldsThen}
 use Rattle.sdd_core.specs.declared.refused.Refused.TheVariants.{NoCell}
 use Rattle.sdd_core.specs.declared.tag.Tag.TheVariants as tag
 use Rattle.sdd_participants.specs.Slab.{IsEmptyAt}
-use Rattle.sdd_space.specs.World.{World, standing_at}
-use Rattle.sdd_space.specs.WorldChanges.{nulled, owner_given}
+use Rattle.sdd_world_model.specs.World.{World, standing_at}
+use Rattle.sdd_world_model.specs.WorldChanges.{nulled, owner_given}
 use Rattle.sdd_space.specs.Shared.{slot_of}
 use Rattle.sdd_space.specs.declared.shared.Shared.{Shared}
 use Rattle.sdd_lists.specs.declared.linked_entry.LinkedEntry.{LinkedEntry}

@@ -1,12 +1,12 @@
 -- Where a stack begins, and what a push onto it makes
 use Rattle.std.specs.Prelude.{ℕ, ◌≡◌, Bool, true, false, List, ◌∷◌, Option, None, Some, Result, Ok, Err}
 use Rattle.sdd_space.specs.Shared.{cell_of, cells_home, slot_of}
-use Rattle.sdd_space.specs.WorldChanges.{nulled, with_cell}
-use Rattle.sdd_space.specs.World.{World}
+use Rattle.sdd_world_model.specs.WorldChanges.{nulled, with_cell}
+use Rattle.sdd_world_model.specs.World.{World}
 use Rattle.sdd_space.specs.declared.shared.Shared.{Shared}
 use Rattle.sdd_core.specs.declared.tag.Tag.TheVariants as tag
 use Rattle.sdd_participants.specs.Slab.{IsEmptyAt}
-use Rattle.sdd_rights.specs.Units as token
+use Rattle.sdd_rights.specs.Units as units
 use Rattle.sdd_lists.specs.declared.linked_entry.LinkedEntry.{LinkedEntry}
 use Rattle.sdd_lists.specs.declared.stack.Stack.{Stack}
 use Rattle.sdd_lists.specs.declared.unpopped.Unpopped.{Unpopped}
@@ -18,7 +18,7 @@ module _ {T : Type 0} where
   abbrev pub cell_in : Stack T → ℕ
   cell_in stack = cell_of stack.newest
 
-  abbrev pub home_in : Stack T → token.GhostName
+  abbrev pub home_in : Stack T → units.GhostName
   home_in stack = cells_home stack.newest
 
   -- the stack has these entries, the newest first

@@ -1,7 +1,7 @@
 -- Where a walk is, and what it shows
 use Rattle.std.specs.Prelude.{ℕ, ◌≡◌, ◌≤◌, List, [], ◌∷◌, MatchOption, Option, IfSome, None, Some, length, map}
-use Rattle.sdd_rights.specs.Units as token
-use Rattle.sdd_space.specs.World.{World}
+use Rattle.sdd_rights.specs.Units as units
+use Rattle.sdd_world_model.specs.World.{World}
 use Rattle.sdd_space.specs.Shared.{cell_of, cells_home}
 use Rattle.sdd_lists.specs.declared.linked_entry.LinkedEntry.{LinkedEntry}
 use Rattle.sdd_lists.specs.declared.walk.Walk.{Walk}
@@ -24,7 +24,7 @@ module _ {T : Type 0} where
   steps_left walk = walk.most
 
   -- the entry that it shows next, if it does, is of these cells
-  abbrev pub IsWalkOf : token.GhostName → Walk T → Type 0
+  abbrev pub IsWalkOf : units.GhostName → Walk T → Type 0
   IsWalkOf home walk = IfSome walk.next (λ f. cells_home f.link.now ≡ home)
 
   -- it is before these entries, the first of which isn't deleted

@@ -6,13 +6,13 @@ ghost use Rattle.sdd_participants.specs.Slab.{entry_at};
 ghost use Rattle.sdd_participants.specs.declared.standing.CellContents.{CellContents};
 ghost use Rattle.sdd_space.specs.CallerId.{IsSeated, IsExact};
 ghost use Rattle.sdd_space.specs.Guard.{reader_of};
-ghost use Rattle.sdd_space.specs.ParticipantChanges.{KeepsMoreWaiting};
+ghost use Rattle.sdd_world_model.specs.ParticipantChanges.{KeepsMoreWaiting};
 ghost use Rattle.sdd_space.specs.Ptr.{PtrIsShown, slot_named, tag_of};
 ghost use Rattle.sdd_space.specs.Refusals.{IsContended};
 ghost use Rattle.sdd_space.specs.Shared.{IsOfSlots, cell_of, cells_home, right_of, slot_of, slots_home};
 ghost use Rattle.sdd_space.specs.Undisturbed.{Unmoved};
-ghost use Rattle.sdd_space.specs.World.{standing_at};
-ghost use Rattle.sdd_standings.specs.Slots.{IsSharedBy};
+ghost use Rattle.sdd_world_model.specs.World.{standing_at};
+ghost use Rattle.sdd_world_model.specs.Slots.{IsSharedBy};
 ghost use Rattle.sdd_lists.specs.Behind.{IsFresh, IsLinkedBehind, IsReached, Reaches, mark_tag};
 ghost use Rattle.sdd_lists.specs.Lists.{Entry, IsCrowded, IsList, left, linked_in};
 ghost use Rattle.sdd_lists.specs.Marks.{says_deleted};
@@ -39,15 +39,15 @@ fn put_behind_link<'g, T: LinkedList, S: Items<T> + Cells<T> + LookThrough<T>>(
     guard: &'g Guard,
     s: &mut S,
 ) -> Ptr<'g, T>
-    requires seated { IsSeated (S.seat s.old) }
-    requires home { cells_home link.now ≡ (S.seat s.old).home.cells }
-    requires owner { slots_home entry ≡ (S.seat s.old).home.slots }
-    requires reader { reader_of guard.now ≡ (S.seat s.old).reader }
-    ensures unmoved { Unmoved S.seat S.known S.shows s.old s.new }
+    requires seated { IsSeated (S.caller s.old) }
+    requires home { cells_home link.now ≡ (S.caller s.old).home.cells }
+    requires owner { slots_home entry ≡ (S.caller s.old).home.slots }
+    requires reader { reader_of guard.now ≡ (S.caller s.old).reader }
+    ensures unmoved { Unmoved S.caller S.known S.shows s.old s.new }
     ensures own { KeepsMoreWaiting (S.own s.old) (S.own s.new) }
     ensures shown { PtrIsShown (S.shows s.new) result }
     ensures slot { (slot_named result ≡ Some (slot_of entry)) × (tag_of result ≡ tag) }
-    ensures list { IsExact (S.seat s.old) → (t : Tag) (es : List (Entry T)) (v : T) → IsList T.link (S.world s.old) (cell_of link.now) t es →
+    ensures list { IsExact (S.caller s.old) → (t : Tag) (es : List (Entry T)) (v : T) → IsList T.link (S.world s.old) (cell_of link.now) t es →
         IsFresh T.link (S.world s.old) (slot_of entry) v (cell_of link.now) es → t ≢ deleting →
         IsLinkedBehind T.link (S.world s.old) (cell_of link.now) tag es (slot_of entry) v (S.world s.new) }
 {
@@ -66,18 +66,18 @@ pub(crate) fn link_behind<'g, T: LinkedList, S: Items<T> + Cells<T> + LookThroug
     guard: &'g Guard,
     s: &mut S,
 ) -> Result<Ptr<'g, T>, (Shared<T>, Option<Refused>)>
-    requires seated { IsSeated (S.seat s.old) }
-    requires home { cells_home link.now ≡ (S.seat s.old).home.cells }
-    requires owner { slots_home entry ≡ (S.seat s.old).home.slots }
-    requires reader { reader_of guard.now ≡ (S.seat s.old).reader }
-    ensures unmoved { Unmoved S.seat S.known S.shows s.old s.new }
+    requires seated { IsSeated (S.caller s.old) }
+    requires home { cells_home link.now ≡ (S.caller s.old).home.cells }
+    requires owner { slots_home entry ≡ (S.caller s.old).home.slots }
+    requires reader { reader_of guard.now ≡ (S.caller s.old).reader }
+    ensures unmoved { Unmoved S.caller S.known S.shows s.old s.new }
     ensures own { KeepsMoreWaiting (S.own s.old) (S.own s.new) }
     ensures shown { IfOk result (PtrIsShown (S.shows s.new)) }
     ensures slot { IfOk result (λ ptr. (slot_named ptr ≡ Some (slot_of entry)) × (tag_of ptr ≡ mark_tag mark)) }
-    ensures back { IfErr result (λ e. (right_of e.0 ≡ right_of entry) × IfSome e.1 (IsContended (S.seat s.old))) }
-    ensures refused { IsExact (S.seat s.old) → (cell : CellContents) → entry_at (S.world s.old).cells (cell_of link.now) ≡ Some cell → MatchResult result
+    ensures back { IfErr result (λ e. (right_of e.0 ≡ right_of entry) × IfSome e.1 (IsContended (S.caller s.old))) }
+    ensures refused { IsExact (S.caller s.old) → (cell : CellContents) → entry_at (S.world s.old).cells (cell_of link.now) ≡ Some cell → MatchResult result
         (λ _. says_deleted cell.tag ≡ false) (λ e. (says_deleted cell.tag ≡ true) × (e.1 ≡ None) × (S.world s.new ≡ S.world s.old)) }
-    ensures list { IsExact (S.seat s.old) → (t : Tag) (es : List (Entry T)) (v : T) → IsList T.link (S.world s.old) (cell_of link.now) t es →
+    ensures list { IsExact (S.caller s.old) → (t : Tag) (es : List (Entry T)) (v : T) → IsList T.link (S.world s.old) (cell_of link.now) t es →
         IsFresh T.link (S.world s.old) (slot_of entry) v (cell_of link.now) es →
         IfOk result (λ _. IsLinkedBehind T.link (S.world s.old) (cell_of link.now) (mark_tag mark) es (slot_of entry) v (S.world s.new)) }
 {
@@ -96,18 +96,18 @@ fn reach_first<T: LinkedList, S: Items<T> + SharedItems<T> + Cells<T> + LookThro
     guard: &Guard,
     s: &mut S,
 ) -> Result<Shared<T>, Refused>
-    requires seated { IsSeated (S.seat s.old) }
-    requires home { cells_home cell.now ≡ (S.seat s.old).home.cells }
-    requires reader { reader_of guard.now ≡ (S.seat s.old).reader }
+    requires seated { IsSeated (S.caller s.old) }
+    requires home { cells_home cell.now ≡ (S.caller s.old).home.cells }
+    requires reader { reader_of guard.now ≡ (S.caller s.old).reader }
     requires shown { PtrIsShown (S.shows s.old) front.ptr }
-    ensures unmoved { Unmoved S.seat S.known S.shows s.old s.new }
+    ensures unmoved { Unmoved S.caller S.known S.shows s.old s.new }
     ensures own { KeepsMoreWaiting (S.own s.old) (S.own s.new) }
-    ensures owner { IfOk result (λ owner. slots_home owner ≡ (S.seat s.old).home.slots) }
+    ensures owner { IfOk result (λ owner. slots_home owner ≡ (S.caller s.old).home.slots) }
     ensures back { IfErr result (λ e. (e ≡ Refused.TooManyOwners) ⊎ (e ≡ Refused.Contended)) }
-    ensures exact { IsExact (S.seat s.old) → (t : Tag) (es : List (Entry T)) → IsList T.link (S.world s.old) (cell_of cell.now) t es →
+    ensures exact { IsExact (S.caller s.old) → (t : Tag) (es : List (Entry T)) → IsList T.link (S.world s.old) (cell_of cell.now) t es →
         (e : Entry T) (rest : List (Entry T)) → left es ≡ e ∷ rest → slot_named front.entry.ptr ≡ Some e.slot →
         ((n : ℕ) × IsSharedBy n (standing_at (S.world s.old) e.slot)) → MatchResult result
-        (λ owner. IsReached T.link (S.world s.old) (S.seat s.old).place (cell_of cell.now) t es e rest owner (S.world s.new))
+        (λ owner. IsReached T.link (S.world s.old) (S.caller s.old).place (cell_of cell.now) t es e rest owner (S.world s.new))
         (λ why. IsCrowded (S.world s.old) e why (S.world s.new)) }
 {
     let owner = match keep_first(front, s) {
@@ -131,15 +131,15 @@ pub(crate) fn next_in<T: LinkedList, S: Items<T> + SharedItems<T> + Cells<T> + L
     guard: &Guard,
     s: &mut S,
 ) -> Result<Option<Shared<T>>, Refused>
-    requires seated { IsSeated (S.seat s.old) }
-    requires home { cells_home cell.now ≡ (S.seat s.old).home.cells }
-    requires reader { reader_of guard.now ≡ (S.seat s.old).reader }
-    ensures unmoved { Unmoved S.seat S.known S.shows s.old s.new }
+    requires seated { IsSeated (S.caller s.old) }
+    requires home { cells_home cell.now ≡ (S.caller s.old).home.cells }
+    requires reader { reader_of guard.now ≡ (S.caller s.old).reader }
+    ensures unmoved { Unmoved S.caller S.known S.shows s.old s.new }
     ensures own { KeepsMoreWaiting (S.own s.old) (S.own s.new) }
-    ensures owner { IfOk result (IsOfSlots (S.seat s.old).home.slots) }
+    ensures owner { IfOk result (IsOfSlots (S.caller s.old).home.slots) }
     ensures back { IfErr result (λ e. (e ≡ Refused.TooManyOwners) ⊎ (e ≡ Refused.Contended)) }
-    ensures exact { IsExact (S.seat s.old) → (t : Tag) (es : List (Entry T)) → IsList T.link (S.world s.old) (cell_of cell.now) t es →
-        Reaches T.link (S.world s.old) (S.seat s.old).place (cell_of cell.now) t es result (S.world s.new) }
+    ensures exact { IsExact (S.caller s.old) → (t : Tag) (es : List (Entry T)) → IsList T.link (S.world s.old) (cell_of cell.now) t es →
+        Reaches T.link (S.world s.old) (S.caller s.old).place (cell_of cell.now) t es result (S.world s.new) }
 {
     match find_first(cell, guard, s) {
         Ok(Some(front)) => match reach_first(cell, front, guard, s) {

@@ -9,7 +9,7 @@ ghost use Rattle.sdd_lists.specs.Entries.{link_of};
 ghost use Rattle.sdd_lists.specs.Iter.{GivesInOrder, GoesInOrder, IsBefore, IsIterOf, space_of, values_left};
 ghost use Rattle.sdd_lists.specs.Lists.{AreLinked, Entry, IsList, first_slot, left};
 ghost use Rattle.sdd_lists.specs.Walk.{first_shown, shown_of};
-ghost use Rattle.sdd_standings.specs.Cells.{slot_held};
+ghost use Rattle.sdd_world_model.specs.Cells.{slot_held};
 
 use crate::linked_entry::LinkedEntry;
 use crate::linked_list::LinkedList;
@@ -41,10 +41,10 @@ pub(crate) fn iter_in<
     T: Item<LinkedEntry<T>>,
     S: Items<LinkedEntry<T>> + HeldItems<LinkedEntry<T>>,
 >(cell: &AtomicShared<LinkedEntry<T>>, s: &'a S) -> Iter<'a, T, S>
-    requires home { cells_home cell.now ≡ (S.seat s.now).home.cells }
+    requires home { cells_home cell.now ≡ (S.caller s.now).home.cells }
     ensures space { space_of result ≡ s.now }
-    ensures home { IsIterOf (S.seat s.now).home.slots result }
-    ensures exact { IsExact (S.seat s.now) → (t : Tag) (es : List (Entry (LinkedEntry T))) → IsList link_of (S.world s.now) (cell_of cell.now) t es →
+    ensures home { IsIterOf (S.caller s.now).home.slots result }
+    ensures exact { IsExact (S.caller s.now) → (t : Tag) (es : List (Entry (LinkedEntry T))) → IsList link_of (S.world s.now) (cell_of cell.now) t es →
         GivesInOrder (S.world s.now) result (shown_of es) }
 {
     let reach = reach::<LinkedEntry<T>, S>(s);
@@ -60,9 +60,9 @@ pub(crate) fn iter_in<
 impl<'a, T: Item<LinkedEntry<T>>, S: HeldItems<LinkedEntry<T>>> Iterator for Iter<'a, T, S> {
     type Item = &'a T;
 
-    ghost can_next = { λ it. IsIterOf (S.seat (space_of it)).home.slots it };
+    ghost can_next = { λ it. IsIterOf (S.caller (space_of it)).home.slots it };
 
-    ghost next_gives = { GoesInOrder S.seat S.world };
+    ghost next_gives = { GoesInOrder S.caller S.world };
 
     ghost remaining = { λ it. at_most (values_left it) };
 
@@ -95,11 +95,11 @@ impl<'a, T: Item<LinkedEntry<T>>, S: HeldItems<LinkedEntry<T>>> Iter<'a, T, S> {
     /// The value of the entry before which it stands, whether that is deleted or not.
     #[inline(always)]
     fn give(&mut self) -> Option<&'a T>
-        requires { IsIterOf (S.seat (space_of self.old)).home.slots self.old }
+        requires { IsIterOf (S.caller (space_of self.old)).home.slots self.old }
         ensures space { self.new.space ≡ self.old.space }
-        ensures home { IsIterOf (S.seat (space_of self.new)).home.slots self.new }
+        ensures home { IsIterOf (S.caller (space_of self.new)).home.slots self.new }
         ensures most { values_left self.new ≡ values_left self.old }
-        ensures exact { IsExact (S.seat (space_of self.old)) → (es : List (Entry (LinkedEntry T))) → IsBefore (S.world (space_of self.old)) self.old es →
+        ensures exact { IsExact (S.caller (space_of self.old)) → (es : List (Entry (LinkedEntry T))) → IsBefore (S.world (space_of self.old)) self.old es →
             (option_copied result ≡ first_shown es) × IsBefore (S.world (space_of self.old)) self.new (drop 1 es) }
     {
         let Some(owner) = self.next else {
@@ -118,9 +118,9 @@ fn past_deleted<'a, T: Item<LinkedEntry<T>>, S: HeldItems<LinkedEntry<T>>>(
     reach: u64,
     s: &'a S,
 ) -> &'a Option<Right>
-    requires { IfSome held.now (λ owner. home_of owner ≡ (S.seat s.now).home.slots) }
-    ensures home { IfSome result.now (λ owner. home_of owner ≡ (S.seat s.now).home.slots) }
-    ensures exact { IsExact (S.seat s.now) → (es : List (Entry (LinkedEntry T))) → AreLinked link_of (S.world s.now) es →
+    requires { IfSome held.now (λ owner. home_of owner ≡ (S.caller s.now).home.slots) }
+    ensures home { IfSome result.now (λ owner. home_of owner ≡ (S.caller s.now).home.slots) }
+    ensures exact { IsExact (S.caller s.now) → (es : List (Entry (LinkedEntry T))) → AreLinked link_of (S.world s.now) es →
         slot_held held.now ≡ first_slot es → length es ≤ reach → slot_held result.now ≡ first_slot (left es) }
 {
     let mut at = held;

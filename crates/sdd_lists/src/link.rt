@@ -6,12 +6,12 @@ ghost use Rattle.sdd_participants.specs.Slab.{entry_at};
 ghost use Rattle.sdd_participants.specs.declared.standing.CellContents.{CellContents};
 ghost use Rattle.sdd_space.specs.CallerId.{IsSeated, IsExact};
 ghost use Rattle.sdd_space.specs.Guard.{reader_of};
-ghost use Rattle.sdd_space.specs.ParticipantChanges.{KeepsMoreWaiting};
+ghost use Rattle.sdd_world_model.specs.ParticipantChanges.{KeepsMoreWaiting};
 ghost use Rattle.sdd_space.specs.Ptr.{IsNull, PtrIsShown, shown_by, slot_named, tag_of};
 ghost use Rattle.sdd_space.specs.Refusals.{IsContended};
 ghost use Rattle.sdd_space.specs.Shared.{IsOfSlots, right_of, slot_of, slots_home};
 ghost use Rattle.sdd_space.specs.Undisturbed.{Undisturbed, Unmoved};
-ghost use Rattle.sdd_space.specs.WorldChanges.{with_cell};
+ghost use Rattle.sdd_world_model.specs.WorldChanges.{with_cell};
 ghost use Rattle.sdd_lists.specs.Behind.{IsFresh, IsLinkedBehind, Reaches, mark_tag, spliced};
 ghost use Rattle.sdd_lists.specs.Ends.{EndsWith};
 ghost use Rattle.sdd_lists.specs.Lists.{Entry, IsList, first_slot, left, may_delete, trimmed};
@@ -49,7 +49,7 @@ impl<'g, T: LinkedList> Link<'g, T> {
         requires shown { PtrIsShown (S.shows at.now) ptr }
         ensures null { IsSome result ↔ ¬ (IsNull ptr.entry) }
         ensures entry { IfSome result (λ link. shown_by ptr.entry ≡ Some (entry_of link)) }
-        ensures home { IfSome result (λ link. T.link_home (entry_of link) ≡ (S.seat at.now).home.cells) }
+        ensures home { IfSome result (λ link. T.link_home (entry_of link) ≡ (S.caller at.now).home.cells) }
     {
         let Some(entry) = ptr.as_ref(at) else {
             return None;
@@ -60,10 +60,10 @@ impl<'g, T: LinkedList> Link<'g, T> {
 
     /// The entry is neither marked nor deleted.
     pub fn is_clear<S: Cells<T>>(&self, s: &mut S) -> bool
-        requires seated { IsSeated (S.seat s.old) }
-        requires home { T.link_home (entry_of self.now) ≡ (S.seat s.old).home.cells }
-        ensures undisturbed { Undisturbed S.seat S.own S.known S.shows s.old s.new }
-        ensures exact { IsExact (S.seat s.old) → (S.world s.new ≡ S.world s.old) × ((cell : CellContents) ×
+        requires seated { IsSeated (S.caller s.old) }
+        requires home { T.link_home (entry_of self.now) ≡ (S.caller s.old).home.cells }
+        ensures undisturbed { Undisturbed S.caller S.own S.known S.shows s.old s.new }
+        ensures exact { IsExact (S.caller s.old) → (S.world s.new ≡ S.world s.old) × ((cell : CellContents) ×
             (entry_at (S.world s.old).cells (T.link (entry_of self.now)) ≡ Some cell) × (result ≡ says_clear cell.tag)) }
     {
         self.entry.is_clear(s)
@@ -71,10 +71,10 @@ impl<'g, T: LinkedList> Link<'g, T> {
 
     /// The entry is marked.
     pub fn is_marked<S: Cells<T>>(&self, s: &mut S) -> bool
-        requires seated { IsSeated (S.seat s.old) }
-        requires home { T.link_home (entry_of self.now) ≡ (S.seat s.old).home.cells }
-        ensures undisturbed { Undisturbed S.seat S.own S.known S.shows s.old s.new }
-        ensures exact { IsExact (S.seat s.old) → (S.world s.new ≡ S.world s.old) × ((cell : CellContents) ×
+        requires seated { IsSeated (S.caller s.old) }
+        requires home { T.link_home (entry_of self.now) ≡ (S.caller s.old).home.cells }
+        ensures undisturbed { Undisturbed S.caller S.own S.known S.shows s.old s.new }
+        ensures exact { IsExact (S.caller s.old) → (S.world s.new ≡ S.world s.old) × ((cell : CellContents) ×
             (entry_at (S.world s.old).cells (T.link (entry_of self.now)) ≡ Some cell) × (result ≡ says_marked cell.tag)) }
     {
         self.entry.is_marked(s)
@@ -82,10 +82,10 @@ impl<'g, T: LinkedList> Link<'g, T> {
 
     /// The entry is deleted.
     pub fn is_deleted<S: Cells<T>>(&self, s: &mut S) -> bool
-        requires seated { IsSeated (S.seat s.old) }
-        requires home { T.link_home (entry_of self.now) ≡ (S.seat s.old).home.cells }
-        ensures undisturbed { Undisturbed S.seat S.own S.known S.shows s.old s.new }
-        ensures exact { IsExact (S.seat s.old) → (S.world s.new ≡ S.world s.old) × ((cell : CellContents) ×
+        requires seated { IsSeated (S.caller s.old) }
+        requires home { T.link_home (entry_of self.now) ≡ (S.caller s.old).home.cells }
+        ensures undisturbed { Undisturbed S.caller S.own S.known S.shows s.old s.new }
+        ensures exact { IsExact (S.caller s.old) → (S.world s.new ≡ S.world s.old) × ((cell : CellContents) ×
             (entry_at (S.world s.old).cells (T.link (entry_of self.now)) ≡ Some cell) × (result ≡ says_deleted cell.tag)) }
     {
         self.entry.is_deleted(s)
@@ -95,17 +95,17 @@ impl<'g, T: LinkedList> Link<'g, T> {
     ///
     /// `Contended`, in a domain alone, where as many exchanges were lost as its limits allow.
     pub fn mark<S: Cells<T>>(&self, s: &mut S) -> Result<bool, Refused>
-        requires seated { IsSeated (S.seat s.old) }
-        requires home { T.link_home (entry_of self.now) ≡ (S.seat s.old).home.cells }
-        ensures undisturbed { Undisturbed S.seat S.own S.known S.shows s.old s.new }
-        ensures back { IfErr result (IsContended (S.seat s.old)) }
-        ensures exact { IsExact (S.seat s.old) → IsOk result × IfOk result (λ changed. (cell : CellContents) ×
+        requires seated { IsSeated (S.caller s.old) }
+        requires home { T.link_home (entry_of self.now) ≡ (S.caller s.old).home.cells }
+        ensures undisturbed { Undisturbed S.caller S.own S.known S.shows s.old s.new }
+        ensures back { IfErr result (IsContended (S.caller s.old)) }
+        ensures exact { IsExact (S.caller s.old) → IsOk result × IfOk result (λ changed. (cell : CellContents) ×
             (entry_at (S.world s.old).cells (T.link (entry_of self.now)) ≡ Some cell) × (changed ≡ says_clear cell.tag) × (S.world s.new ≡
             (if changed then with_cell (S.world s.old) (T.link (entry_of self.now)) (record cell { tag = tag.First }) else S.world s.old))) }
-        ensures list { IsExact (S.seat s.old) → (c : ℕ) (t : Tag) (es : List (Entry T)) → IsList T.link (S.world s.old) c t es →
+        ensures list { IsExact (S.caller s.old) → (c : ℕ) (t : Tag) (es : List (Entry T)) → IsList T.link (S.world s.old) c t es →
             (e : Entry T) (rest : List (Entry T)) → EndsWith es e rest → e.value ≡ entry_of self.now → IfOk result (λ changed.
             (changed ≡ says_clear e.tag) × IsList T.link (S.world s.new) c t (if changed then retagged e.slot tag.First es else es)) }
-        ensures queue { IsExact (S.seat s.old) → (q : QueueCells) (es : List (Entry T)) (second : Option ℕ) →
+        ensures queue { IsExact (S.caller s.old) → (q : QueueCells) (es : List (Entry T)) (second : Option ℕ) →
             IsQueue T.link (S.world s.old) q es second → (e : Entry T) (rest : List (Entry T)) → EndsWith es e rest → e.value ≡ entry_of self.now →
             IfOk result (λ changed. IsQueue T.link (S.world s.new) q (if changed then retagged e.slot tag.First es else es) second) }
     {
@@ -116,17 +116,17 @@ impl<'g, T: LinkedList> Link<'g, T> {
     ///
     /// `Contended`, in a domain alone, where as many exchanges were lost as its limits allow.
     pub fn unmark<S: Cells<T>>(&self, s: &mut S) -> Result<bool, Refused>
-        requires seated { IsSeated (S.seat s.old) }
-        requires home { T.link_home (entry_of self.now) ≡ (S.seat s.old).home.cells }
-        ensures undisturbed { Undisturbed S.seat S.own S.known S.shows s.old s.new }
-        ensures back { IfErr result (IsContended (S.seat s.old)) }
-        ensures exact { IsExact (S.seat s.old) → IsOk result × IfOk result (λ changed. (cell : CellContents) ×
+        requires seated { IsSeated (S.caller s.old) }
+        requires home { T.link_home (entry_of self.now) ≡ (S.caller s.old).home.cells }
+        ensures undisturbed { Undisturbed S.caller S.own S.known S.shows s.old s.new }
+        ensures back { IfErr result (IsContended (S.caller s.old)) }
+        ensures exact { IsExact (S.caller s.old) → IsOk result × IfOk result (λ changed. (cell : CellContents) ×
             (entry_at (S.world s.old).cells (T.link (entry_of self.now)) ≡ Some cell) × (changed ≡ says_marked cell.tag) × (S.world s.new ≡
             (if changed then with_cell (S.world s.old) (T.link (entry_of self.now)) (record cell { tag = tag.None }) else S.world s.old))) }
-        ensures list { IsExact (S.seat s.old) → (c : ℕ) (t : Tag) (es : List (Entry T)) → IsList T.link (S.world s.old) c t es →
+        ensures list { IsExact (S.caller s.old) → (c : ℕ) (t : Tag) (es : List (Entry T)) → IsList T.link (S.world s.old) c t es →
             (e : Entry T) (rest : List (Entry T)) → EndsWith es e rest → e.value ≡ entry_of self.now → IfOk result (λ changed.
             (changed ≡ says_marked e.tag) × IsList T.link (S.world s.new) c t (if changed then retagged e.slot tag.None es else es)) }
-        ensures queue { IsExact (S.seat s.old) → (q : QueueCells) (es : List (Entry T)) (second : Option ℕ) →
+        ensures queue { IsExact (S.caller s.old) → (q : QueueCells) (es : List (Entry T)) (second : Option ℕ) →
             IsQueue T.link (S.world s.old) q es second → (e : Entry T) (rest : List (Entry T)) → EndsWith es e rest → e.value ≡ entry_of self.now →
             IfOk result (λ changed. IsQueue T.link (S.world s.new) q (if changed then retagged e.slot tag.None es else es) second) }
     {
@@ -137,17 +137,17 @@ impl<'g, T: LinkedList> Link<'g, T> {
     ///
     /// `Contended`, in a domain alone, where as many exchanges were lost as its limits allow.
     pub fn delete_self<S: Cells<T>>(&self, s: &mut S) -> Result<bool, Refused>
-        requires seated { IsSeated (S.seat s.old) }
-        requires home { T.link_home (entry_of self.now) ≡ (S.seat s.old).home.cells }
-        ensures undisturbed { Undisturbed S.seat S.own S.known S.shows s.old s.new }
-        ensures back { IfErr result (IsContended (S.seat s.old)) }
-        ensures exact { IsExact (S.seat s.old) → IsOk result × IfOk result (λ changed. (cell : CellContents) ×
+        requires seated { IsSeated (S.caller s.old) }
+        requires home { T.link_home (entry_of self.now) ≡ (S.caller s.old).home.cells }
+        ensures undisturbed { Undisturbed S.caller S.own S.known S.shows s.old s.new }
+        ensures back { IfErr result (IsContended (S.caller s.old)) }
+        ensures exact { IsExact (S.caller s.old) → IsOk result × IfOk result (λ changed. (cell : CellContents) ×
             (entry_at (S.world s.old).cells (T.link (entry_of self.now)) ≡ Some cell) × (changed ≡ may_delete cell.tag) × (S.world s.new ≡
             (if changed then with_cell (S.world s.old) (T.link (entry_of self.now)) (record cell { tag = tag.Second }) else S.world s.old))) }
-        ensures list { IsExact (S.seat s.old) → (c : ℕ) (t : Tag) (es : List (Entry T)) → IsList T.link (S.world s.old) c t es →
+        ensures list { IsExact (S.caller s.old) → (c : ℕ) (t : Tag) (es : List (Entry T)) → IsList T.link (S.world s.old) c t es →
             (e : Entry T) (rest : List (Entry T)) → EndsWith es e rest → e.value ≡ entry_of self.now → IfOk result (λ changed.
             (changed ≡ may_delete e.tag) × IsList T.link (S.world s.new) c t (if changed then retagged e.slot tag.Second es else es)) }
-        ensures queue { IsExact (S.seat s.old) → (q : QueueCells) (es : List (Entry T)) (second : Option ℕ) →
+        ensures queue { IsExact (S.caller s.old) → (q : QueueCells) (es : List (Entry T)) (second : Option ℕ) →
             IsQueue T.link (S.world s.old) q es second → (e : Entry T) (rest : List (Entry T)) → EndsWith es e rest → e.value ≡ entry_of self.now →
             IfOk result (λ changed. IsQueue T.link (S.world s.new) q (if changed then retagged e.slot tag.Second es else es) second) }
     {
@@ -168,19 +168,19 @@ impl<'g, T: LinkedList> Link<'g, T> {
         guard: &'h Guard,
         s: &mut S,
     ) -> Result<Ptr<'h, T>, (Shared<T>, Option<Refused>)>
-        requires seated { IsSeated (S.seat s.old) }
-        requires home { T.link_home (entry_of self.now) ≡ (S.seat s.old).home.cells }
-        requires owner { slots_home entry ≡ (S.seat s.old).home.slots }
-        requires reader { reader_of guard.now ≡ (S.seat s.old).reader }
-        ensures unmoved { Unmoved S.seat S.known S.shows s.old s.new }
+        requires seated { IsSeated (S.caller s.old) }
+        requires home { T.link_home (entry_of self.now) ≡ (S.caller s.old).home.cells }
+        requires owner { slots_home entry ≡ (S.caller s.old).home.slots }
+        requires reader { reader_of guard.now ≡ (S.caller s.old).reader }
+        ensures unmoved { Unmoved S.caller S.known S.shows s.old s.new }
         ensures own { KeepsMoreWaiting (S.own s.old) (S.own s.new) }
         ensures shown { IfOk result (PtrIsShown (S.shows s.new)) }
         ensures slot { IfOk result (λ ptr. (slot_named ptr ≡ Some (slot_of entry)) × (tag_of ptr ≡ mark_tag mark)) }
-        ensures back { IfErr result (λ e. (right_of e.0 ≡ right_of entry) × IfSome e.1 (IsContended (S.seat s.old))) }
-        ensures refused { IsExact (S.seat s.old) → (cell : CellContents) → entry_at (S.world s.old).cells (T.link (entry_of self.now)) ≡ Some cell →
+        ensures back { IfErr result (λ e. (right_of e.0 ≡ right_of entry) × IfSome e.1 (IsContended (S.caller s.old))) }
+        ensures refused { IsExact (S.caller s.old) → (cell : CellContents) → entry_at (S.world s.old).cells (T.link (entry_of self.now)) ≡ Some cell →
             MatchResult result (λ _. says_deleted cell.tag ≡ false)
             (λ e. (says_deleted cell.tag ≡ true) × (e.1 ≡ None) × (S.world s.new ≡ S.world s.old)) }
-        ensures list { IsExact (S.seat s.old) → (t : Tag) (es : List (Entry T)) (v : T) → IsList T.link (S.world s.old) (T.link (entry_of self.now)) t es →
+        ensures list { IsExact (S.caller s.old) → (t : Tag) (es : List (Entry T)) (v : T) → IsList T.link (S.world s.old) (T.link (entry_of self.now)) t es →
             IsFresh T.link (S.world s.old) (slot_of entry) v (T.link (entry_of self.now)) es → IfOk result (λ _.
             IsLinkedBehind T.link (S.world s.old) (T.link (entry_of self.now)) (mark_tag mark) es (slot_of entry) v (S.world s.new)) }
     {
@@ -195,22 +195,22 @@ impl<'g, T: LinkedList> Link<'g, T> {
         guard: &'h Guard,
         s: &mut S,
     ) -> Result<Ptr<'h, T>, Refused>
-        requires seated { IsSeated (S.seat s.old) }
-        requires home { T.link_home (entry_of self.now) ≡ (S.seat s.old).home.cells }
-        requires reader { reader_of guard.now ≡ (S.seat s.old).reader }
-        ensures unmoved { Unmoved S.seat S.known S.shows s.old s.new }
+        requires seated { IsSeated (S.caller s.old) }
+        requires home { T.link_home (entry_of self.now) ≡ (S.caller s.old).home.cells }
+        requires reader { reader_of guard.now ≡ (S.caller s.old).reader }
+        ensures unmoved { Unmoved S.caller S.known S.shows s.old s.new }
         ensures own { KeepsMoreWaiting (S.own s.old) (S.own s.new) }
         ensures shown { IfOk result (PtrIsShown (S.shows s.new)) }
         ensures tag { IfOk result (λ ptr. tag_of ptr ≡ tag.None) }
         ensures back { IfErr result (λ e. e ≡ Refused.Contended) }
-        ensures list { IsExact (S.seat s.old) → (t : Tag) (es : List (Entry T)) → IsList T.link (S.world s.old) (T.link (entry_of self.now)) t es →
+        ensures list { IsExact (S.caller s.old) → (t : Tag) (es : List (Entry T)) → IsList T.link (S.world s.old) (T.link (entry_of self.now)) t es →
             IsOk result × IfOk result (λ ptr. slot_named ptr ≡ first_slot (left es)) ×
             IsList T.link (S.world s.new) (T.link (entry_of self.now)) t (left es) ×
-            (S.world s.new ≡ trimmed T.link (S.world s.old) (S.seat s.old).place (T.link (entry_of self.now)) t es) }
-        ensures around { IsExact (S.seat s.old) → (c : ℕ) (t : Tag) (es : List (Entry T)) → IsList T.link (S.world s.old) c t es →
+            (S.world s.new ≡ trimmed T.link (S.world s.old) (S.caller s.old).place (T.link (entry_of self.now)) t es) }
+        ensures around { IsExact (S.caller s.old) → (c : ℕ) (t : Tag) (es : List (Entry T)) → IsList T.link (S.world s.old) c t es →
             (e : Entry T) (rest : List (Entry T)) → EndsWith es e rest → e.value ≡ entry_of self.now →
             IsList T.link (S.world s.new) c t (spliced e.slot (e ∷ left rest) es) }
-        ensures queue { IsExact (S.seat s.old) → (q : QueueCells) (es : List (Entry T)) (second : Option ℕ) →
+        ensures queue { IsExact (S.caller s.old) → (q : QueueCells) (es : List (Entry T)) (second : Option ℕ) →
             IsQueue T.link (S.world s.old) q es second → (e : Entry T) (rest : List (Entry T)) → EndsWith es e rest → e.value ≡ entry_of self.now →
             IsQueue T.link (S.world s.new) q (spliced e.slot (e ∷ left rest) es) second }
     {
@@ -225,19 +225,19 @@ impl<'g, T: LinkedList> Link<'g, T> {
         guard: &Guard,
         s: &mut S,
     ) -> Result<Option<Shared<T>>, Refused>
-        requires seated { IsSeated (S.seat s.old) }
-        requires home { T.link_home (entry_of self.now) ≡ (S.seat s.old).home.cells }
-        requires reader { reader_of guard.now ≡ (S.seat s.old).reader }
-        ensures unmoved { Unmoved S.seat S.known S.shows s.old s.new }
+        requires seated { IsSeated (S.caller s.old) }
+        requires home { T.link_home (entry_of self.now) ≡ (S.caller s.old).home.cells }
+        requires reader { reader_of guard.now ≡ (S.caller s.old).reader }
+        ensures unmoved { Unmoved S.caller S.known S.shows s.old s.new }
         ensures own { KeepsMoreWaiting (S.own s.old) (S.own s.new) }
-        ensures owner { IfOk result (IsOfSlots (S.seat s.old).home.slots) }
+        ensures owner { IfOk result (IsOfSlots (S.caller s.old).home.slots) }
         ensures back { IfErr result (λ e. (e ≡ Refused.TooManyOwners) ⊎ (e ≡ Refused.Contended)) }
-        ensures list { IsExact (S.seat s.old) → (t : Tag) (es : List (Entry T)) → IsList T.link (S.world s.old) (T.link (entry_of self.now)) t es →
-            Reaches T.link (S.world s.old) (S.seat s.old).place (T.link (entry_of self.now)) t es result (S.world s.new) }
-        ensures around { IsExact (S.seat s.old) → (c : ℕ) (t : Tag) (es : List (Entry T)) → IsList T.link (S.world s.old) c t es →
+        ensures list { IsExact (S.caller s.old) → (t : Tag) (es : List (Entry T)) → IsList T.link (S.world s.old) (T.link (entry_of self.now)) t es →
+            Reaches T.link (S.world s.old) (S.caller s.old).place (T.link (entry_of self.now)) t es result (S.world s.new) }
+        ensures around { IsExact (S.caller s.old) → (c : ℕ) (t : Tag) (es : List (Entry T)) → IsList T.link (S.world s.old) c t es →
             (e : Entry T) (rest : List (Entry T)) → EndsWith es e rest → e.value ≡ entry_of self.now → MatchResult result
             (λ _. IsList T.link (S.world s.new) c t (spliced e.slot (e ∷ left rest) es)) (λ _. IsList T.link (S.world s.new) c t es) }
-        ensures queue { IsExact (S.seat s.old) → (q : QueueCells) (es : List (Entry T)) (second : Option ℕ) →
+        ensures queue { IsExact (S.caller s.old) → (q : QueueCells) (es : List (Entry T)) (second : Option ℕ) →
             IsQueue T.link (S.world s.old) q es second → (e : Entry T) (rest : List (Entry T)) → EndsWith es e rest → e.value ≡ entry_of self.now →
             MatchResult result
             (λ _. IsQueue T.link (S.world s.new) q (spliced e.slot (e ∷ left rest) es) second)

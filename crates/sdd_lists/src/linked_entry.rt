@@ -1,12 +1,12 @@
 //! The entries of queues and stacks.
 ghost use Rattle.std.specs.Prelude.{◌≡◌, ◌⊎◌, IfErr, IfOk, MatchResult};
-ghost use Rattle.sdd_space.specs.OwnerOrCell.{AreOf};
+ghost use Rattle.sdd_world_model.specs.OwnerOrCell.{AreOf};
 ghost use Rattle.sdd_space.specs.Undisturbed.{Undisturbed, Unmoved};
-ghost use Rattle.sdd_space.specs.ParticipantChanges.{HasContentsGivenUp, KeepsMoreWaiting};
+ghost use Rattle.sdd_world_model.specs.ParticipantChanges.{HasContentsGivenUp, KeepsMoreWaiting};
 ghost use Rattle.sdd_space.specs.Refusals.{IsRefusedBy};
 ghost use Rattle.sdd_space.specs.CallerId.{IsSeated, IsExact};
 ghost use Rattle.sdd_space.specs.Shared.{cell_of, cells_home};
-ghost use Rattle.sdd_space.specs.WorldChanges.{cell_closed, nulled};
+ghost use Rattle.sdd_world_model.specs.WorldChanges.{cell_closed, nulled};
 ghost use Rattle.sdd_participants.specs.Slab.{IsEmptyAt, IsFull};
 
 use crate::clone_value::CloneValue;
@@ -34,12 +34,12 @@ impl<T: Item<LinkedEntry<T>>> LinkedEntry<T> {
         instance: T,
         s: &mut S,
     ) -> Result<LinkedEntry<T>, (T, Refused)>
-        requires seated { IsSeated (S.seat s.old) }
-        ensures undisturbed { Undisturbed S.seat S.own S.known S.shows s.old s.new }
+        requires seated { IsSeated (S.caller s.old) }
+        ensures undisturbed { Undisturbed S.caller S.own S.known S.shows s.old s.new }
         ensures value { IfOk result (λ entry. value_of entry ≡ instance) }
-        ensures home { IfOk result (λ entry. link_home_of entry ≡ (S.seat s.old).home.cells) }
-        ensures back { IfErr result (λ e. (e.0 ≡ instance) × IsRefusedBy (S.seat s.old) Refused.NoCell e.1) }
-        ensures exact { IsExact (S.seat s.old) → MatchResult result
+        ensures home { IfOk result (λ entry. link_home_of entry ≡ (S.caller s.old).home.cells) }
+        ensures back { IfErr result (λ e. (e.0 ≡ instance) × IsRefusedBy (S.caller s.old) Refused.NoCell e.1) }
+        ensures exact { IsExact (S.caller s.old) → MatchResult result
             (λ entry. IsEmptyAt (S.world s.old).cells (link_of entry) × (S.world s.new ≡ nulled (S.world s.old) (link_of entry)))
             (λ e. IsFull (S.world s.old).cells × (e ≡ (instance, Refused.NoCell)) × (S.world s.new ≡ S.world s.old)) }
     {
@@ -59,13 +59,13 @@ impl<T: Item<LinkedEntry<T>>> LinkedEntry<T> {
     ) -> Result<LinkedEntry<T>, Refused>
     where
         T: CloneValue,
-        requires seated { IsSeated (S.seat s.old) }
-        ensures unmoved { Unmoved S.seat S.known S.shows s.old s.new }
+        requires seated { IsSeated (S.caller s.old) }
+        ensures unmoved { Unmoved S.caller S.known S.shows s.old s.new }
         ensures own { KeepsMoreWaiting (S.own s.old) (S.own s.new) }
         ensures value { IfOk result (λ entry. T.is_clone (value_of self.now) (value_of entry)) }
-        ensures home { IfOk result (λ entry. link_home_of entry ≡ (S.seat s.old).home.cells) }
-        ensures back { IfErr result (λ e. IsRefusedBy (S.seat s.old) Refused.NoCell e ⊎ (e ≡ Refused.NoMemory) × ¬ (T.is_infallible (value_of self.now))) }
-        ensures exact { IsExact (S.seat s.old) → MatchResult result
+        ensures home { IfOk result (λ entry. link_home_of entry ≡ (S.caller s.old).home.cells) }
+        ensures back { IfErr result (λ e. IsRefusedBy (S.caller s.old) Refused.NoCell e ⊎ (e ≡ Refused.NoMemory) × ¬ (T.is_infallible (value_of self.now))) }
+        ensures exact { IsExact (S.caller s.old) → MatchResult result
             (λ entry. IsEmptyAt (S.world s.old).cells (link_of entry) × (S.world s.new ≡ nulled (S.world s.old) (link_of entry)))
             (λ e. (IsFull (S.world s.old).cells × (e ≡ Refused.NoCell) ⊎ ¬ (IsFull (S.world s.old).cells) × (e ≡ Refused.NoMemory)) ×
             (S.world s.new ≡ S.world s.old)) }
@@ -85,12 +85,12 @@ impl<T: Item<LinkedEntry<T>>> LinkedEntry<T> {
 
     /// Frees the link, and gives up what it holds. The value comes back.
     pub fn close<S: Items<LinkedEntry<T>> + Cells<LinkedEntry<T>>>(self, s: &mut S) -> T
-        requires seated { IsSeated (S.seat s.old) }
-        requires home { link_home_of self ≡ (S.seat s.old).home.cells }
+        requires seated { IsSeated (S.caller s.old) }
+        requires home { link_home_of self ≡ (S.caller s.old).home.cells }
         ensures value { result ≡ value_of self }
-        ensures unmoved { Unmoved S.seat S.known S.shows s.old s.new }
+        ensures unmoved { Unmoved S.caller S.known S.shows s.old s.new }
         ensures own { HasContentsGivenUp (S.own s.old) (S.own s.new) }
-        ensures exact { IsExact (S.seat s.old) → S.world s.new ≡ cell_closed (S.world s.old) (S.seat s.old).place (link_of self) }
+        ensures exact { IsExact (S.caller s.old) → S.world s.new ≡ cell_closed (S.world s.old) (S.caller s.old).place (link_of self) }
     {
         let LinkedEntry { instance, next } = self;
         next.close(s);
@@ -113,7 +113,7 @@ impl<T: Item<LinkedEntry<T>>> Item<LinkedEntry<T>> for LinkedEntry<T> {
 impl<T: Item<LinkedEntry<T>>> LinkedList for LinkedEntry<T> {
     ghost use Rattle.sdd_lists.specs.Entries.{link_of, link_home_of, link_part, value_of};
     ghost use Rattle.sdd_space.proofs.Composed.{rest-of};
-    ghost use Rattle.sdd_space.specs.OwnerOrCell.{AreOf};
+    ghost use Rattle.sdd_world_model.specs.OwnerOrCell.{AreOf};
 
     ghost link = { link_of };
 

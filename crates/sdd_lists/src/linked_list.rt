@@ -6,15 +6,15 @@ ghost use Rattle.sdd_participants.specs.Slab.{entry_at};
 ghost use Rattle.sdd_participants.specs.declared.standing.CellContents.{CellContents};
 ghost use Rattle.sdd_space.specs.CallerId.{IsSeated, IsExact};
 ghost use Rattle.sdd_space.specs.Guard.{reader_of};
-ghost use Rattle.sdd_space.specs.OwnerOrCell.{SpaceId, AreOf};
-ghost use Rattle.sdd_space.specs.ParticipantChanges.{KeepsMoreWaiting};
+ghost use Rattle.sdd_world_model.specs.OwnerOrCell.{SpaceId, AreOf};
+ghost use Rattle.sdd_world_model.specs.ParticipantChanges.{KeepsMoreWaiting};
 ghost use Rattle.sdd_space.specs.Ptr.{PtrIsShown, cell_seen, slot_named, tag_of};
 ghost use Rattle.sdd_space.specs.Refusals.{IsContended};
 ghost use Rattle.sdd_space.specs.Shared.{IsOfSlots, cell_of, cells_home, right_of, slot_of, slots_home};
 ghost use Rattle.sdd_space.specs.Undisturbed.{Undisturbed, Unmoved};
-ghost use Rattle.sdd_space.specs.World.{value_at};
-ghost use Rattle.sdd_space.specs.WorldChanges.{with_cell};
-ghost use Rattle.sdd_rights.specs.Units as token;
+ghost use Rattle.sdd_world_model.specs.World.{value_at};
+ghost use Rattle.sdd_world_model.specs.WorldChanges.{with_cell};
+ghost use Rattle.sdd_rights.specs.Units as units;
 ghost use Rattle.sdd_lists.specs.Behind.{IsFresh, IsLinkedBehind, Reaches, entry_made, mark_tag, spliced};
 ghost use Rattle.sdd_lists.specs.Ends.{EndsWith};
 ghost use Rattle.sdd_lists.specs.Lists.{Entry, IsList, first_slot, left, may_delete, trimmed};
@@ -34,7 +34,7 @@ pub trait LinkedList: Item<Self> {
     /// The number of the link's cell.
     ghost link: { Self → ℕ };
     /// Where that is numbered.
-    ghost link_home: { Self → token.GhostName };
+    ghost link_home: { Self → units.GhostName };
 
     /// The link, which is always the same cell.
     fn link_ref(&self) -> &AtomicShared<Self>
@@ -46,10 +46,10 @@ pub trait LinkedList: Item<Self> {
 
     /// The entry is neither marked nor deleted.
     final fn is_clear<S: Cells<Self>>(&self, s: &mut S) -> bool
-        requires seated { IsSeated (S.seat s.old) }
-        requires home { link_home self.now ≡ (S.seat s.old).home.cells }
-        ensures undisturbed { Undisturbed S.seat S.own S.known S.shows s.old s.new }
-        ensures exact { IsExact (S.seat s.old) → (S.world s.new ≡ S.world s.old) × ((cell : CellContents) ×
+        requires seated { IsSeated (S.caller s.old) }
+        requires home { link_home self.now ≡ (S.caller s.old).home.cells }
+        ensures undisturbed { Undisturbed S.caller S.own S.known S.shows s.old s.new }
+        ensures exact { IsExact (S.caller s.old) → (S.world s.new ≡ S.world s.old) × ((cell : CellContents) ×
             (entry_at (S.world s.old).cells (link self.now) ≡ Some cell) × (result ≡ says_clear cell.tag)) }
     {
         matches!(self.link_ref().tag(s), Tag::None)
@@ -57,10 +57,10 @@ pub trait LinkedList: Item<Self> {
 
     /// The entry is marked.
     final fn is_marked<S: Cells<Self>>(&self, s: &mut S) -> bool
-        requires seated { IsSeated (S.seat s.old) }
-        requires home { link_home self.now ≡ (S.seat s.old).home.cells }
-        ensures undisturbed { Undisturbed S.seat S.own S.known S.shows s.old s.new }
-        ensures exact { IsExact (S.seat s.old) → (S.world s.new ≡ S.world s.old) × ((cell : CellContents) ×
+        requires seated { IsSeated (S.caller s.old) }
+        requires home { link_home self.now ≡ (S.caller s.old).home.cells }
+        ensures undisturbed { Undisturbed S.caller S.own S.known S.shows s.old s.new }
+        ensures exact { IsExact (S.caller s.old) → (S.world s.new ≡ S.world s.old) × ((cell : CellContents) ×
             (entry_at (S.world s.old).cells (link self.now) ≡ Some cell) × (result ≡ says_marked cell.tag)) }
     {
         matches!(self.link_ref().tag(s), Tag::First)
@@ -68,10 +68,10 @@ pub trait LinkedList: Item<Self> {
 
     /// The entry is deleted.
     final fn is_deleted<S: Cells<Self>>(&self, s: &mut S) -> bool
-        requires seated { IsSeated (S.seat s.old) }
-        requires home { link_home self.now ≡ (S.seat s.old).home.cells }
-        ensures undisturbed { Undisturbed S.seat S.own S.known S.shows s.old s.new }
-        ensures exact { IsExact (S.seat s.old) → (S.world s.new ≡ S.world s.old) × ((cell : CellContents) ×
+        requires seated { IsSeated (S.caller s.old) }
+        requires home { link_home self.now ≡ (S.caller s.old).home.cells }
+        ensures undisturbed { Undisturbed S.caller S.own S.known S.shows s.old s.new }
+        ensures exact { IsExact (S.caller s.old) → (S.world s.new ≡ S.world s.old) × ((cell : CellContents) ×
             (entry_at (S.world s.old).cells (link self.now) ≡ Some cell) × (result ≡ says_deleted cell.tag)) }
     {
         matches!(self.link_ref().tag(s), Tag::Second | Tag::Both)
@@ -81,17 +81,17 @@ pub trait LinkedList: Item<Self> {
     ///
     /// `Contended`, in a domain alone, where as many exchanges were lost as its limits allow.
     final fn mark<S: Cells<Self>>(&self, s: &mut S) -> Result<bool, Refused>
-        requires seated { IsSeated (S.seat s.old) }
-        requires home { link_home self.now ≡ (S.seat s.old).home.cells }
-        ensures undisturbed { Undisturbed S.seat S.own S.known S.shows s.old s.new }
-        ensures back { IfErr result (IsContended (S.seat s.old)) }
-        ensures exact { IsExact (S.seat s.old) → IsOk result × IfOk result (λ changed. (cell : CellContents) ×
+        requires seated { IsSeated (S.caller s.old) }
+        requires home { link_home self.now ≡ (S.caller s.old).home.cells }
+        ensures undisturbed { Undisturbed S.caller S.own S.known S.shows s.old s.new }
+        ensures back { IfErr result (IsContended (S.caller s.old)) }
+        ensures exact { IsExact (S.caller s.old) → IsOk result × IfOk result (λ changed. (cell : CellContents) ×
             (entry_at (S.world s.old).cells (link self.now) ≡ Some cell) × (changed ≡ says_clear cell.tag) × (S.world s.new ≡
             (if changed then with_cell (S.world s.old) (link self.now) (record cell { tag = tag.First }) else S.world s.old))) }
-        ensures list { IsExact (S.seat s.old) → (c : ℕ) (t : Tag) (es : List (Entry Self)) → IsList link (S.world s.old) c t es →
+        ensures list { IsExact (S.caller s.old) → (c : ℕ) (t : Tag) (es : List (Entry Self)) → IsList link (S.world s.old) c t es →
             (e : Entry Self) (rest : List (Entry Self)) → EndsWith es e rest → e.value ≡ self.now → IfOk result (λ changed.
             (changed ≡ says_clear e.tag) × IsList link (S.world s.new) c t (if changed then retagged e.slot tag.First es else es)) }
-        ensures queue { IsExact (S.seat s.old) → (q : QueueCells) (es : List (Entry Self)) (second : Option ℕ) →
+        ensures queue { IsExact (S.caller s.old) → (q : QueueCells) (es : List (Entry Self)) (second : Option ℕ) →
             IsQueue link (S.world s.old) q es second → (e : Entry Self) (rest : List (Entry Self)) → EndsWith es e rest → e.value ≡ self.now →
             IfOk result (λ changed. IsQueue link (S.world s.new) q (if changed then retagged e.slot tag.First es else es) second) }
     {
@@ -102,17 +102,17 @@ pub trait LinkedList: Item<Self> {
     ///
     /// `Contended`, in a domain alone, where as many exchanges were lost as its limits allow.
     final fn unmark<S: Cells<Self>>(&self, s: &mut S) -> Result<bool, Refused>
-        requires seated { IsSeated (S.seat s.old) }
-        requires home { link_home self.now ≡ (S.seat s.old).home.cells }
-        ensures undisturbed { Undisturbed S.seat S.own S.known S.shows s.old s.new }
-        ensures back { IfErr result (IsContended (S.seat s.old)) }
-        ensures exact { IsExact (S.seat s.old) → IsOk result × IfOk result (λ changed. (cell : CellContents) ×
+        requires seated { IsSeated (S.caller s.old) }
+        requires home { link_home self.now ≡ (S.caller s.old).home.cells }
+        ensures undisturbed { Undisturbed S.caller S.own S.known S.shows s.old s.new }
+        ensures back { IfErr result (IsContended (S.caller s.old)) }
+        ensures exact { IsExact (S.caller s.old) → IsOk result × IfOk result (λ changed. (cell : CellContents) ×
             (entry_at (S.world s.old).cells (link self.now) ≡ Some cell) × (changed ≡ says_marked cell.tag) × (S.world s.new ≡
             (if changed then with_cell (S.world s.old) (link self.now) (record cell { tag = tag.None }) else S.world s.old))) }
-        ensures list { IsExact (S.seat s.old) → (c : ℕ) (t : Tag) (es : List (Entry Self)) → IsList link (S.world s.old) c t es →
+        ensures list { IsExact (S.caller s.old) → (c : ℕ) (t : Tag) (es : List (Entry Self)) → IsList link (S.world s.old) c t es →
             (e : Entry Self) (rest : List (Entry Self)) → EndsWith es e rest → e.value ≡ self.now → IfOk result (λ changed.
             (changed ≡ says_marked e.tag) × IsList link (S.world s.new) c t (if changed then retagged e.slot tag.None es else es)) }
-        ensures queue { IsExact (S.seat s.old) → (q : QueueCells) (es : List (Entry Self)) (second : Option ℕ) →
+        ensures queue { IsExact (S.caller s.old) → (q : QueueCells) (es : List (Entry Self)) (second : Option ℕ) →
             IsQueue link (S.world s.old) q es second → (e : Entry Self) (rest : List (Entry Self)) → EndsWith es e rest → e.value ≡ self.now →
             IfOk result (λ changed. IsQueue link (S.world s.new) q (if changed then retagged e.slot tag.None es else es) second) }
     {
@@ -123,17 +123,17 @@ pub trait LinkedList: Item<Self> {
     ///
     /// `Contended`, in a domain alone, where as many exchanges were lost as its limits allow.
     final fn delete_self<S: Cells<Self>>(&self, s: &mut S) -> Result<bool, Refused>
-        requires seated { IsSeated (S.seat s.old) }
-        requires home { link_home self.now ≡ (S.seat s.old).home.cells }
-        ensures undisturbed { Undisturbed S.seat S.own S.known S.shows s.old s.new }
-        ensures back { IfErr result (IsContended (S.seat s.old)) }
-        ensures exact { IsExact (S.seat s.old) → IsOk result × IfOk result (λ changed. (cell : CellContents) ×
+        requires seated { IsSeated (S.caller s.old) }
+        requires home { link_home self.now ≡ (S.caller s.old).home.cells }
+        ensures undisturbed { Undisturbed S.caller S.own S.known S.shows s.old s.new }
+        ensures back { IfErr result (IsContended (S.caller s.old)) }
+        ensures exact { IsExact (S.caller s.old) → IsOk result × IfOk result (λ changed. (cell : CellContents) ×
             (entry_at (S.world s.old).cells (link self.now) ≡ Some cell) × (changed ≡ may_delete cell.tag) × (S.world s.new ≡
             (if changed then with_cell (S.world s.old) (link self.now) (record cell { tag = tag.Second }) else S.world s.old))) }
-        ensures list { IsExact (S.seat s.old) → (c : ℕ) (t : Tag) (es : List (Entry Self)) → IsList link (S.world s.old) c t es →
+        ensures list { IsExact (S.caller s.old) → (c : ℕ) (t : Tag) (es : List (Entry Self)) → IsList link (S.world s.old) c t es →
             (e : Entry Self) (rest : List (Entry Self)) → EndsWith es e rest → e.value ≡ self.now → IfOk result (λ changed.
             (changed ≡ may_delete e.tag) × IsList link (S.world s.new) c t (if changed then retagged e.slot tag.Second es else es)) }
-        ensures queue { IsExact (S.seat s.old) → (q : QueueCells) (es : List (Entry Self)) (second : Option ℕ) →
+        ensures queue { IsExact (S.caller s.old) → (q : QueueCells) (es : List (Entry Self)) (second : Option ℕ) →
             IsQueue link (S.world s.old) q es second → (e : Entry Self) (rest : List (Entry Self)) → EndsWith es e rest → e.value ≡ self.now →
             IfOk result (λ changed. IsQueue link (S.world s.new) q (if changed then retagged e.slot tag.Second es else es) second) }
     {
@@ -154,18 +154,18 @@ pub trait LinkedList: Item<Self> {
         guard: &'g Guard,
         s: &mut S,
     ) -> Result<Ptr<'g, Self>, (Shared<Self>, Option<Refused>)>
-        requires seated { IsSeated (S.seat s.old) }
-        requires home { link_home self.now ≡ (S.seat s.old).home.cells }
-        requires owner { slots_home entry ≡ (S.seat s.old).home.slots }
-        requires reader { reader_of guard.now ≡ (S.seat s.old).reader }
-        ensures unmoved { Unmoved S.seat S.known S.shows s.old s.new }
+        requires seated { IsSeated (S.caller s.old) }
+        requires home { link_home self.now ≡ (S.caller s.old).home.cells }
+        requires owner { slots_home entry ≡ (S.caller s.old).home.slots }
+        requires reader { reader_of guard.now ≡ (S.caller s.old).reader }
+        ensures unmoved { Unmoved S.caller S.known S.shows s.old s.new }
         ensures own { KeepsMoreWaiting (S.own s.old) (S.own s.new) }
         ensures shown { IfOk result (PtrIsShown (S.shows s.new)) }
         ensures slot { IfOk result (λ ptr. (slot_named ptr ≡ Some (slot_of entry)) × (tag_of ptr ≡ mark_tag mark)) }
-        ensures back { IfErr result (λ e. (right_of e.0 ≡ right_of entry) × IfSome e.1 (IsContended (S.seat s.old))) }
-        ensures refused { IsExact (S.seat s.old) → (cell : CellContents) → entry_at (S.world s.old).cells (link self.now) ≡ Some cell → MatchResult result
+        ensures back { IfErr result (λ e. (right_of e.0 ≡ right_of entry) × IfSome e.1 (IsContended (S.caller s.old))) }
+        ensures refused { IsExact (S.caller s.old) → (cell : CellContents) → entry_at (S.world s.old).cells (link self.now) ≡ Some cell → MatchResult result
             (λ _. says_deleted cell.tag ≡ false) (λ e. (says_deleted cell.tag ≡ true) × (e.1 ≡ None) × (S.world s.new ≡ S.world s.old)) }
-        ensures list { IsExact (S.seat s.old) → (t : Tag) (es : List (Entry Self)) (v : Self) → IsList link (S.world s.old) (link self.now) t es →
+        ensures list { IsExact (S.caller s.old) → (t : Tag) (es : List (Entry Self)) (v : Self) → IsList link (S.world s.old) (link self.now) t es →
             IsFresh link (S.world s.old) (slot_of entry) v (link self.now) es →
             IfOk result (λ _. IsLinkedBehind link (S.world s.old) (link self.now) (mark_tag mark) es (slot_of entry) v (S.world s.new)) }
     {
@@ -180,21 +180,21 @@ pub trait LinkedList: Item<Self> {
         guard: &'g Guard,
         s: &mut S,
     ) -> Result<Ptr<'g, Self>, Refused>
-        requires seated { IsSeated (S.seat s.old) }
-        requires home { link_home self.now ≡ (S.seat s.old).home.cells }
-        requires reader { reader_of guard.now ≡ (S.seat s.old).reader }
-        ensures unmoved { Unmoved S.seat S.known S.shows s.old s.new }
+        requires seated { IsSeated (S.caller s.old) }
+        requires home { link_home self.now ≡ (S.caller s.old).home.cells }
+        requires reader { reader_of guard.now ≡ (S.caller s.old).reader }
+        ensures unmoved { Unmoved S.caller S.known S.shows s.old s.new }
         ensures own { KeepsMoreWaiting (S.own s.old) (S.own s.new) }
         ensures shown { IfOk result (PtrIsShown (S.shows s.new)) }
         ensures tag { IfOk result (λ ptr. tag_of ptr ≡ tag.None) }
         ensures back { IfErr result (λ e. e ≡ Refused.Contended) }
-        ensures list { IsExact (S.seat s.old) → (t : Tag) (es : List (Entry Self)) → IsList link (S.world s.old) (link self.now) t es →
+        ensures list { IsExact (S.caller s.old) → (t : Tag) (es : List (Entry Self)) → IsList link (S.world s.old) (link self.now) t es →
             IsOk result × IfOk result (λ ptr. slot_named ptr ≡ first_slot (left es)) × IsList link (S.world s.new) (link self.now) t (left es) ×
-            (S.world s.new ≡ trimmed link (S.world s.old) (S.seat s.old).place (link self.now) t es) }
-        ensures around { IsExact (S.seat s.old) → (c : ℕ) (t : Tag) (es : List (Entry Self)) → IsList link (S.world s.old) c t es →
+            (S.world s.new ≡ trimmed link (S.world s.old) (S.caller s.old).place (link self.now) t es) }
+        ensures around { IsExact (S.caller s.old) → (c : ℕ) (t : Tag) (es : List (Entry Self)) → IsList link (S.world s.old) c t es →
             (e : Entry Self) (rest : List (Entry Self)) → EndsWith es e rest → e.value ≡ self.now →
             IsList link (S.world s.new) c t (spliced e.slot (e ∷ left rest) es) }
-        ensures queue { IsExact (S.seat s.old) → (q : QueueCells) (es : List (Entry Self)) (second : Option ℕ) →
+        ensures queue { IsExact (S.caller s.old) → (q : QueueCells) (es : List (Entry Self)) (second : Option ℕ) →
             IsQueue link (S.world s.old) q es second → (e : Entry Self) (rest : List (Entry Self)) → EndsWith es e rest → e.value ≡ self.now →
             IsQueue link (S.world s.new) q (spliced e.slot (e ∷ left rest) es) second }
     {
@@ -209,19 +209,19 @@ pub trait LinkedList: Item<Self> {
         guard: &Guard,
         s: &mut S,
     ) -> Result<Option<Shared<Self>>, Refused>
-        requires seated { IsSeated (S.seat s.old) }
-        requires home { link_home self.now ≡ (S.seat s.old).home.cells }
-        requires reader { reader_of guard.now ≡ (S.seat s.old).reader }
-        ensures unmoved { Unmoved S.seat S.known S.shows s.old s.new }
+        requires seated { IsSeated (S.caller s.old) }
+        requires home { link_home self.now ≡ (S.caller s.old).home.cells }
+        requires reader { reader_of guard.now ≡ (S.caller s.old).reader }
+        ensures unmoved { Unmoved S.caller S.known S.shows s.old s.new }
         ensures own { KeepsMoreWaiting (S.own s.old) (S.own s.new) }
-        ensures owner { IfOk result (IsOfSlots (S.seat s.old).home.slots) }
+        ensures owner { IfOk result (IsOfSlots (S.caller s.old).home.slots) }
         ensures back { IfErr result (λ e. (e ≡ Refused.TooManyOwners) ⊎ (e ≡ Refused.Contended)) }
-        ensures list { IsExact (S.seat s.old) → (t : Tag) (es : List (Entry Self)) → IsList link (S.world s.old) (link self.now) t es →
-            Reaches link (S.world s.old) (S.seat s.old).place (link self.now) t es result (S.world s.new) }
-        ensures around { IsExact (S.seat s.old) → (c : ℕ) (t : Tag) (es : List (Entry Self)) → IsList link (S.world s.old) c t es →
+        ensures list { IsExact (S.caller s.old) → (t : Tag) (es : List (Entry Self)) → IsList link (S.world s.old) (link self.now) t es →
+            Reaches link (S.world s.old) (S.caller s.old).place (link self.now) t es result (S.world s.new) }
+        ensures around { IsExact (S.caller s.old) → (c : ℕ) (t : Tag) (es : List (Entry Self)) → IsList link (S.world s.old) c t es →
             (e : Entry Self) (rest : List (Entry Self)) → EndsWith es e rest → e.value ≡ self.now → MatchResult result
             (λ _. IsList link (S.world s.new) c t (spliced e.slot (e ∷ left rest) es)) (λ _. IsList link (S.world s.new) c t es) }
-        ensures queue { IsExact (S.seat s.old) → (q : QueueCells) (es : List (Entry Self)) (second : Option ℕ) →
+        ensures queue { IsExact (S.caller s.old) → (q : QueueCells) (es : List (Entry Self)) (second : Option ℕ) →
             IsQueue link (S.world s.old) q es second → (e : Entry Self) (rest : List (Entry Self)) → EndsWith es e rest → e.value ≡ self.now →
             MatchResult result
             (λ _. IsQueue link (S.world s.new) q (spliced e.slot (e ∷ left rest) es) second)

@@ -7,7 +7,7 @@ ghost use Rattle.sdd_space.specs.CallerId.{IsSeated, IsExact};
 ghost use Rattle.sdd_space.specs.Refusals.{IsContended};
 ghost use Rattle.sdd_space.specs.Shared.{cell_of, cells_home};
 ghost use Rattle.sdd_space.specs.Undisturbed.{Undisturbed};
-ghost use Rattle.sdd_space.specs.WorldChanges.{with_cell};
+ghost use Rattle.sdd_world_model.specs.WorldChanges.{with_cell};
 ghost use Rattle.sdd_lists.specs.Lists.{may_delete};
 ghost use Rattle.sdd_lists.specs.Marks.{says_clear, says_marked};
 
@@ -19,11 +19,11 @@ pub(crate) fn mark_link<T: Item<T>, S: Cells<T>>(
     link: &AtomicShared<T>,
     s: &mut S,
 ) -> Result<bool, Refused>
-    requires seated { IsSeated (S.seat s.old) }
-    requires home { cells_home link.now ≡ (S.seat s.old).home.cells }
-    ensures undisturbed { Undisturbed S.seat S.own S.known S.shows s.old s.new }
-    ensures back { IfErr result (IsContended (S.seat s.old)) }
-    ensures exact { IsExact (S.seat s.old) → IsOk result × IfOk result (λ changed. (cell : CellContents) ×
+    requires seated { IsSeated (S.caller s.old) }
+    requires home { cells_home link.now ≡ (S.caller s.old).home.cells }
+    ensures undisturbed { Undisturbed S.caller S.own S.known S.shows s.old s.new }
+    ensures back { IfErr result (IsContended (S.caller s.old)) }
+    ensures exact { IsExact (S.caller s.old) → IsOk result × IfOk result (λ changed. (cell : CellContents) ×
         (entry_at (S.world s.old).cells (cell_of link.now) ≡ Some cell) × (changed ≡ says_clear cell.tag) ×
         (S.world s.new ≡ (if changed then with_cell (S.world s.old) (cell_of link.now) (record cell { tag = tag.First }) else S.world s.old))) }
 {
@@ -38,11 +38,11 @@ pub(crate) fn unmark_link<T: Item<T>, S: Cells<T>>(
     link: &AtomicShared<T>,
     s: &mut S,
 ) -> Result<bool, Refused>
-    requires seated { IsSeated (S.seat s.old) }
-    requires home { cells_home link.now ≡ (S.seat s.old).home.cells }
-    ensures undisturbed { Undisturbed S.seat S.own S.known S.shows s.old s.new }
-    ensures back { IfErr result (IsContended (S.seat s.old)) }
-    ensures exact { IsExact (S.seat s.old) → IsOk result × IfOk result (λ changed. (cell : CellContents) ×
+    requires seated { IsSeated (S.caller s.old) }
+    requires home { cells_home link.now ≡ (S.caller s.old).home.cells }
+    ensures undisturbed { Undisturbed S.caller S.own S.known S.shows s.old s.new }
+    ensures back { IfErr result (IsContended (S.caller s.old)) }
+    ensures exact { IsExact (S.caller s.old) → IsOk result × IfOk result (λ changed. (cell : CellContents) ×
         (entry_at (S.world s.old).cells (cell_of link.now) ≡ Some cell) × (changed ≡ says_marked cell.tag) ×
         (S.world s.new ≡ (if changed then with_cell (S.world s.old) (cell_of link.now) (record cell { tag = tag.None }) else S.world s.old))) }
 {
@@ -57,11 +57,11 @@ pub(crate) fn delete_link<T: Item<T>, S: Cells<T>>(
     link: &AtomicShared<T>,
     s: &mut S,
 ) -> Result<bool, Refused>
-    requires seated { IsSeated (S.seat s.old) }
-    requires home { cells_home link.now ≡ (S.seat s.old).home.cells }
-    ensures undisturbed { Undisturbed S.seat S.own S.known S.shows s.old s.new }
-    ensures back { IfErr result (IsContended (S.seat s.old)) }
-    ensures exact { IsExact (S.seat s.old) → IsOk result × IfOk result (λ changed. (cell : CellContents) ×
+    requires seated { IsSeated (S.caller s.old) }
+    requires home { cells_home link.now ≡ (S.caller s.old).home.cells }
+    ensures undisturbed { Undisturbed S.caller S.own S.known S.shows s.old s.new }
+    ensures back { IfErr result (IsContended (S.caller s.old)) }
+    ensures exact { IsExact (S.caller s.old) → IsOk result × IfOk result (λ changed. (cell : CellContents) ×
         (entry_at (S.world s.old).cells (cell_of link.now) ≡ Some cell) × (changed ≡ may_delete cell.tag) ×
         (S.world s.new ≡ (if changed then with_cell (S.world s.old) (cell_of link.now) (record cell { tag = tag.Second }) else S.world s.old))) }
 {

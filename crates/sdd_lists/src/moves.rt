@@ -2,15 +2,15 @@
 ghost use Rattle.std.specs.Prelude.{◌≡◌, ◌≢◌, ℕ, IfErr, IfOk, IfSome, IsOk, List, [], Option, MatchOption, None, Some, if◌then◌else◌, option_map};
 ghost use Rattle.sdd_space.specs.Guard.{reader_of};
 ghost use Rattle.sdd_space.specs.Undisturbed.{Undisturbed, Unmoved};
-ghost use Rattle.sdd_space.specs.ParticipantChanges.{KeepsMoreWaiting};
+ghost use Rattle.sdd_world_model.specs.ParticipantChanges.{KeepsMoreWaiting};
 ghost use Rattle.sdd_space.specs.Ptr.{PtrIsShown, slot_named, tag_of};
 ghost use Rattle.sdd_space.specs.CallerId.{IsSeated, IsExact};
 ghost use Rattle.sdd_space.specs.Shared.{IsOfSlots, slot_of, slots_home, cell_of, cells_home};
-ghost use Rattle.sdd_space.specs.WorldChanges.{owner_given, with_cell};
-ghost use Rattle.sdd_space.specs.World.{standing_at};
+ghost use Rattle.sdd_world_model.specs.WorldChanges.{owner_given, with_cell};
+ghost use Rattle.sdd_world_model.specs.World.{standing_at};
 ghost use Rattle.sdd_core.specs.declared.tag.Tag.{Tag};
 ghost use Rattle.sdd_core.specs.declared.tag.Tag.TheVariants.{None as no_tag, Second as deleting};
-ghost use Rattle.sdd_standings.specs.Slots.{IsSharedBy};
+ghost use Rattle.sdd_world_model.specs.Slots.{IsSharedBy};
 ghost use Rattle.sdd_participants.specs.Slab.{entry_at};
 ghost use Rattle.sdd_participants.specs.declared.standing.CellContents.{CellContents};
 ghost use Rattle.sdd_participants.specs.declared.standing.Standing.TheVariants.{Shared as shared_by};
@@ -25,13 +25,13 @@ use sdd_space::{AtomicShared, Cells, Guard, Item, Items, LookThrough, Ptr, Share
 /// Gives an owner up, if there is one.
 #[inline]
 pub(crate) fn give_up<T: Item<T>, S: Items<T>>(owner: Option<Shared<T>>, s: &mut S)
-    requires seated { IsSeated (S.seat s.old) }
-    requires home { IsOfSlots (S.seat s.old).home.slots owner }
-    ensures unmoved { Unmoved S.seat S.known S.shows s.old s.new }
+    requires seated { IsSeated (S.caller s.old) }
+    requires home { IsOfSlots (S.caller s.old).home.slots owner }
+    ensures unmoved { Unmoved S.caller S.known S.shows s.old s.new }
     ensures own { KeepsMoreWaiting (S.own s.old) (S.own s.new) }
-    ensures exact { IsExact (S.seat s.old) → MatchOption owner (S.world s.new ≡ S.world s.old) (λ o. (owners : ℕ) ×
+    ensures exact { IsExact (S.caller s.old) → MatchOption owner (S.world s.new ≡ S.world s.old) (λ o. (owners : ℕ) ×
         IsSharedBy owners (standing_at (S.world s.old) (slot_of o)) ×
-        (S.world s.new ≡ owner_given (S.world s.old) (S.seat s.old).place (slot_of o) (Some (shared_by owners)))) }
+        (S.world s.new ≡ owner_given (S.world s.old) (S.caller s.old).place (slot_of o) (Some (shared_by owners)))) }
 {
     if let Some(owner) = owner {
         let _ = owner.release(s);
@@ -40,13 +40,13 @@ pub(crate) fn give_up<T: Item<T>, S: Items<T>>(owner: Option<Shared<T>>, s: &mut
 
 /// Gives up what a cell holds. It holds nothing then, without a tag.
 pub(crate) fn empty_cell<T: Item<T>, S: Items<T> + Cells<T>>(cell: &AtomicShared<T>, s: &mut S)
-    requires seated { IsSeated (S.seat s.old) }
-    requires home { cells_home cell.now ≡ (S.seat s.old).home.cells }
-    ensures unmoved { Unmoved S.seat S.known S.shows s.old s.new }
+    requires seated { IsSeated (S.caller s.old) }
+    requires home { cells_home cell.now ≡ (S.caller s.old).home.cells }
+    ensures unmoved { Unmoved S.caller S.known S.shows s.old s.new }
     ensures own { KeepsMoreWaiting (S.own s.old) (S.own s.new) }
-    ensures exact { IsExact (S.seat s.old) → (held : Option ℕ) (t : Tag) →
+    ensures exact { IsExact (S.caller s.old) → (held : Option ℕ) (t : Tag) →
         entry_at (S.world s.old).cells (cell_of cell.now) ≡ Some (record { held = held; tag = t }) →
-        S.world s.new ≡ cell_emptied (S.world s.old) (S.seat s.old).place (cell_of cell.now) held }
+        S.world s.new ≡ cell_emptied (S.world s.old) (S.caller s.old).place (cell_of cell.now) held }
 {
     let (held, _) = cell.swap((None, Tag::None), s);
     give_up(held, s);
@@ -58,13 +58,13 @@ pub(crate) fn empty_cell_if<T: Item<T>, S: Items<T> + Cells<T>>(
     cell: &AtomicShared<T>,
     s: &mut S,
 )
-    requires seated { IsSeated (S.seat s.old) }
-    requires home { cells_home cell.now ≡ (S.seat s.old).home.cells }
-    ensures unmoved { Unmoved S.seat S.known S.shows s.old s.new }
+    requires seated { IsSeated (S.caller s.old) }
+    requires home { cells_home cell.now ≡ (S.caller s.old).home.cells }
+    ensures unmoved { Unmoved S.caller S.known S.shows s.old s.new }
     ensures own { KeepsMoreWaiting (S.own s.old) (S.own s.new) }
-    ensures exact { IsExact (S.seat s.old) → (held : Option ℕ) (t : Tag) →
+    ensures exact { IsExact (S.caller s.old) → (held : Option ℕ) (t : Tag) →
         entry_at (S.world s.old).cells (cell_of cell.now) ≡ Some (record { held = held; tag = t }) →
-        S.world s.new ≡ (if is_due then cell_emptied (S.world s.old) (S.seat s.old).place (cell_of cell.now) held else S.world s.old) }
+        S.world s.new ≡ (if is_due then cell_emptied (S.world s.old) (S.caller s.old).place (cell_of cell.now) held else S.world s.old) }
 {
     if is_due {
         empty_cell(cell, s);
@@ -79,16 +79,16 @@ pub(crate) fn let_go_of_first<T: LinkedList, S: Items<T> + Cells<T>>(
     link: &AtomicShared<T>,
     s: &mut S,
 )
-    requires seated { IsSeated (S.seat s.old) }
-    requires home { cells_home cell.now ≡ (S.seat s.old).home.cells }
-    requires link { cells_home link.now ≡ (S.seat s.old).home.cells }
-    ensures unmoved { Unmoved S.seat S.known S.shows s.old s.new }
+    requires seated { IsSeated (S.caller s.old) }
+    requires home { cells_home cell.now ≡ (S.caller s.old).home.cells }
+    requires link { cells_home link.now ≡ (S.caller s.old).home.cells }
+    ensures unmoved { Unmoved S.caller S.known S.shows s.old s.new }
     ensures own { KeepsMoreWaiting (S.own s.old) (S.own s.new) }
-    ensures exact { IsExact (S.seat s.old) → (k : ℕ) (t was : Tag) (next : Option ℕ) →
+    ensures exact { IsExact (S.caller s.old) → (k : ℕ) (t was : Tag) (next : Option ℕ) →
         entry_at (S.world s.old).cells (cell_of cell.now) ≡ Some (record { held = Some k; tag = t }) →
         entry_at (S.world s.old).cells (cell_of link.now) ≡ Some (record { held = next; tag = was }) →
         cell_of cell.now ≢ cell_of link.now →
-        S.world s.new ≡ let_go_first (S.world s.old) (S.seat s.old).place (cell_of cell.now) t k (cell_of link.now) next }
+        S.world s.new ≡ let_go_first (S.world s.old) (S.caller s.old).place (cell_of cell.now) t k (cell_of link.now) next }
 {
     let tag = cell.tag(s);
     let (next, _) = link.swap((None, Tag::Second), s);
@@ -105,18 +105,18 @@ pub(crate) fn trim<'g, T: LinkedList, S: Items<T> + Cells<T> + LookThrough<T>>(
     guard: &'g Guard,
     s: &mut S,
 ) -> Result<Ptr<'g, T>, Refused>
-    requires seated { IsSeated (S.seat s.old) }
-    requires home { cells_home cell.now ≡ (S.seat s.old).home.cells }
-    requires reader { reader_of guard.now ≡ (S.seat s.old).reader }
-    ensures unmoved { Unmoved S.seat S.known S.shows s.old s.new }
+    requires seated { IsSeated (S.caller s.old) }
+    requires home { cells_home cell.now ≡ (S.caller s.old).home.cells }
+    requires reader { reader_of guard.now ≡ (S.caller s.old).reader }
+    ensures unmoved { Unmoved S.caller S.known S.shows s.old s.new }
     ensures own { KeepsMoreWaiting (S.own s.old) (S.own s.new) }
     ensures shown { IfOk result (PtrIsShown (S.shows s.new)) }
     ensures tag { IfOk result (λ ptr. tag_of ptr ≡ no_tag) }
     ensures back { IfErr result (λ e. e ≡ Refused.Contended) }
-    ensures exact { IsExact (S.seat s.old) → (t : Tag) (es : List (Entry T)) → IsList T.link (S.world s.old) (cell_of cell.now) t es →
+    ensures exact { IsExact (S.caller s.old) → (t : Tag) (es : List (Entry T)) → IsList T.link (S.world s.old) (cell_of cell.now) t es →
         IsOk result × IfOk result (λ ptr. slot_named ptr ≡ first_slot (left es)) ×
         IsList T.link (S.world s.new) (cell_of cell.now) t (left es) ×
-        (S.world s.new ≡ trimmed T.link (S.world s.old) (S.seat s.old).place (cell_of cell.now) t es) }
+        (S.world s.new ≡ trimmed T.link (S.world s.old) (S.caller s.old).place (cell_of cell.now) t es) }
 {
     let first = cell.load(guard, s);
     let Some(entry) = first.as_ref(&*s) else {
@@ -139,18 +139,18 @@ fn trim_deleted<'g, T: LinkedList, S: Items<T> + Cells<T> + LookThrough<T>>(
     guard: &'g Guard,
     s: &mut S,
 ) -> Result<Ptr<'g, T>, Refused>
-    requires seated { IsSeated (S.seat s.old) }
-    requires home { cells_home cell.now ≡ (S.seat s.old).home.cells }
-    requires reader { reader_of guard.now ≡ (S.seat s.old).reader }
-    ensures unmoved { Unmoved S.seat S.known S.shows s.old s.new }
+    requires seated { IsSeated (S.caller s.old) }
+    requires home { cells_home cell.now ≡ (S.caller s.old).home.cells }
+    requires reader { reader_of guard.now ≡ (S.caller s.old).reader }
+    ensures unmoved { Unmoved S.caller S.known S.shows s.old s.new }
     ensures own { KeepsMoreWaiting (S.own s.old) (S.own s.new) }
     ensures shown { IfOk result (PtrIsShown (S.shows s.new)) }
     ensures tag { IfOk result (λ ptr. tag_of ptr ≡ no_tag) }
     ensures back { IfErr result (λ e. e ≡ Refused.Contended) }
-    ensures exact { IsExact (S.seat s.old) → (t : Tag) (es : List (Entry T)) → IsList T.link (S.world s.old) (cell_of cell.now) t es →
+    ensures exact { IsExact (S.caller s.old) → (t : Tag) (es : List (Entry T)) → IsList T.link (S.world s.old) (cell_of cell.now) t es →
         IsOk result × IfOk result (λ ptr. slot_named ptr ≡ first_slot (left es)) ×
         IsList T.link (S.world s.new) (cell_of cell.now) t (left es) ×
-        (S.world s.new ≡ trimmed T.link (S.world s.old) (S.seat s.old).place (cell_of cell.now) t es) }
+        (S.world s.new ≡ trimmed T.link (S.world s.old) (S.caller s.old).place (cell_of cell.now) t es) }
 {
     let most = reach::<T, S>(s);
     for _step in 0..most {
@@ -178,14 +178,14 @@ pub(crate) fn let_go_of_all<T: LinkedList, S: Items<T> + Cells<T> + LookThrough<
     guard: &Guard,
     s: &mut S,
 )
-    requires seated { IsSeated (S.seat s.old) }
-    requires home { cells_home cell.now ≡ (S.seat s.old).home.cells }
-    requires reader { reader_of guard.now ≡ (S.seat s.old).reader }
-    ensures unmoved { Unmoved S.seat S.known S.shows s.old s.new }
+    requires seated { IsSeated (S.caller s.old) }
+    requires home { cells_home cell.now ≡ (S.caller s.old).home.cells }
+    requires reader { reader_of guard.now ≡ (S.caller s.old).reader }
+    ensures unmoved { Unmoved S.caller S.known S.shows s.old s.new }
     ensures own { KeepsMoreWaiting (S.own s.old) (S.own s.new) }
-    ensures exact { IsExact (S.seat s.old) → (t : Tag) (es : List (Entry T)) → IsList T.link (S.world s.old) (cell_of cell.now) t es →
+    ensures exact { IsExact (S.caller s.old) → (t : Tag) (es : List (Entry T)) → IsList T.link (S.world s.old) (cell_of cell.now) t es →
         IsList T.link (S.world s.new) (cell_of cell.now) t [] ×
-        (S.world s.new ≡ emptied T.link (S.world s.old) (S.seat s.old).place (cell_of cell.now) t es) }
+        (S.world s.new ≡ emptied T.link (S.world s.old) (S.caller s.old).place (cell_of cell.now) t es) }
 {
     let most = reach::<T, S>(s);
     for _step in 0..most {
@@ -198,10 +198,10 @@ pub(crate) fn let_go_of_all<T: LinkedList, S: Items<T> + Cells<T> + LookThrough<
 
 /// Deletes the entry of a link, if it isn't deleted, and answers whether it did.
 pub(crate) fn delete<T: Item<T>, S: Cells<T>>(link: &AtomicShared<T>, s: &mut S) -> bool
-    requires seated { IsSeated (S.seat s.old) }
-    requires home { cells_home link.now ≡ (S.seat s.old).home.cells }
-    ensures undisturbed { Undisturbed S.seat S.own S.known S.shows s.old s.new }
-    ensures exact { IsExact (S.seat s.old) → (cell : CellContents) ×
+    requires seated { IsSeated (S.caller s.old) }
+    requires home { cells_home link.now ≡ (S.caller s.old).home.cells }
+    ensures undisturbed { Undisturbed S.caller S.own S.known S.shows s.old s.new }
+    ensures exact { IsExact (S.caller s.old) → (cell : CellContents) ×
         (entry_at (S.world s.old).cells (cell_of link.now) ≡ Some cell) × (result ≡ may_delete cell.tag) ×
         (S.world s.new ≡ (if result then with_cell (S.world s.old) (cell_of link.now) (record cell { tag = deleting }) else S.world s.old)) }
 {
@@ -224,13 +224,13 @@ pub(crate) fn put_with_tag<T: LinkedList, S: Items<T> + Cells<T>>(
     link: &AtomicShared<T>,
     s: &mut S,
 )
-    requires seated { IsSeated (S.seat s.old) }
-    requires home { cells_home cell.now ≡ (S.seat s.old).home.cells }
-    requires owner { slots_home owner ≡ (S.seat s.old).home.slots }
-    requires link { cells_home link.now ≡ (S.seat s.old).home.cells }
-    ensures unmoved { Unmoved S.seat S.known S.shows s.old s.new }
+    requires seated { IsSeated (S.caller s.old) }
+    requires home { cells_home cell.now ≡ (S.caller s.old).home.cells }
+    requires owner { slots_home owner ≡ (S.caller s.old).home.slots }
+    requires link { cells_home link.now ≡ (S.caller s.old).home.cells }
+    ensures unmoved { Unmoved S.caller S.known S.shows s.old s.new }
     ensures own { KeepsMoreWaiting (S.own s.old) (S.own s.new) }
-    ensures exact { IsExact (S.seat s.old) → (t : Tag) (next : Option ℕ) →
+    ensures exact { IsExact (S.caller s.old) → (t : Tag) (next : Option ℕ) →
         entry_at (S.world s.old).cells (cell_of cell.now) ≡ Some (record { held = next; tag = t }) →
         entry_at (S.world s.old).cells (cell_of link.now) ≡ Some (record { held = None; tag = no_tag }) →
         cell_of cell.now ≢ cell_of link.now →
@@ -253,13 +253,13 @@ pub(crate) fn put_in_front<T: LinkedList, S: Items<T> + Cells<T>>(
     link: &AtomicShared<T>,
     s: &mut S,
 )
-    requires seated { IsSeated (S.seat s.old) }
-    requires home { cells_home cell.now ≡ (S.seat s.old).home.cells }
-    requires owner { slots_home owner ≡ (S.seat s.old).home.slots }
-    requires link { cells_home link.now ≡ (S.seat s.old).home.cells }
-    ensures unmoved { Unmoved S.seat S.known S.shows s.old s.new }
+    requires seated { IsSeated (S.caller s.old) }
+    requires home { cells_home cell.now ≡ (S.caller s.old).home.cells }
+    requires owner { slots_home owner ≡ (S.caller s.old).home.slots }
+    requires link { cells_home link.now ≡ (S.caller s.old).home.cells }
+    ensures unmoved { Unmoved S.caller S.known S.shows s.old s.new }
     ensures own { KeepsMoreWaiting (S.own s.old) (S.own s.new) }
-    ensures exact { IsExact (S.seat s.old) → (t : Tag) (next : Option ℕ) →
+    ensures exact { IsExact (S.caller s.old) → (t : Tag) (next : Option ℕ) →
         entry_at (S.world s.old).cells (cell_of cell.now) ≡ Some (record { held = next; tag = t }) →
         entry_at (S.world s.old).cells (cell_of link.now) ≡ Some (record { held = None; tag = no_tag }) →
         cell_of cell.now ≢ cell_of link.now →

@@ -2,13 +2,13 @@
 ghost use Rattle.std.specs.Prelude.{◌≡◌, ◌⊎◌, ℕ, IfErr, IfOk, IsOk, Option, List, [], ◌∷◌, MatchOption, MatchResult, Some, false};
 ghost use Rattle.sdd_space.specs.Guard.{reader_of};
 ghost use Rattle.sdd_space.specs.Undisturbed.{Undisturbed, Unmoved};
-ghost use Rattle.sdd_space.specs.ParticipantChanges.{KeepsMoreWaiting};
+ghost use Rattle.sdd_world_model.specs.ParticipantChanges.{KeepsMoreWaiting};
 ghost use Rattle.sdd_space.specs.Ptr.{PtrIsShown, slot_named};
 ghost use Rattle.sdd_space.specs.CallerId.{IsSeated, IsExact};
 ghost use Rattle.sdd_space.specs.Shared.{IsOfSlots, slots_home, cell_of, cells_home};
-ghost use Rattle.sdd_space.specs.World.{standing_at};
+ghost use Rattle.sdd_world_model.specs.World.{standing_at};
 ghost use Rattle.sdd_core.specs.declared.tag.Tag.{Tag};
-ghost use Rattle.sdd_standings.specs.Slots.{IsSharedBy};
+ghost use Rattle.sdd_world_model.specs.Slots.{IsSharedBy};
 ghost use Rattle.sdd_lists.specs.Lists.{Entry, IsCrowded, IsKept, IsList, IsTaken, Pops, is_deleted, left, removed};
 ghost use Rattle.sdd_lists.specs.Queue.{Dequeues, IsCleared, IsDequeued, IsQueue};
 
@@ -25,16 +25,16 @@ pub(crate) fn remove_first<T: LinkedList, S: Items<T> + Cells<T> + LookThrough<T
     guard: &Guard,
     s: &mut S,
 ) -> Result<(), Refused>
-    requires seated { IsSeated (S.seat s.old) }
-    requires home { cells_home cell.now ≡ (S.seat s.old).home.cells }
-    requires link { cells_home link.now ≡ (S.seat s.old).home.cells }
-    requires reader { reader_of guard.now ≡ (S.seat s.old).reader }
-    ensures unmoved { Unmoved S.seat S.known S.shows s.old s.new }
+    requires seated { IsSeated (S.caller s.old) }
+    requires home { cells_home cell.now ≡ (S.caller s.old).home.cells }
+    requires link { cells_home link.now ≡ (S.caller s.old).home.cells }
+    requires reader { reader_of guard.now ≡ (S.caller s.old).reader }
+    ensures unmoved { Unmoved S.caller S.known S.shows s.old s.new }
     ensures own { KeepsMoreWaiting (S.own s.old) (S.own s.new) }
     ensures back { IfErr result (λ e. e ≡ Refused.Contended) }
-    ensures exact { IsExact (S.seat s.old) → (t : Tag) (es : List (Entry T)) → IsList T.link (S.world s.old) (cell_of cell.now) t es →
+    ensures exact { IsExact (S.caller s.old) → (t : Tag) (es : List (Entry T)) → IsList T.link (S.world s.old) (cell_of cell.now) t es →
         (e : Entry T) (rest : List (Entry T)) → left es ≡ e ∷ rest → cell_of link.now ≡ T.link e.value → IsOk result ×
-        (S.world s.new ≡ removed T.link (S.world s.old) (S.seat s.old).place (cell_of cell.now) t es e rest) ×
+        (S.world s.new ≡ removed T.link (S.world s.old) (S.caller s.old).place (cell_of cell.now) t es e rest) ×
         IsList T.link (S.world s.new) (cell_of cell.now) t rest }
 {
     if let Err(refused) = trim(cell, guard, s) {
@@ -50,15 +50,15 @@ fn remove_head<T: LinkedList, S: Items<T> + Cells<T>>(
     link: &AtomicShared<T>,
     s: &mut S,
 ) -> Result<(), Refused>
-    requires seated { IsSeated (S.seat s.old) }
-    requires home { cells_home cell.now ≡ (S.seat s.old).home.cells }
-    requires link { cells_home link.now ≡ (S.seat s.old).home.cells }
-    ensures unmoved { Unmoved S.seat S.known S.shows s.old s.new }
+    requires seated { IsSeated (S.caller s.old) }
+    requires home { cells_home cell.now ≡ (S.caller s.old).home.cells }
+    requires link { cells_home link.now ≡ (S.caller s.old).home.cells }
+    ensures unmoved { Unmoved S.caller S.known S.shows s.old s.new }
     ensures own { KeepsMoreWaiting (S.own s.old) (S.own s.new) }
     ensures back { IfErr result (λ e. e ≡ Refused.Contended) }
-    ensures exact { IsExact (S.seat s.old) → (t : Tag) (e : Entry T) (rest : List (Entry T)) →
+    ensures exact { IsExact (S.caller s.old) → (t : Tag) (e : Entry T) (rest : List (Entry T)) →
         IsList T.link (S.world s.old) (cell_of cell.now) t (e ∷ rest) → is_deleted e ≡ false → cell_of link.now ≡ T.link e.value → IsOk result ×
-        (S.world s.new ≡ removed T.link (S.world s.old) (S.seat s.old).place (cell_of cell.now) t [] e rest) ×
+        (S.world s.new ≡ removed T.link (S.world s.old) (S.caller s.old).place (cell_of cell.now) t [] e rest) ×
         IsList T.link (S.world s.new) (cell_of cell.now) t rest }
 {
     let deleted = delete(link, s);
@@ -78,19 +78,19 @@ pub(crate) fn take_first<T: LinkedList, S: Items<T> + SharedItems<T> + Cells<T> 
     guard: &Guard,
     s: &mut S,
 ) -> Result<Shared<T>, Refused>
-    requires seated { IsSeated (S.seat s.old) }
-    requires home { cells_home cell.now ≡ (S.seat s.old).home.cells }
-    requires reader { reader_of guard.now ≡ (S.seat s.old).reader }
-    requires link { cells_home front.link.now ≡ (S.seat s.old).home.cells }
+    requires seated { IsSeated (S.caller s.old) }
+    requires home { cells_home cell.now ≡ (S.caller s.old).home.cells }
+    requires reader { reader_of guard.now ≡ (S.caller s.old).reader }
+    requires link { cells_home front.link.now ≡ (S.caller s.old).home.cells }
     requires shown { PtrIsShown (S.shows s.old) front.ptr }
-    ensures unmoved { Unmoved S.seat S.known S.shows s.old s.new }
+    ensures unmoved { Unmoved S.caller S.known S.shows s.old s.new }
     ensures own { KeepsMoreWaiting (S.own s.old) (S.own s.new) }
-    ensures owner { IfOk result (λ owner. slots_home owner ≡ (S.seat s.old).home.slots) }
+    ensures owner { IfOk result (λ owner. slots_home owner ≡ (S.caller s.old).home.slots) }
     ensures back { IfErr result (λ e. (e ≡ Refused.TooManyOwners) ⊎ (e ≡ Refused.Contended)) }
-    ensures exact { IsExact (S.seat s.old) → (t : Tag) (es : List (Entry T)) → IsList T.link (S.world s.old) (cell_of cell.now) t es →
+    ensures exact { IsExact (S.caller s.old) → (t : Tag) (es : List (Entry T)) → IsList T.link (S.world s.old) (cell_of cell.now) t es →
         (e : Entry T) (rest : List (Entry T)) → left es ≡ e ∷ rest → slot_named front.entry.ptr ≡ Some e.slot →
         cell_of front.entry.link.now ≡ T.link e.value → ((n : ℕ) × IsSharedBy n (standing_at (S.world s.old) e.slot)) → MatchResult result
-        (λ owner. IsTaken T.link (S.world s.old) (S.seat s.old).place (cell_of cell.now) t es e rest owner (S.world s.new))
+        (λ owner. IsTaken T.link (S.world s.old) (S.caller s.old).place (cell_of cell.now) t es e rest owner (S.world s.new))
         (λ why. IsCrowded (S.world s.old) e why (S.world s.new)) }
 {
     let link = front.link;
@@ -116,18 +116,18 @@ fn take_head<T: LinkedList, S: Items<T> + SharedItems<T> + Cells<T>>(
     front: Front<'_, T>,
     s: &mut S,
 ) -> Result<Shared<T>, Refused>
-    requires seated { IsSeated (S.seat s.old) }
-    requires home { cells_home cell.now ≡ (S.seat s.old).home.cells }
-    requires link { cells_home front.link.now ≡ (S.seat s.old).home.cells }
+    requires seated { IsSeated (S.caller s.old) }
+    requires home { cells_home cell.now ≡ (S.caller s.old).home.cells }
+    requires link { cells_home front.link.now ≡ (S.caller s.old).home.cells }
     requires shown { PtrIsShown (S.shows s.old) front.ptr }
-    ensures unmoved { Unmoved S.seat S.known S.shows s.old s.new }
+    ensures unmoved { Unmoved S.caller S.known S.shows s.old s.new }
     ensures own { KeepsMoreWaiting (S.own s.old) (S.own s.new) }
-    ensures owner { IfOk result (λ owner. slots_home owner ≡ (S.seat s.old).home.slots) }
+    ensures owner { IfOk result (λ owner. slots_home owner ≡ (S.caller s.old).home.slots) }
     ensures back { IfErr result (λ e. (e ≡ Refused.TooManyOwners) ⊎ (e ≡ Refused.Contended)) }
-    ensures exact { IsExact (S.seat s.old) → (t : Tag) (e : Entry T) (rest : List (Entry T)) →
+    ensures exact { IsExact (S.caller s.old) → (t : Tag) (e : Entry T) (rest : List (Entry T)) →
         IsList T.link (S.world s.old) (cell_of cell.now) t (e ∷ rest) → is_deleted e ≡ false → slot_named front.entry.ptr ≡ Some e.slot →
         cell_of front.entry.link.now ≡ T.link e.value → ((n : ℕ) × IsSharedBy n (standing_at (S.world s.old) e.slot)) → MatchResult result
-        (λ owner. IsTaken T.link (S.world s.old) (S.seat s.old).place (cell_of cell.now) t (e ∷ rest) e rest owner (S.world s.new))
+        (λ owner. IsTaken T.link (S.world s.old) (S.caller s.old).place (cell_of cell.now) t (e ∷ rest) e rest owner (S.world s.new))
         (λ why. IsCrowded (S.world s.old) e why (S.world s.new)) }
 {
     let link = front.link;
@@ -151,12 +151,12 @@ pub(crate) fn keep_first<T: LinkedList, S: SharedItems<T>>(
     front: Front<'_, T>,
     s: &mut S,
 ) -> Result<Shared<T>, Refused>
-    requires seated { IsSeated (S.seat s.old) }
+    requires seated { IsSeated (S.caller s.old) }
     requires shown { PtrIsShown (S.shows s.old) front.ptr }
-    ensures undisturbed { Undisturbed S.seat S.own S.known S.shows s.old s.new }
-    ensures owner { IfOk result (λ owner. slots_home owner ≡ (S.seat s.old).home.slots) }
+    ensures undisturbed { Undisturbed S.caller S.own S.known S.shows s.old s.new }
+    ensures owner { IfOk result (λ owner. slots_home owner ≡ (S.caller s.old).home.slots) }
     ensures back { IfErr result (λ e. (e ≡ Refused.TooManyOwners) ⊎ (e ≡ Refused.Contended)) }
-    ensures exact { IsExact (S.seat s.old) → (e : Entry T) → slot_named front.entry.ptr ≡ Some e.slot →
+    ensures exact { IsExact (S.caller s.old) → (e : Entry T) → slot_named front.entry.ptr ≡ Some e.slot →
         ((n : ℕ) × IsSharedBy n (standing_at (S.world s.old) e.slot)) → MatchResult result
         (λ owner. IsKept (S.world s.old) e owner (S.world s.new)) (λ why. IsCrowded (S.world s.old) e why (S.world s.new)) }
 {
@@ -176,15 +176,15 @@ pub(crate) fn pop_first<T: LinkedList, S: Items<T> + SharedItems<T> + Cells<T> +
     guard: &Guard,
     s: &mut S,
 ) -> Result<Option<Shared<T>>, Refused>
-    requires seated { IsSeated (S.seat s.old) }
-    requires home { cells_home cell.now ≡ (S.seat s.old).home.cells }
-    requires reader { reader_of guard.now ≡ (S.seat s.old).reader }
-    ensures unmoved { Unmoved S.seat S.known S.shows s.old s.new }
+    requires seated { IsSeated (S.caller s.old) }
+    requires home { cells_home cell.now ≡ (S.caller s.old).home.cells }
+    requires reader { reader_of guard.now ≡ (S.caller s.old).reader }
+    ensures unmoved { Unmoved S.caller S.known S.shows s.old s.new }
     ensures own { KeepsMoreWaiting (S.own s.old) (S.own s.new) }
-    ensures owner { IfOk result (IsOfSlots (S.seat s.old).home.slots) }
+    ensures owner { IfOk result (IsOfSlots (S.caller s.old).home.slots) }
     ensures back { IfErr result (λ e. (e ≡ Refused.TooManyOwners) ⊎ (e ≡ Refused.Contended)) }
-    ensures exact { IsExact (S.seat s.old) → (t : Tag) (es : List (Entry T)) → IsList T.link (S.world s.old) (cell_of cell.now) t es →
-        Pops T.link (S.world s.old) (S.seat s.old).place (cell_of cell.now) t es result (S.world s.new) }
+    ensures exact { IsExact (S.caller s.old) → (t : Tag) (es : List (Entry T)) → IsList T.link (S.world s.old) (cell_of cell.now) t es →
+        Pops T.link (S.world s.old) (S.caller s.old).place (cell_of cell.now) t es result (S.world s.new) }
 {
     let Some(front) = first_in(cell, guard, s) else {
         return Ok(None);
@@ -208,15 +208,15 @@ fn pop_past_deleted<T: LinkedList, S: Items<T> + SharedItems<T> + Cells<T> + Loo
     guard: &Guard,
     s: &mut S,
 ) -> Result<Option<Shared<T>>, Refused>
-    requires seated { IsSeated (S.seat s.old) }
-    requires home { cells_home cell.now ≡ (S.seat s.old).home.cells }
-    requires reader { reader_of guard.now ≡ (S.seat s.old).reader }
-    ensures unmoved { Unmoved S.seat S.known S.shows s.old s.new }
+    requires seated { IsSeated (S.caller s.old) }
+    requires home { cells_home cell.now ≡ (S.caller s.old).home.cells }
+    requires reader { reader_of guard.now ≡ (S.caller s.old).reader }
+    ensures unmoved { Unmoved S.caller S.known S.shows s.old s.new }
     ensures own { KeepsMoreWaiting (S.own s.old) (S.own s.new) }
-    ensures owner { IfOk result (IsOfSlots (S.seat s.old).home.slots) }
+    ensures owner { IfOk result (IsOfSlots (S.caller s.old).home.slots) }
     ensures back { IfErr result (λ e. (e ≡ Refused.TooManyOwners) ⊎ (e ≡ Refused.Contended)) }
-    ensures exact { IsExact (S.seat s.old) → (t : Tag) (es : List (Entry T)) → IsList T.link (S.world s.old) (cell_of cell.now) t es →
-        Pops T.link (S.world s.old) (S.seat s.old).place (cell_of cell.now) t es result (S.world s.new) }
+    ensures exact { IsExact (S.caller s.old) → (t : Tag) (es : List (Entry T)) → IsList T.link (S.world s.old) (cell_of cell.now) t es →
+        Pops T.link (S.world s.old) (S.caller s.old).place (cell_of cell.now) t es result (S.world s.new) }
 {
     match find_first(cell, guard, s) {
         Ok(Some(front)) => match take_first(cell, front, guard, s) {
@@ -242,21 +242,21 @@ pub(crate) fn take_oldest<T: LinkedList, S: Items<T> + SharedItems<T> + Cells<T>
     guard: &Guard,
     s: &mut S,
 ) -> Result<Shared<T>, Refused>
-    requires seated { IsSeated (S.seat s.old) }
-    requires oldest { cells_home oldest.now ≡ (S.seat s.old).home.cells }
-    requires newest { cells_home newest.now ≡ (S.seat s.old).home.cells }
-    requires reader { reader_of guard.now ≡ (S.seat s.old).reader }
-    requires link { cells_home front.link.now ≡ (S.seat s.old).home.cells }
+    requires seated { IsSeated (S.caller s.old) }
+    requires oldest { cells_home oldest.now ≡ (S.caller s.old).home.cells }
+    requires newest { cells_home newest.now ≡ (S.caller s.old).home.cells }
+    requires reader { reader_of guard.now ≡ (S.caller s.old).reader }
+    requires link { cells_home front.link.now ≡ (S.caller s.old).home.cells }
     requires shown { PtrIsShown (S.shows s.old) front.ptr }
-    ensures unmoved { Unmoved S.seat S.known S.shows s.old s.new }
+    ensures unmoved { Unmoved S.caller S.known S.shows s.old s.new }
     ensures own { KeepsMoreWaiting (S.own s.old) (S.own s.new) }
-    ensures owner { IfOk result (λ owner. slots_home owner ≡ (S.seat s.old).home.slots) }
+    ensures owner { IfOk result (λ owner. slots_home owner ≡ (S.caller s.old).home.slots) }
     ensures back { IfErr result (λ e. (e ≡ Refused.TooManyOwners) ⊎ (e ≡ Refused.Contended)) }
-    ensures exact { IsExact (S.seat s.old) → (es : List (Entry T)) (second : Option ℕ) →
+    ensures exact { IsExact (S.caller s.old) → (es : List (Entry T)) (second : Option ℕ) →
         IsQueue T.link (S.world s.old) (record { oldest = cell_of oldest.now; newest = cell_of newest.now }) es second →
         (e : Entry T) (rest : List (Entry T)) → left es ≡ e ∷ rest → slot_named front.entry.ptr ≡ Some e.slot →
         cell_of front.entry.link.now ≡ T.link e.value → ((n : ℕ) × IsSharedBy n (standing_at (S.world s.old) e.slot)) → MatchResult result
-        (λ owner. IsDequeued T.link (S.world s.old) (S.seat s.old).place (record { oldest = cell_of oldest.now; newest = cell_of newest.now }) es second
+        (λ owner. IsDequeued T.link (S.world s.old) (S.caller s.old).place (record { oldest = cell_of oldest.now; newest = cell_of newest.now }) es second
         e rest owner (S.world s.new))
         (λ why. IsCrowded (S.world s.old) e why (S.world s.new)) }
 {
@@ -288,21 +288,21 @@ fn take_head_of_queue<T: LinkedList, S: Items<T> + SharedItems<T> + Cells<T>>(
     guard: &Guard,
     s: &mut S,
 ) -> Result<Shared<T>, Refused>
-    requires seated { IsSeated (S.seat s.old) }
-    requires oldest { cells_home oldest.now ≡ (S.seat s.old).home.cells }
-    requires newest { cells_home newest.now ≡ (S.seat s.old).home.cells }
-    requires reader { reader_of guard.now ≡ (S.seat s.old).reader }
-    requires link { cells_home front.link.now ≡ (S.seat s.old).home.cells }
+    requires seated { IsSeated (S.caller s.old) }
+    requires oldest { cells_home oldest.now ≡ (S.caller s.old).home.cells }
+    requires newest { cells_home newest.now ≡ (S.caller s.old).home.cells }
+    requires reader { reader_of guard.now ≡ (S.caller s.old).reader }
+    requires link { cells_home front.link.now ≡ (S.caller s.old).home.cells }
     requires shown { PtrIsShown (S.shows s.old) front.ptr }
-    ensures unmoved { Unmoved S.seat S.known S.shows s.old s.new }
+    ensures unmoved { Unmoved S.caller S.known S.shows s.old s.new }
     ensures own { KeepsMoreWaiting (S.own s.old) (S.own s.new) }
-    ensures owner { IfOk result (λ owner. slots_home owner ≡ (S.seat s.old).home.slots) }
+    ensures owner { IfOk result (λ owner. slots_home owner ≡ (S.caller s.old).home.slots) }
     ensures back { IfErr result (λ e. (e ≡ Refused.TooManyOwners) ⊎ (e ≡ Refused.Contended)) }
-    ensures exact { IsExact (S.seat s.old) → (e : Entry T) (rest : List (Entry T)) (second : Option ℕ) →
+    ensures exact { IsExact (S.caller s.old) → (e : Entry T) (rest : List (Entry T)) (second : Option ℕ) →
         IsQueue T.link (S.world s.old) (record { oldest = cell_of oldest.now; newest = cell_of newest.now }) (e ∷ rest) second → is_deleted e ≡ false →
         slot_named front.entry.ptr ≡ Some e.slot → cell_of front.entry.link.now ≡ T.link e.value →
         ((n : ℕ) × IsSharedBy n (standing_at (S.world s.old) e.slot)) → MatchResult result
-        (λ owner. IsDequeued T.link (S.world s.old) (S.seat s.old).place (record { oldest = cell_of oldest.now; newest = cell_of newest.now }) (e ∷ rest)
+        (λ owner. IsDequeued T.link (S.world s.old) (S.caller s.old).place (record { oldest = cell_of oldest.now; newest = cell_of newest.now }) (e ∷ rest)
         second e rest owner (S.world s.new))
         (λ why. IsCrowded (S.world s.old) e why (S.world s.new)) }
 {
@@ -330,16 +330,17 @@ pub(crate) fn clear<T: LinkedList, S: Items<T> + Cells<T> + LookThrough<T>>(
     guard: &Guard,
     s: &mut S,
 ) -> Result<(), Refused>
-    requires seated { IsSeated (S.seat s.old) }
-    requires oldest { cells_home oldest.now ≡ (S.seat s.old).home.cells }
-    requires newest { cells_home newest.now ≡ (S.seat s.old).home.cells }
-    requires reader { reader_of guard.now ≡ (S.seat s.old).reader }
-    ensures unmoved { Unmoved S.seat S.known S.shows s.old s.new }
+    requires seated { IsSeated (S.caller s.old) }
+    requires oldest { cells_home oldest.now ≡ (S.caller s.old).home.cells }
+    requires newest { cells_home newest.now ≡ (S.caller s.old).home.cells }
+    requires reader { reader_of guard.now ≡ (S.caller s.old).reader }
+    ensures unmoved { Unmoved S.caller S.known S.shows s.old s.new }
     ensures own { KeepsMoreWaiting (S.own s.old) (S.own s.new) }
     ensures back { IfErr result (λ e. e ≡ Refused.Contended) }
-    ensures exact { IsExact (S.seat s.old) → (es : List (Entry T)) (second : Option ℕ) →
+    ensures exact { IsExact (S.caller s.old) → (es : List (Entry T)) (second : Option ℕ) →
         IsQueue T.link (S.world s.old) (record { oldest = cell_of oldest.now; newest = cell_of newest.now }) es second → left es ≡ [] → IsOk result ×
-        IsCleared T.link (S.world s.old) (S.seat s.old).place (record { oldest = cell_of oldest.now; newest = cell_of newest.now }) es second (S.world s.new) }
+        IsCleared T.link (S.world s.old) (S.caller s.old).place (record { oldest = cell_of oldest.now; newest = cell_of newest.now }) es second
+        (S.world s.new) }
 {
     empty_cell(newest, s);
     match trim(oldest, guard, s) {
@@ -358,17 +359,17 @@ pub(crate) fn pop_oldest<T: LinkedList, S: Items<T> + SharedItems<T> + Cells<T> 
     guard: &Guard,
     s: &mut S,
 ) -> Result<Option<Shared<T>>, Refused>
-    requires seated { IsSeated (S.seat s.old) }
-    requires oldest { cells_home oldest.now ≡ (S.seat s.old).home.cells }
-    requires newest { cells_home newest.now ≡ (S.seat s.old).home.cells }
-    requires reader { reader_of guard.now ≡ (S.seat s.old).reader }
-    ensures unmoved { Unmoved S.seat S.known S.shows s.old s.new }
+    requires seated { IsSeated (S.caller s.old) }
+    requires oldest { cells_home oldest.now ≡ (S.caller s.old).home.cells }
+    requires newest { cells_home newest.now ≡ (S.caller s.old).home.cells }
+    requires reader { reader_of guard.now ≡ (S.caller s.old).reader }
+    ensures unmoved { Unmoved S.caller S.known S.shows s.old s.new }
     ensures own { KeepsMoreWaiting (S.own s.old) (S.own s.new) }
-    ensures owner { IfOk result (IsOfSlots (S.seat s.old).home.slots) }
+    ensures owner { IfOk result (IsOfSlots (S.caller s.old).home.slots) }
     ensures back { IfErr result (λ e. (e ≡ Refused.TooManyOwners) ⊎ (e ≡ Refused.Contended)) }
-    ensures exact { IsExact (S.seat s.old) → (es : List (Entry T)) (second : Option ℕ) →
+    ensures exact { IsExact (S.caller s.old) → (es : List (Entry T)) (second : Option ℕ) →
         IsQueue T.link (S.world s.old) (record { oldest = cell_of oldest.now; newest = cell_of newest.now }) es second →
-        Dequeues T.link (S.world s.old) (S.seat s.old).place (record { oldest = cell_of oldest.now; newest = cell_of newest.now }) es second result
+        Dequeues T.link (S.world s.old) (S.caller s.old).place (record { oldest = cell_of oldest.now; newest = cell_of newest.now }) es second result
         (S.world s.new) }
 {
     let Some(front) = first_in(oldest, guard, s) else {
@@ -396,17 +397,17 @@ fn pop_past_deleted_of_queue<
     guard: &Guard,
     s: &mut S,
 ) -> Result<Option<Shared<T>>, Refused>
-    requires seated { IsSeated (S.seat s.old) }
-    requires oldest { cells_home oldest.now ≡ (S.seat s.old).home.cells }
-    requires newest { cells_home newest.now ≡ (S.seat s.old).home.cells }
-    requires reader { reader_of guard.now ≡ (S.seat s.old).reader }
-    ensures unmoved { Unmoved S.seat S.known S.shows s.old s.new }
+    requires seated { IsSeated (S.caller s.old) }
+    requires oldest { cells_home oldest.now ≡ (S.caller s.old).home.cells }
+    requires newest { cells_home newest.now ≡ (S.caller s.old).home.cells }
+    requires reader { reader_of guard.now ≡ (S.caller s.old).reader }
+    ensures unmoved { Unmoved S.caller S.known S.shows s.old s.new }
     ensures own { KeepsMoreWaiting (S.own s.old) (S.own s.new) }
-    ensures owner { IfOk result (IsOfSlots (S.seat s.old).home.slots) }
+    ensures owner { IfOk result (IsOfSlots (S.caller s.old).home.slots) }
     ensures back { IfErr result (λ e. (e ≡ Refused.TooManyOwners) ⊎ (e ≡ Refused.Contended)) }
-    ensures exact { IsExact (S.seat s.old) → (es : List (Entry T)) (second : Option ℕ) →
+    ensures exact { IsExact (S.caller s.old) → (es : List (Entry T)) (second : Option ℕ) →
         IsQueue T.link (S.world s.old) (record { oldest = cell_of oldest.now; newest = cell_of newest.now }) es second →
-        Dequeues T.link (S.world s.old) (S.seat s.old).place (record { oldest = cell_of oldest.now; newest = cell_of newest.now }) es second result
+        Dequeues T.link (S.world s.old) (S.caller s.old).place (record { oldest = cell_of oldest.now; newest = cell_of newest.now }) es second result
         (S.world s.new) }
 {
     match find_first(oldest, guard, s) {

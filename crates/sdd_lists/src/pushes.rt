@@ -1,17 +1,17 @@
 //! Entries that come to a list at its front.
 ghost use Rattle.std.specs.Prelude.{◌≡◌, ◌≢◌, ◌⊎◌, ℕ, true, IfErr, IfOk, IfSome, List, MatchOption, MatchResult, None, Option, Some};
 ghost use Rattle.sdd_space.specs.Guard.{reader_of};
-ghost use Rattle.sdd_space.specs.OwnerOrCell.{AreOf};
+ghost use Rattle.sdd_world_model.specs.OwnerOrCell.{AreOf};
 ghost use Rattle.sdd_space.specs.Undisturbed.{Undisturbed, Unmoved};
-ghost use Rattle.sdd_space.specs.ParticipantChanges.{KeepsMoreWaiting};
+ghost use Rattle.sdd_world_model.specs.ParticipantChanges.{KeepsMoreWaiting};
 ghost use Rattle.sdd_space.specs.Refusals.{IsRefusedBy};
 ghost use Rattle.sdd_space.specs.CallerId.{IsSeated, IsExact};
 ghost use Rattle.sdd_space.specs.Shared.{right_of, slot_of, slots_home, cell_of, cells_home};
 ghost use Rattle.sdd_core.specs.declared.tag.Tag.{Tag};
 ghost use Rattle.sdd_core.specs.declared.tag.Tag.TheVariants.{None as no_tag};
 ghost use Rattle.sdd_participants.specs.Slab.{IsEmptyAt, IsFull, entry_at};
-ghost use Rattle.sdd_space.specs.World.{value_at};
-ghost use Rattle.sdd_space.specs.WorldChanges.{made_as};
+ghost use Rattle.sdd_world_model.specs.World.{value_at};
+ghost use Rattle.sdd_world_model.specs.WorldChanges.{made_as};
 ghost use Rattle.sdd_lists.specs.Ends.{IsLastOf, appended, is_spent};
 ghost use Rattle.sdd_lists.specs.Filling.{RefusesPush};
 ghost use Rattle.sdd_lists.specs.Lists.{Apart, Entry, IsList, IsPushed, first_slot, left, linked_in, trimmed};
@@ -36,21 +36,21 @@ pub(crate) fn push_first<T: LinkedList, S: Items<T> + Several<T> + Cells<T> + Lo
     guard: &Guard,
     s: &mut S,
 ) -> Result<Shared<T>, (T, Refused)>
-    requires seated { IsSeated (S.seat s.old) }
-    requires home { cells_home cell.now ≡ (S.seat s.old).home.cells }
-    requires value { AreOf (S.seat s.old).home (T.holds value) }
-    requires reader { reader_of guard.now ≡ (S.seat s.old).reader }
-    ensures unmoved { Unmoved S.seat S.known S.shows s.old s.new }
+    requires seated { IsSeated (S.caller s.old) }
+    requires home { cells_home cell.now ≡ (S.caller s.old).home.cells }
+    requires value { AreOf (S.caller s.old).home (T.holds value) }
+    requires reader { reader_of guard.now ≡ (S.caller s.old).reader }
+    ensures unmoved { Unmoved S.caller S.known S.shows s.old s.new }
     ensures own { KeepsMoreWaiting (S.own s.old) (S.own s.new) }
-    ensures owner { IfOk result (λ owner. slots_home owner ≡ (S.seat s.old).home.slots) }
+    ensures owner { IfOk result (λ owner. slots_home owner ≡ (S.caller s.old).home.slots) }
     ensures value { IfOk result (λ owner. S.owns_value s.new (right_of owner) value) }
-    ensures back { IfErr result (λ e. (e.0 ≡ value) × IsRefusedBy (S.seat s.old) Refused.NoSlot e.1) }
-    ensures refused { IsExact (S.seat s.old) →
+    ensures back { IfErr result (λ e. (e.0 ≡ value) × IsRefusedBy (S.caller s.old) Refused.NoSlot e.1) }
+    ensures refused { IsExact (S.caller s.old) →
         IfErr result (λ e. IsFull (S.world s.old).standings × (e.1 ≡ Refused.NoSlot) × (S.world s.new ≡ S.world s.old)) }
-    ensures exact { IsExact (S.seat s.old) → (t : Tag) (es : List (Entry T)) → IsList T.link (S.world s.old) (cell_of cell.now) t es →
+    ensures exact { IsExact (S.caller s.old) → (t : Tag) (es : List (Entry T)) → IsList T.link (S.world s.old) (cell_of cell.now) t es →
         entry_at (S.world s.old).cells (T.link value) ≡ Some (record { held = None; tag = no_tag }) → cell_of cell.now ≢ T.link value →
         Apart T.link (T.link value) es →
-        IfOk result (λ owner. IsPushed T.link (S.world s.old) (S.seat s.old).place (cell_of cell.now) t es (slot_of owner) value (S.world s.new)) }
+        IfOk result (λ owner. IsPushed T.link (S.world s.old) (S.caller s.old).place (cell_of cell.now) t es (slot_of owner) value (S.world s.new)) }
 {
     values_fit_slots::<T, S>(s);
     let (owner, kept) = match make_two(value, s) {
@@ -71,15 +71,15 @@ fn make_three<T: Item<T>, S: Several<T>>(
     value: T,
     s: &mut S,
 ) -> Result<(Shared<T>, Shared<T>, Shared<T>), (T, Refused)>
-    requires seated { IsSeated (S.seat s.old) }
-    requires home { AreOf (S.seat s.old).home (T.holds value) }
-    ensures undisturbed { Undisturbed S.seat S.own S.known S.shows s.old s.new }
-    ensures home { IfOk result (λ all. (slots_home all.0 ≡ (S.seat s.old).home.slots) × (slots_home all.1 ≡ (S.seat s.old).home.slots) ×
-        (slots_home all.2 ≡ (S.seat s.old).home.slots)) }
+    requires seated { IsSeated (S.caller s.old) }
+    requires home { AreOf (S.caller s.old).home (T.holds value) }
+    ensures undisturbed { Undisturbed S.caller S.own S.known S.shows s.old s.new }
+    ensures home { IfOk result (λ all. (slots_home all.0 ≡ (S.caller s.old).home.slots) × (slots_home all.1 ≡ (S.caller s.old).home.slots) ×
+        (slots_home all.2 ≡ (S.caller s.old).home.slots)) }
     ensures one { IfOk result (λ all. (slot_of all.1 ≡ slot_of all.0) × (slot_of all.2 ≡ slot_of all.0)) }
     ensures shown { IfOk result (λ all. S.owns_value s.new (right_of all.0) value) }
-    ensures back { IfErr result (λ e. (e.0 ≡ value) × IsRefusedBy (S.seat s.old) Refused.NoSlot e.1) }
-    ensures exact { IsExact (S.seat s.old) → MatchResult result
+    ensures back { IfErr result (λ e. (e.0 ≡ value) × IsRefusedBy (S.caller s.old) Refused.NoSlot e.1) }
+    ensures exact { IsExact (S.caller s.old) → MatchResult result
         (λ all. IsEmptyAt (S.world s.old).standings (slot_of all.0) ×
         (S.world s.new ≡ made_as (S.world s.old) (slot_of all.0) value (Standing.Shared 3)))
         (λ e. IsFull (S.world s.old).standings × (e ≡ (value, Refused.NoSlot)) × (S.world s.new ≡ S.world s.old)) }
@@ -106,17 +106,17 @@ fn put_behind<T: LinkedList, S: Items<T> + Cells<T> + LookThrough<T>>(
     guard: &Guard,
     s: &mut S,
 )
-    requires seated { IsSeated (S.seat s.old) }
-    requires home { cells_home cell.now ≡ (S.seat s.old).home.cells }
-    requires owner { slots_home owner.now ≡ (S.seat s.old).home.slots }
-    requires kept { slots_home kept ≡ (S.seat s.old).home.slots }
-    requires reader { reader_of guard.now ≡ (S.seat s.old).reader }
-    ensures unmoved { Unmoved S.seat S.known S.shows s.old s.new }
+    requires seated { IsSeated (S.caller s.old) }
+    requires home { cells_home cell.now ≡ (S.caller s.old).home.cells }
+    requires owner { slots_home owner.now ≡ (S.caller s.old).home.slots }
+    requires kept { slots_home kept ≡ (S.caller s.old).home.slots }
+    requires reader { reader_of guard.now ≡ (S.caller s.old).reader }
+    ensures unmoved { Unmoved S.caller S.known S.shows s.old s.new }
     ensures own { KeepsMoreWaiting (S.own s.old) (S.own s.new) }
-    ensures exact { IsExact (S.seat s.old) → (t : Tag) (es : List (Entry T)) (v : T) → IsList T.link (S.world s.old) (cell_of cell.now) t es →
+    ensures exact { IsExact (S.caller s.old) → (t : Tag) (es : List (Entry T)) (v : T) → IsList T.link (S.world s.old) (cell_of cell.now) t es →
         slot_of kept ≡ slot_of owner.now → value_at (S.world s.old) (slot_of owner.now) ≡ Some v →
         entry_at (S.world s.old).cells (T.link v) ≡ Some (record { held = None; tag = no_tag }) → cell_of cell.now ≢ T.link v → Apart T.link (T.link v) es →
-        (S.world s.new ≡ linked_in (trimmed T.link (S.world s.old) (S.seat s.old).place (cell_of cell.now) t es) (cell_of cell.now) t (T.link v)
+        (S.world s.new ≡ linked_in (trimmed T.link (S.world s.old) (S.caller s.old).place (cell_of cell.now) t es) (cell_of cell.now) t (T.link v)
         (slot_of owner.now) (first_slot (left es))) }
 {
     let _ = trim(cell, guard, s);
@@ -136,21 +136,21 @@ fn put_last<T: LinkedList, S: Items<T> + Cells<T> + LookThrough<T>>(
     guard: &Guard,
     s: &mut S,
 )
-    requires seated { IsSeated (S.seat s.old) }
-    requires home { cells_home cell.now ≡ (S.seat s.old).home.cells }
-    requires last { IfSome last (λ f. cells_home f.link.now ≡ (S.seat s.old).home.cells) }
-    requires owner { slots_home owner.now ≡ (S.seat s.old).home.slots }
-    requires kept { slots_home kept ≡ (S.seat s.old).home.slots }
-    requires reader { reader_of guard.now ≡ (S.seat s.old).reader }
-    ensures unmoved { Unmoved S.seat S.known S.shows s.old s.new }
+    requires seated { IsSeated (S.caller s.old) }
+    requires home { cells_home cell.now ≡ (S.caller s.old).home.cells }
+    requires last { IfSome last (λ f. cells_home f.link.now ≡ (S.caller s.old).home.cells) }
+    requires owner { slots_home owner.now ≡ (S.caller s.old).home.slots }
+    requires kept { slots_home kept ≡ (S.caller s.old).home.slots }
+    requires reader { reader_of guard.now ≡ (S.caller s.old).reader }
+    ensures unmoved { Unmoved S.caller S.known S.shows s.old s.new }
     ensures own { KeepsMoreWaiting (S.own s.old) (S.own s.new) }
-    ensures exact { IsExact (S.seat s.old) → (t : Tag) (es : List (Entry T)) (v : T) → IsList T.link (S.world s.old) (cell_of cell.now) t es →
+    ensures exact { IsExact (S.caller s.old) → (t : Tag) (es : List (Entry T)) (v : T) → IsList T.link (S.world s.old) (cell_of cell.now) t es →
         MatchOption last.entry (is_spent es ≡ true)
         (λ f. (e : Entry T) × (rest : List (Entry T)) × IsLastOf es e rest × (f.entry.now ≡ e.value) ×
         (cell_of f.link.now ≡ T.link e.value)) →
         slot_of kept ≡ slot_of owner.now → value_at (S.world s.old) (slot_of owner.now) ≡ Some v →
         entry_at (S.world s.old).cells (T.link v) ≡ Some (record { held = None; tag = no_tag }) → cell_of cell.now ≢ T.link v → Apart T.link (T.link v) es →
-        (S.world s.new ≡ appended T.link (S.world s.old) (S.seat s.old).place (cell_of cell.now) t es (T.link v) (slot_of owner.now)) }
+        (S.world s.new ≡ appended T.link (S.world s.old) (S.caller s.old).place (cell_of cell.now) t es (T.link v) (slot_of owner.now)) }
 {
     match last {
         Some(front) => put_behind(front.link, owner, kept, guard, s),
@@ -171,27 +171,27 @@ pub(crate) fn push_last<T: LinkedList, S: Items<T> + Several<T> + Cells<T> + Loo
     guard: &Guard,
     s: &mut S,
 ) -> Result<Shared<T>, (T, Refused)>
-    requires seated { IsSeated (S.seat s.old) }
-    requires oldest { cells_home oldest.now ≡ (S.seat s.old).home.cells }
-    requires newest { cells_home newest.now ≡ (S.seat s.old).home.cells }
-    requires last { IfSome last (λ f. cells_home f.link.now ≡ (S.seat s.old).home.cells) }
-    requires value { AreOf (S.seat s.old).home (T.holds value) }
-    requires reader { reader_of guard.now ≡ (S.seat s.old).reader }
-    ensures unmoved { Unmoved S.seat S.known S.shows s.old s.new }
+    requires seated { IsSeated (S.caller s.old) }
+    requires oldest { cells_home oldest.now ≡ (S.caller s.old).home.cells }
+    requires newest { cells_home newest.now ≡ (S.caller s.old).home.cells }
+    requires last { IfSome last (λ f. cells_home f.link.now ≡ (S.caller s.old).home.cells) }
+    requires value { AreOf (S.caller s.old).home (T.holds value) }
+    requires reader { reader_of guard.now ≡ (S.caller s.old).reader }
+    ensures unmoved { Unmoved S.caller S.known S.shows s.old s.new }
     ensures own { KeepsMoreWaiting (S.own s.old) (S.own s.new) }
-    ensures owner { IfOk result (λ owner. slots_home owner ≡ (S.seat s.old).home.slots) }
+    ensures owner { IfOk result (λ owner. slots_home owner ≡ (S.caller s.old).home.slots) }
     ensures value { IfOk result (λ owner. S.owns_value s.new (right_of owner) value) }
-    ensures back { IfErr result (λ e. (e.0 ≡ value) × IsRefusedBy (S.seat s.old) Refused.NoSlot e.1) }
-    ensures refused { IsExact (S.seat s.old) →
+    ensures back { IfErr result (λ e. (e.0 ≡ value) × IsRefusedBy (S.caller s.old) Refused.NoSlot e.1) }
+    ensures refused { IsExact (S.caller s.old) →
         IfErr result (λ e. IsFull (S.world s.old).standings × (e.1 ≡ Refused.NoSlot) × (S.world s.new ≡ S.world s.old)) }
-    ensures exact { IsExact (S.seat s.old) → (es : List (Entry T)) (second : Option ℕ) →
+    ensures exact { IsExact (S.caller s.old) → (es : List (Entry T)) (second : Option ℕ) →
         IsQueue T.link (S.world s.old) (record { oldest = cell_of oldest.now; newest = cell_of newest.now }) es second →
         MatchOption last.entry (is_spent es ≡ true)
         (λ f. (e : Entry T) × (rest : List (Entry T)) × IsLastOf es e rest × (f.entry.now ≡ e.value) ×
         (cell_of f.link.now ≡ T.link e.value)) →
         entry_at (S.world s.old).cells (T.link value) ≡ Some (record { held = None; tag = no_tag }) → cell_of oldest.now ≢ T.link value →
         cell_of newest.now ≢ T.link value → Apart T.link (T.link value) es →
-        IfOk result (λ owner. IsEnqueued T.link (S.world s.old) (S.seat s.old).place
+        IfOk result (λ owner. IsEnqueued T.link (S.world s.old) (S.caller s.old).place
         (record { oldest = cell_of oldest.now; newest = cell_of newest.now }) es second (slot_of owner) value (S.world s.new)) }
 {
     values_fit_slots::<T, S>(s);
@@ -209,11 +209,11 @@ pub(crate) fn push_last<T: LinkedList, S: Items<T> + Several<T> + Cells<T> + Loo
 ///
 /// `NoSlot` where no slot is free, else `NoCell` where no cell is; `Contended`, in a domain alone, where as many exchanges were lost as its limits allow.
 pub(crate) fn has_room<T: Item<T>, S: Items<T> + Cells<T>>(s: &mut S) -> Result<(), Refused>
-    requires seated { IsSeated (S.seat s.old) }
-    ensures unmoved { Unmoved S.seat S.known S.shows s.old s.new }
+    requires seated { IsSeated (S.caller s.old) }
+    ensures unmoved { Unmoved S.caller S.known S.shows s.old s.new }
     ensures own { KeepsMoreWaiting (S.own s.old) (S.own s.new) }
-    ensures back { IfErr result (λ e. (e ≡ Refused.NoSlot) ⊎ IsRefusedBy (S.seat s.old) Refused.NoCell e) }
-    ensures exact { IsExact (S.seat s.old) → (S.world s.new ≡ S.world s.old) × MatchResult result
+    ensures back { IfErr result (λ e. (e ≡ Refused.NoSlot) ⊎ IsRefusedBy (S.caller s.old) Refused.NoCell e) }
+    ensures exact { IsExact (S.caller s.old) → (S.world s.new ≡ S.world s.old) × MatchResult result
         (λ _. ¬ (IsFull (S.world s.old).standings) × ¬ (IsFull (S.world s.old).cells)) (RefusesPush (S.world s.old)) }
 {
     let free = s.has_slot();
@@ -235,14 +235,14 @@ fn front_of<'g, T: LinkedList, S: Items<T>>(
     guard: &'g Guard,
     s: &mut S,
 ) -> Front<'g, T>
-    requires seated { IsSeated (S.seat s.old) }
-    requires owner { slots_home owner.now ≡ (S.seat s.old).home.slots }
-    requires reader { reader_of guard.now ≡ (S.seat s.old).reader }
-    ensures undisturbed { Undisturbed S.seat S.own S.known S.shows s.old s.new }
-    ensures home { cells_home result.link.now ≡ (S.seat s.old).home.cells }
+    requires seated { IsSeated (S.caller s.old) }
+    requires owner { slots_home owner.now ≡ (S.caller s.old).home.slots }
+    requires reader { reader_of guard.now ≡ (S.caller s.old).reader }
+    ensures undisturbed { Undisturbed S.caller S.own S.known S.shows s.old s.new }
+    ensures home { cells_home result.link.now ≡ (S.caller s.old).home.cells }
     ensures link { cell_of result.link.now ≡ T.link result.entry.now }
     ensures value { S.shows s.new (slot_of owner.now) result.entry.now }
-    ensures exact { IsExact (S.seat s.old) → S.world s.new ≡ S.world s.old }
+    ensures exact { IsExact (S.caller s.old) → S.world s.new ≡ S.world s.old }
 {
     let ptr = owner.get_guarded_ptr(guard, s);
     let entry = owner.get_guarded_ref(guard, s);
@@ -265,21 +265,21 @@ pub(crate) fn append<'g, T: LinkedList, S: Items<T> + Several<T> + Cells<T> + Lo
     guard: &'g Guard,
     s: &mut S,
 ) -> Result<Front<'g, T>, (T, Refused)>
-    requires seated { IsSeated (S.seat s.old) }
-    requires home { cells_home cell.now ≡ (S.seat s.old).home.cells }
-    requires last { IfSome last (λ f. cells_home f.link.now ≡ (S.seat s.old).home.cells) }
-    requires value { AreOf (S.seat s.old).home (T.holds value) }
-    requires reader { reader_of guard.now ≡ (S.seat s.old).reader }
-    ensures unmoved { Unmoved S.seat S.known S.shows s.old s.new }
+    requires seated { IsSeated (S.caller s.old) }
+    requires home { cells_home cell.now ≡ (S.caller s.old).home.cells }
+    requires last { IfSome last (λ f. cells_home f.link.now ≡ (S.caller s.old).home.cells) }
+    requires value { AreOf (S.caller s.old).home (T.holds value) }
+    requires reader { reader_of guard.now ≡ (S.caller s.old).reader }
+    ensures unmoved { Unmoved S.caller S.known S.shows s.old s.new }
     ensures own { KeepsMoreWaiting (S.own s.old) (S.own s.new) }
-    ensures home { IfOk result (λ f. cells_home f.link.now ≡ (S.seat s.old).home.cells) }
-    ensures back { IfErr result (λ e. (e.0 ≡ value) × IsRefusedBy (S.seat s.old) Refused.NoSlot e.1) }
-    ensures refused { IsExact (S.seat s.old) →
+    ensures home { IfOk result (λ f. cells_home f.link.now ≡ (S.caller s.old).home.cells) }
+    ensures back { IfErr result (λ e. (e.0 ≡ value) × IsRefusedBy (S.caller s.old) Refused.NoSlot e.1) }
+    ensures refused { IsExact (S.caller s.old) →
         IfErr result (λ e. IsFull (S.world s.old).standings × (e.1 ≡ Refused.NoSlot) × (S.world s.new ≡ S.world s.old)) }
-    ensures exact { IsExact (S.seat s.old) → (t : Tag) (es : List (Entry T)) → IsList T.link (S.world s.old) (cell_of cell.now) t es →
+    ensures exact { IsExact (S.caller s.old) → (t : Tag) (es : List (Entry T)) → IsList T.link (S.world s.old) (cell_of cell.now) t es →
         LastIs T.link last.entry es → entry_at (S.world s.old).cells (T.link value) ≡ Some (record { held = None; tag = no_tag }) →
         cell_of cell.now ≢ T.link value → Apart T.link (T.link value) es →
-        IfOk result (λ f. (k : ℕ) × IsAppended T.link (S.world s.old) (S.seat s.old).place (cell_of cell.now) t es k value (S.world s.new) ×
+        IfOk result (λ f. (k : ℕ) × IsAppended T.link (S.world s.old) (S.caller s.old).place (cell_of cell.now) t es k value (S.world s.new) ×
         (f.entry.now ≡ value) × (cell_of f.link.now ≡ T.link value)) }
 {
     values_fit_slots::<T, S>(s);

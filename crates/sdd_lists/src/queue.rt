@@ -4,18 +4,18 @@ ghost use Rattle.std.specs.Iterator.{IsFinite, YieldsThen};
 ghost use Rattle.std.specs.List.{AllZip};
 ghost use Rattle.std.specs.Prelude.{◌≡◌, ◌≢◌, ◌↔◌, ◌⊎◌, ℕ, true, [], ◌∷◌, ◌++◌, IfErr, IfOk, IfSome, IsTrue, List, MatchOption, MatchResult, None, Option, Some, drop, length, option_copied, slice_get};
 ghost use Rattle.sdd_space.specs.Guard.{reader_of};
-ghost use Rattle.sdd_space.specs.OwnerOrCell.{AreOf};
+ghost use Rattle.sdd_world_model.specs.OwnerOrCell.{AreOf};
 ghost use Rattle.sdd_space.specs.Undisturbed.{Undisturbed, Unmoved};
-ghost use Rattle.sdd_space.specs.ParticipantChanges.{KeepsMoreWaiting};
+ghost use Rattle.sdd_world_model.specs.ParticipantChanges.{KeepsMoreWaiting};
 ghost use Rattle.sdd_space.specs.Ptr.{PtrIsShown, slot_named, tag_of};
 ghost use Rattle.sdd_space.specs.Refusals.{IsRefusedBy};
 ghost use Rattle.sdd_space.specs.CallerId.{IsSeated, IsExact};
 ghost use Rattle.sdd_space.specs.Shared.{IsOfSlots, cell_of, cells_home, slot_of, slots_home};
-ghost use Rattle.sdd_space.specs.World.{standing_at};
-ghost use Rattle.sdd_space.specs.WorldChanges.{nulled};
+ghost use Rattle.sdd_world_model.specs.World.{standing_at};
+ghost use Rattle.sdd_world_model.specs.WorldChanges.{nulled};
 ghost use Rattle.sdd_core.specs.declared.tag.Tag.TheVariants.{None as no_tag};
 ghost use Rattle.sdd_participants.specs.Slab.{IsEmptyAt, IsFull};
-ghost use Rattle.sdd_standings.specs.Slots.{IsSharedBy};
+ghost use Rattle.sdd_world_model.specs.Slots.{IsSharedBy};
 ghost use Rattle.sdd_lists.specs.Asking.{kept_by, was_held};
 ghost use Rattle.sdd_lists.specs.Ends.{IsLastOf, is_spent, last_value};
 ghost use Rattle.sdd_lists.specs.Entries.{link_of, value_of};
@@ -64,18 +64,18 @@ impl<T: Item<LinkedEntry<T>>> Queue<T> {
     pub fn new<S: Items<LinkedEntry<T>> + Cells<LinkedEntry<T>>>(
         s: &mut S,
     ) -> Result<Queue<T>, Refused>
-        requires seated { IsSeated (S.seat s.old) }
-        ensures unmoved { Unmoved S.seat S.known S.shows s.old s.new }
+        requires seated { IsSeated (S.caller s.old) }
+        ensures unmoved { Unmoved S.caller S.known S.shows s.old s.new }
         ensures own { KeepsMoreWaiting (S.own s.old) (S.own s.new) }
-        ensures home { IfOk result (AreOfCells (S.seat s.old).home.cells) }
-        ensures back { IfErr result (IsRefusedBy (S.seat s.old) Refused.NoCell) }
-        ensures world { IsExact (S.seat s.old) → MatchResult result
+        ensures home { IfOk result (AreOfCells (S.caller s.old).home.cells) }
+        ensures back { IfErr result (IsRefusedBy (S.caller s.old) Refused.NoCell) }
+        ensures world { IsExact (S.caller s.old) → MatchResult result
             (λ queue. IsEmptyAt (S.world s.old).cells (cells_in queue).oldest × IsEmptyAt (S.world s.old).cells (cells_in queue).newest ×
             ((cells_in queue).oldest ≢ (cells_in queue).newest) ×
             (S.world s.new ≡ nulled (nulled (S.world s.old) (cells_in queue).oldest) (cells_in queue).newest))
             (λ e. HasOneAtMost (S.world s.old).cells × (e ≡ Refused.NoCell) × (S.world s.new ≡ S.world s.old)) }
-        ensures list { IsExact (S.seat s.old) → IfOk result (λ queue. IsQueue link_of (S.world s.new) (cells_in queue) [] None) }
-        ensures values { IsExact (S.seat s.old) → IfOk result (λ queue. QueueHas (S.world s.new) queue []) }
+        ensures list { IsExact (S.caller s.old) → IfOk result (λ queue. IsQueue link_of (S.world s.new) (cells_in queue) [] None) }
+        ensures values { IsExact (S.caller s.old) → IfOk result (λ queue. QueueHas (S.world s.new) queue []) }
     {
         let oldest = match AtomicShared::null(s) {
             Ok(oldest) => oldest,
@@ -101,22 +101,22 @@ impl<T: Item<LinkedEntry<T>>> Queue<T> {
             + Cells<LinkedEntry<T>>
             + LookThrough<LinkedEntry<T>>,
     >(&self, value: T, guard: &Guard, s: &mut S) -> Result<Shared<LinkedEntry<T>>, (T, Refused)>
-        requires seated { IsSeated (S.seat s.old) }
-        requires home { AreOfCells (S.seat s.old).home.cells self.now }
-        requires value { AreOf (S.seat s.old).home (T.holds value) }
-        requires reader { reader_of guard.now ≡ (S.seat s.old).reader }
-        ensures unmoved { Unmoved S.seat S.known S.shows s.old s.new }
+        requires seated { IsSeated (S.caller s.old) }
+        requires home { AreOfCells (S.caller s.old).home.cells self.now }
+        requires value { AreOf (S.caller s.old).home (T.holds value) }
+        requires reader { reader_of guard.now ≡ (S.caller s.old).reader }
+        ensures unmoved { Unmoved S.caller S.known S.shows s.old s.new }
         ensures own { KeepsMoreWaiting (S.own s.old) (S.own s.new) }
-        ensures owner { IfOk result (λ owner. slots_home owner ≡ (S.seat s.old).home.slots) }
+        ensures owner { IfOk result (λ owner. slots_home owner ≡ (S.caller s.old).home.slots) }
         ensures back { IfErr result (λ e. (e.0 ≡ value) × ((e.1 ≡ Refused.NoSlot) ⊎ (e.1 ≡ Refused.NoCell) ⊎ (e.1 ≡ Refused.Contended))) }
-        ensures refused { IsExact (S.seat s.old) → (es : List (Entry (LinkedEntry T))) (second : Option ℕ) →
+        ensures refused { IsExact (S.caller s.old) → (es : List (Entry (LinkedEntry T))) (second : Option ℕ) →
             IsQueue link_of (S.world s.old) (cells_in self.now) es second → IfErr result (λ e. (S.world s.new ≡ S.world s.old) ×
             (IsFull (S.world s.old).standings × (e.1 ≡ Refused.NoSlot) ⊎
             ¬ (IsFull (S.world s.old).standings) × IsFull (S.world s.old).cells × (e.1 ≡ Refused.NoCell))) }
-        ensures list { IsExact (S.seat s.old) → (es : List (Entry (LinkedEntry T))) (second : Option ℕ) →
+        ensures list { IsExact (S.caller s.old) → (es : List (Entry (LinkedEntry T))) (second : Option ℕ) →
             IsQueue link_of (S.world s.old) (cells_in self.now) es second →
-            IfOk result (λ owner. PushesBehind (S.world s.old) (S.seat s.old).place (cells_in self.now) es second value owner (S.world s.new)) }
-        ensures values { IsExact (S.seat s.old) → (vs : List T) → QueueHas (S.world s.old) self.now vs → MatchResult result
+            IfOk result (λ owner. PushesBehind (S.world s.old) (S.caller s.old).place (cells_in self.now) es second value owner (S.world s.new)) }
+        ensures values { IsExact (S.caller s.old) → (vs : List T) → QueueHas (S.world s.old) self.now vs → MatchResult result
             (λ _. QueueHas (S.world s.new) self.now (vs ++ value ∷ []))
             (λ _. S.world s.new ≡ S.world s.old) }
     {
@@ -137,22 +137,22 @@ impl<T: Item<LinkedEntry<T>>> Queue<T> {
             + Cells<LinkedEntry<T>>
             + LookThrough<LinkedEntry<T>>,
     >(&self, value: T, guard: &Guard, s: &mut S) -> Result<Shared<LinkedEntry<T>>, (T, Refused)>
-        requires seated { IsSeated (S.seat s.old) }
-        requires home { AreOfCells (S.seat s.old).home.cells self.now }
-        requires value { AreOf (S.seat s.old).home (T.holds value) }
-        requires reader { reader_of guard.now ≡ (S.seat s.old).reader }
-        ensures unmoved { Unmoved S.seat S.known S.shows s.old s.new }
+        requires seated { IsSeated (S.caller s.old) }
+        requires home { AreOfCells (S.caller s.old).home.cells self.now }
+        requires value { AreOf (S.caller s.old).home (T.holds value) }
+        requires reader { reader_of guard.now ≡ (S.caller s.old).reader }
+        ensures unmoved { Unmoved S.caller S.known S.shows s.old s.new }
         ensures own { KeepsMoreWaiting (S.own s.old) (S.own s.new) }
-        ensures owner { IfOk result (λ owner. slots_home owner ≡ (S.seat s.old).home.slots) }
+        ensures owner { IfOk result (λ owner. slots_home owner ≡ (S.caller s.old).home.slots) }
         ensures back { IfErr result (λ e. (e.0 ≡ value) × ((e.1 ≡ Refused.NoSlot) ⊎ (e.1 ≡ Refused.NoCell) ⊎ (e.1 ≡ Refused.Contended))) }
-        ensures refused { IsExact (S.seat s.old) → (es : List (Entry (LinkedEntry T))) (second : Option ℕ) →
+        ensures refused { IsExact (S.caller s.old) → (es : List (Entry (LinkedEntry T))) (second : Option ℕ) →
             IsQueue link_of (S.world s.old) (cells_in self.now) es second → IfErr result (λ e. (S.world s.new ≡ S.world s.old) ×
             (IsFull (S.world s.old).standings × (e.1 ≡ Refused.NoSlot) ⊎
             ¬ (IsFull (S.world s.old).standings) × IsFull (S.world s.old).cells × (e.1 ≡ Refused.NoCell))) }
-        ensures list { IsExact (S.seat s.old) → (es : List (Entry (LinkedEntry T))) (second : Option ℕ) →
+        ensures list { IsExact (S.caller s.old) → (es : List (Entry (LinkedEntry T))) (second : Option ℕ) →
             IsQueue link_of (S.world s.old) (cells_in self.now) es second →
-            IfOk result (λ owner. PushesBehind (S.world s.old) (S.seat s.old).place (cells_in self.now) es second value owner (S.world s.new)) }
-        ensures values { IsExact (S.seat s.old) → (vs : List T) → QueueHas (S.world s.old) self.now vs → MatchResult result
+            IfOk result (λ owner. PushesBehind (S.world s.old) (S.caller s.old).place (cells_in self.now) es second value owner (S.world s.new)) }
+        ensures values { IsExact (S.caller s.old) → (vs : List T) → QueueHas (S.world s.old) self.now vs → MatchResult result
             (λ _. QueueHas (S.world s.new) self.now (vs ++ value ∷ []))
             (λ _. S.world s.new ≡ S.world s.old) }
     {
@@ -176,23 +176,23 @@ impl<T: Item<LinkedEntry<T>>> Queue<T> {
         guard: &Guard,
         s: &mut S,
     ) -> Result<Shared<LinkedEntry<T>>, (T, Refused)>
-        requires seated { IsSeated (S.seat s.old) }
-        requires home { AreOfCells (S.seat s.old).home.cells self.now }
-        requires last { IfSome last (λ f. cells_home f.link.now ≡ (S.seat s.old).home.cells) }
-        requires value { AreOf (S.seat s.old).home (T.holds value) }
-        requires reader { reader_of guard.now ≡ (S.seat s.old).reader }
-        ensures unmoved { Unmoved S.seat S.known S.shows s.old s.new }
+        requires seated { IsSeated (S.caller s.old) }
+        requires home { AreOfCells (S.caller s.old).home.cells self.now }
+        requires last { IfSome last (λ f. cells_home f.link.now ≡ (S.caller s.old).home.cells) }
+        requires value { AreOf (S.caller s.old).home (T.holds value) }
+        requires reader { reader_of guard.now ≡ (S.caller s.old).reader }
+        ensures unmoved { Unmoved S.caller S.known S.shows s.old s.new }
         ensures own { KeepsMoreWaiting (S.own s.old) (S.own s.new) }
-        ensures owner { IfOk result (λ owner. slots_home owner ≡ (S.seat s.old).home.slots) }
-        ensures back { IfErr result (λ e. (e.0 ≡ value) × ((e.1 ≡ Refused.NoSlot) ⊎ IsRefusedBy (S.seat s.old) Refused.NoCell e.1)) }
-        ensures refused { IsExact (S.seat s.old) → IfErr result (λ e. (S.world s.new ≡ S.world s.old) ×
+        ensures owner { IfOk result (λ owner. slots_home owner ≡ (S.caller s.old).home.slots) }
+        ensures back { IfErr result (λ e. (e.0 ≡ value) × ((e.1 ≡ Refused.NoSlot) ⊎ IsRefusedBy (S.caller s.old) Refused.NoCell e.1)) }
+        ensures refused { IsExact (S.caller s.old) → IfErr result (λ e. (S.world s.new ≡ S.world s.old) ×
             (IsFull (S.world s.old).standings × (e.1 ≡ Refused.NoSlot) ⊎
             ¬ (IsFull (S.world s.old).standings) × IsFull (S.world s.old).cells × (e.1 ≡ Refused.NoCell))) }
-        ensures list { IsExact (S.seat s.old) → (es : List (Entry (LinkedEntry T))) (second : Option ℕ) →
+        ensures list { IsExact (S.caller s.old) → (es : List (Entry (LinkedEntry T))) (second : Option ℕ) →
             IsQueue link_of (S.world s.old) (cells_in self.now) es second → MatchOption last.entry (is_spent es ≡ true)
             (λ f. (e : Entry (LinkedEntry T)) × (rest : List (Entry (LinkedEntry T))) × IsLastOf es e rest ×
             (f.entry.now ≡ e.value) × (cell_of f.link.now ≡ link_of e.value)) →
-            IfOk result (λ owner. PushesBehind (S.world s.old) (S.seat s.old).place (cells_in self.now) es second value owner (S.world s.new)) }
+            IfOk result (λ owner. PushesBehind (S.world s.old) (S.caller s.old).place (cells_in self.now) es second value owner (S.world s.new)) }
     {
         let free = s.has_slot();
         if !free {
@@ -225,26 +225,26 @@ impl<T: Item<LinkedEntry<T>>> Queue<T> {
         guard: &Guard,
         s: &mut S,
     ) -> Result<Shared<LinkedEntry<T>>, (T, Option<Refused>)>
-        requires seated { IsSeated (S.seat s.old) }
-        requires home { AreOfCells (S.seat s.old).home.cells self.now }
-        requires value { AreOf (S.seat s.old).home (T.holds value) }
+        requires seated { IsSeated (S.caller s.old) }
+        requires home { AreOfCells (S.caller s.old).home.cells self.now }
+        requires value { AreOf (S.caller s.old).home (T.holds value) }
         requires callable { F.IsAlwaysCallable condition }
-        requires reader { reader_of guard.now ≡ (S.seat s.old).reader }
-        ensures unmoved { Unmoved S.seat S.known S.shows s.old s.new }
+        requires reader { reader_of guard.now ≡ (S.caller s.old).reader }
+        ensures unmoved { Unmoved S.caller S.known S.shows s.old s.new }
         ensures own { KeepsMoreWaiting (S.own s.old) (S.own s.new) }
-        ensures owner { IfOk result (λ owner. slots_home owner ≡ (S.seat s.old).home.slots) }
+        ensures owner { IfOk result (λ owner. slots_home owner ≡ (S.caller s.old).home.slots) }
         ensures back { IfErr result (λ e. (e.0 ≡ value) ×
             IfSome e.1 (λ why. (why ≡ Refused.NoSlot) ⊎ (why ≡ Refused.NoCell) ⊎ (why ≡ Refused.Contended))) }
-        ensures asked { IsExact (S.seat s.old) → (es : List (Entry (LinkedEntry T))) (second : Option ℕ) →
+        ensures asked { IsExact (S.caller s.old) → (es : List (Entry (LinkedEntry T))) (second : Option ℕ) →
             IsQueue link_of (S.world s.old) (cells_in self.now) es second →
             (shown : _) × (option_copied shown ≡ last_value es) × F.post condition shown (was_held result) }
-        ensures refused { IsExact (S.seat s.old) → (es : List (Entry (LinkedEntry T))) (second : Option ℕ) →
+        ensures refused { IsExact (S.caller s.old) → (es : List (Entry (LinkedEntry T))) (second : Option ℕ) →
             IsQueue link_of (S.world s.old) (cells_in self.now) es second →
             IfErr result (λ e. (S.world s.new ≡ S.world s.old) × IfSome e.1 (λ why. IsFull (S.world s.old).standings × (why ≡ Refused.NoSlot) ⊎
             ¬ (IsFull (S.world s.old).standings) × IsFull (S.world s.old).cells × (why ≡ Refused.NoCell))) }
-        ensures list { IsExact (S.seat s.old) → (es : List (Entry (LinkedEntry T))) (second : Option ℕ) →
+        ensures list { IsExact (S.caller s.old) → (es : List (Entry (LinkedEntry T))) (second : Option ℕ) →
             IsQueue link_of (S.world s.old) (cells_in self.now) es second →
-            IfOk result (λ owner. PushesBehind (S.world s.old) (S.seat s.old).place (cells_in self.now) es second value owner (S.world s.new)) }
+            IfOk result (λ owner. PushesBehind (S.world s.old) (S.caller s.old).place (cells_in self.now) es second value owner (S.world s.new)) }
     {
         let last = match find_last(&self.oldest, &self.newest, guard, s) {
             Ok(last) => last,
@@ -270,19 +270,19 @@ impl<T: Item<LinkedEntry<T>>> Queue<T> {
             + Cells<LinkedEntry<T>>
             + LookThrough<LinkedEntry<T>>,
     >(&self, value: T, guard: &Guard, s: &mut S) -> Result<(), (T, Refused)>
-        requires seated { IsSeated (S.seat s.old) }
-        requires home { AreOfCells (S.seat s.old).home.cells self.now }
-        requires value { AreOf (S.seat s.old).home (T.holds value) }
-        requires reader { reader_of guard.now ≡ (S.seat s.old).reader }
-        ensures unmoved { Unmoved S.seat S.known S.shows s.old s.new }
+        requires seated { IsSeated (S.caller s.old) }
+        requires home { AreOfCells (S.caller s.old).home.cells self.now }
+        requires value { AreOf (S.caller s.old).home (T.holds value) }
+        requires reader { reader_of guard.now ≡ (S.caller s.old).reader }
+        ensures unmoved { Unmoved S.caller S.known S.shows s.old s.new }
         ensures own { KeepsMoreWaiting (S.own s.old) (S.own s.new) }
         ensures back { IfErr result (λ e. (e.0 ≡ value) × ((e.1 ≡ Refused.NoSlot) ⊎ (e.1 ≡ Refused.NoCell) ⊎ (e.1 ≡ Refused.Contended))) }
-        ensures refused { IsExact (S.seat s.old) → (es : List (Entry (LinkedEntry T))) (second : Option ℕ) →
+        ensures refused { IsExact (S.caller s.old) → (es : List (Entry (LinkedEntry T))) (second : Option ℕ) →
             IsQueue link_of (S.world s.old) (cells_in self.now) es second →
             IfErr result (λ e. (S.world s.new ≡ S.world s.old) × RefusesPush (S.world s.old) e.1) }
-        ensures list { IsExact (S.seat s.old) → (es : List (Entry (LinkedEntry T))) (second : Option ℕ) →
+        ensures list { IsExact (S.caller s.old) → (es : List (Entry (LinkedEntry T))) (second : Option ℕ) →
             IsQueue link_of (S.world s.old) (cells_in self.now) es second → IfOk result (λ _. (fs : List (Entry (LinkedEntry T))) × (held : Option ℕ) ×
-            AddsBehind (S.world s.old) (S.seat s.old).place (cells_in self.now) es second value (S.world s.new) fs held) }
+            AddsBehind (S.world s.old) (S.caller s.old).place (cells_in self.now) es second value (S.world s.new) fs held) }
     {
         match self.push(value, guard, s) {
             Ok(owner) => {
@@ -301,19 +301,19 @@ impl<T: Item<LinkedEntry<T>>> Queue<T> {
             + Cells<LinkedEntry<T>>
             + LookThrough<LinkedEntry<T>>,
     >(&self, items: &mut I, guard: &Guard, s: &mut S) -> Result<(), (T, Refused)>
-        requires seated { IsSeated (S.seat s.old) }
-        requires home { AreOfCells (S.seat s.old).home.cells self.now }
-        requires reader { reader_of guard.now ≡ (S.seat s.old).reader }
+        requires seated { IsSeated (S.caller s.old) }
+        requires home { AreOfCells (S.caller s.old).home.cells self.now }
+        requires reader { reader_of guard.now ≡ (S.caller s.old).reader }
         requires can { I.can_next items.old }
         requires ends { IsFinite (I.remaining items.old) }
-        requires values { (i j : I) (value : T) → I.next_gives i (Some value) j → AreOf (S.seat s.old).home (T.holds value) }
-        ensures unmoved { Unmoved S.seat S.known S.shows s.old s.new }
+        requires values { (i j : I) (value : T) → I.next_gives i (Some value) j → AreOf (S.caller s.old).home (T.holds value) }
+        ensures unmoved { Unmoved S.caller S.known S.shows s.old s.new }
         ensures own { KeepsMoreWaiting (S.own s.old) (S.own s.new) }
         ensures back { IfErr result (λ e. (e.1 ≡ Refused.NoSlot) ⊎ (e.1 ≡ Refused.NoCell) ⊎ (e.1 ≡ Refused.Contended)) }
-        ensures list { IsExact (S.seat s.old) → (es : List (Entry (LinkedEntry T))) (second : Option ℕ) →
+        ensures list { IsExact (S.caller s.old) → (es : List (Entry (LinkedEntry T))) (second : Option ℕ) →
             IsQueue link_of (S.world s.old) (cells_in self.now) es second →
             (xs : List T) × (fs : List (Entry (LinkedEntry T))) × (held : Option ℕ) ×
-            FillsQueue (S.seat s.old).place (cells_in self.now) (S.world s.old) es second xs (S.world s.new) fs held × MatchResult result
+            FillsQueue (S.caller s.old).place (cells_in self.now) (S.world s.old) es second xs (S.world s.new) fs held × MatchResult result
             (λ _. YieldsThen I.next_gives items.old xs None items.new)
             (λ e. YieldsThen I.next_gives items.old xs (Some e.0) items.new × RefusesPush (S.world s.new) e.1) }
     {
@@ -337,17 +337,17 @@ impl<T: Item<LinkedEntry<T>>> Queue<T> {
             + Cells<LinkedEntry<T>>
             + LookThrough<LinkedEntry<T>>,
     >(items: &mut I, guard: &Guard, s: &mut S) -> Result<Queue<T>, Unfinished<Queue<T>, T>>
-        requires seated { IsSeated (S.seat s.old) }
-        requires reader { reader_of guard.now ≡ (S.seat s.old).reader }
+        requires seated { IsSeated (S.caller s.old) }
+        requires reader { reader_of guard.now ≡ (S.caller s.old).reader }
         requires can { I.can_next items.old }
         requires ends { IsFinite (I.remaining items.old) }
-        requires values { (i j : I) (value : T) → I.next_gives i (Some value) j → AreOf (S.seat s.old).home (T.holds value) }
-        ensures unmoved { Unmoved S.seat S.known S.shows s.old s.new }
+        requires values { (i j : I) (value : T) → I.next_gives i (Some value) j → AreOf (S.caller s.old).home (T.holds value) }
+        ensures unmoved { Unmoved S.caller S.known S.shows s.old s.new }
         ensures own { KeepsMoreWaiting (S.own s.old) (S.own s.new) }
-        ensures home { IfSome (queue_of result) (AreOfCells (S.seat s.old).home.cells) }
+        ensures home { IfSome (queue_of result) (AreOfCells (S.caller s.old).home.cells) }
         ensures back { IfErr result (λ u. (why_not u ≡ Refused.NoSlot) ⊎ (why_not u ≡ Refused.NoCell) ⊎ (why_not u ≡ Refused.Contended)) }
-        ensures list { IsExact (S.seat s.old) →
-            BuildsInOrder I.next_gives (S.seat s.old).place (S.world s.old) items.old result items.new (S.world s.new) }
+        ensures list { IsExact (S.caller s.old) →
+            BuildsInOrder I.next_gives (S.caller s.old).place (S.world s.old) items.old result items.new (S.world s.new) }
     {
         let queue = match Queue::new(s) {
             Ok(queue) => queue,
@@ -368,20 +368,20 @@ impl<T: Item<LinkedEntry<T>>> Queue<T> {
     >(&self, value: &T, guard: &Guard, s: &mut S) -> Result<(), (Option<T>, Refused)>
     where
         T: CloneValue,
-        requires seated { IsSeated (S.seat s.old) }
-        requires home { AreOfCells (S.seat s.old).home.cells self.now }
-        requires values { (v : T) → T.is_clone value.now v → AreOf (S.seat s.old).home (T.holds v) }
-        requires reader { reader_of guard.now ≡ (S.seat s.old).reader }
-        ensures unmoved { Unmoved S.seat S.known S.shows s.old s.new }
+        requires seated { IsSeated (S.caller s.old) }
+        requires home { AreOfCells (S.caller s.old).home.cells self.now }
+        requires values { (v : T) → T.is_clone value.now v → AreOf (S.caller s.old).home (T.holds v) }
+        requires reader { reader_of guard.now ≡ (S.caller s.old).reader }
+        ensures unmoved { Unmoved S.caller S.known S.shows s.old s.new }
         ensures own { KeepsMoreWaiting (S.own s.old) (S.own s.new) }
         ensures back { IfErr result (λ e. (e.1 ≡ Refused.NoSlot) ⊎ (e.1 ≡ Refused.NoCell) ⊎ (e.1 ≡ Refused.NoMemory) ⊎ (e.1 ≡ Refused.Contended)) }
-        ensures refused { IsExact (S.seat s.old) → (es : List (Entry (LinkedEntry T))) (second : Option ℕ) →
+        ensures refused { IsExact (S.caller s.old) → (es : List (Entry (LinkedEntry T))) (second : Option ℕ) →
             IsQueue link_of (S.world s.old) (cells_in self.now) es second → IfErr result (λ e. (S.world s.new ≡ S.world s.old) × (e.0 ≡ None) ×
             RefusesClone T.is_clone T.is_infallible (S.world s.old) value.now e.1) }
-        ensures list { IsExact (S.seat s.old) → (es : List (Entry (LinkedEntry T))) (second : Option ℕ) →
+        ensures list { IsExact (S.caller s.old) → (es : List (Entry (LinkedEntry T))) (second : Option ℕ) →
             IsQueue link_of (S.world s.old) (cells_in self.now) es second → IfOk result (λ _. (v : T) × T.is_clone value.now v ×
             (fs : List (Entry (LinkedEntry T))) × (held : Option ℕ) ×
-            AddsBehind (S.world s.old) (S.seat s.old).place (cells_in self.now) es second v (S.world s.new) fs held) }
+            AddsBehind (S.world s.old) (S.caller s.old).place (cells_in self.now) es second v (S.world s.new) fs held) }
     {
         if let Err(refused) = has_room::<LinkedEntry<T>, S>(s) {
             return Err((None, refused));
@@ -406,20 +406,20 @@ impl<T: Item<LinkedEntry<T>>> Queue<T> {
     >(&self, walk: Walk<'g, T>, guard: &'g Guard, s: &mut S) -> Result<(), (Option<T>, Refused)>
     where
         T: CloneValue,
-        requires seated { IsSeated (S.seat s.old) }
-        requires home { AreOfCells (S.seat s.old).home.cells self.now }
-        requires walk { IsWalkOf (S.seat s.old).home.cells walk }
-        requires values { (u v : T) → T.is_clone u v → AreOf (S.seat s.old).home (T.holds v) }
-        requires reader { reader_of guard.now ≡ (S.seat s.old).reader }
-        ensures unmoved { Unmoved S.seat S.known S.shows s.old s.new }
+        requires seated { IsSeated (S.caller s.old) }
+        requires home { AreOfCells (S.caller s.old).home.cells self.now }
+        requires walk { IsWalkOf (S.caller s.old).home.cells walk }
+        requires values { (u v : T) → T.is_clone u v → AreOf (S.caller s.old).home (T.holds v) }
+        requires reader { reader_of guard.now ≡ (S.caller s.old).reader }
+        ensures unmoved { Unmoved S.caller S.known S.shows s.old s.new }
         ensures own { KeepsMoreWaiting (S.own s.old) (S.own s.new) }
         ensures back { IfErr result (λ e. (e.1 ≡ Refused.NoSlot) ⊎ (e.1 ≡ Refused.NoCell) ⊎ (e.1 ≡ Refused.NoMemory) ⊎ (e.1 ≡ Refused.Contended)) }
-        ensures list { IsExact (S.seat s.old) → (es : List (Entry (LinkedEntry T))) (second : Option ℕ) →
+        ensures list { IsExact (S.caller s.old) → (es : List (Entry (LinkedEntry T))) (second : Option ℕ) →
             IsQueue link_of (S.world s.old) (cells_in self.now) es second → (from : QueueCells) (now fs : List (Entry (LinkedEntry T))) (held : Option ℕ) →
             StandsBefore (S.world s.old) walk.entry now → AreBeside now (cells_in self.now) es →
             IsQueueBeside (S.world s.old) from fs held (cells_in self.now) es → (first others xs : List T) × (gs : List (Entry (LinkedEntry T))) ×
             (holds : Option ℕ) × (shown_of now ≡ first ++ others) × AllZip T.is_clone first xs ×
-            FillsQueue (S.seat s.old).place (cells_in self.now) (S.world s.old) es second xs (S.world s.new) gs holds ×
+            FillsQueue (S.caller s.old).place (cells_in self.now) (S.world s.old) es second xs (S.world s.new) gs holds ×
             IsQueue link_of (S.world s.new) from fs held × MatchResult result (λ _. others ≡ [])
             (λ e. (e.0 ≡ None) × (u : T) × (us : List T) × (others ≡ u ∷ us) ×
             RefusesClone T.is_clone T.is_infallible (S.world s.new) u e.1) }
@@ -447,18 +447,18 @@ impl<T: Item<LinkedEntry<T>>> Queue<T> {
     >(&self, guard: &Guard, s: &mut S) -> Result<Queue<T>, Unfinished<Queue<T>, T>>
     where
         T: CloneValue,
-        requires seated { IsSeated (S.seat s.old) }
-        requires home { AreOfCells (S.seat s.old).home.cells self.now }
-        requires values { (u v : T) → T.is_clone u v → AreOf (S.seat s.old).home (T.holds v) }
-        requires reader { reader_of guard.now ≡ (S.seat s.old).reader }
-        ensures unmoved { Unmoved S.seat S.known S.shows s.old s.new }
+        requires seated { IsSeated (S.caller s.old) }
+        requires home { AreOfCells (S.caller s.old).home.cells self.now }
+        requires values { (u v : T) → T.is_clone u v → AreOf (S.caller s.old).home (T.holds v) }
+        requires reader { reader_of guard.now ≡ (S.caller s.old).reader }
+        ensures unmoved { Unmoved S.caller S.known S.shows s.old s.new }
         ensures own { KeepsMoreWaiting (S.own s.old) (S.own s.new) }
-        ensures home { IfSome (queue_of result) (AreOfCells (S.seat s.old).home.cells) }
+        ensures home { IfSome (queue_of result) (AreOfCells (S.caller s.old).home.cells) }
         ensures back { IfErr result (λ u. (why_not u ≡ Refused.NoSlot) ⊎ (why_not u ≡ Refused.NoCell) ⊎ (why_not u ≡ Refused.NoMemory) ⊎
             (why_not u ≡ Refused.Contended)) }
-        ensures list { IsExact (S.seat s.old) → (es : List (Entry (LinkedEntry T))) (second : Option ℕ) →
+        ensures list { IsExact (S.caller s.old) → (es : List (Entry (LinkedEntry T))) (second : Option ℕ) →
             IsQueue link_of (S.world s.old) (cells_in self.now) es second →
-            Clones T.is_clone T.is_infallible (S.seat s.old).place (S.world s.old) (cells_in self.now) es second result (S.world s.new) }
+            Clones T.is_clone T.is_infallible (S.caller s.old).place (S.world s.old) (cells_in self.now) es second result (S.world s.new) }
     {
         let copy = match Queue::new(s) {
             Ok(copy) => copy,
@@ -481,17 +481,17 @@ impl<T: Item<LinkedEntry<T>>> Queue<T> {
             + Cells<LinkedEntry<T>>
             + LookThrough<LinkedEntry<T>>,
     >(&self, guard: &Guard, s: &mut S) -> Result<Option<Shared<LinkedEntry<T>>>, Refused>
-        requires seated { IsSeated (S.seat s.old) }
-        requires home { AreOfCells (S.seat s.old).home.cells self.now }
-        requires reader { reader_of guard.now ≡ (S.seat s.old).reader }
-        ensures unmoved { Unmoved S.seat S.known S.shows s.old s.new }
+        requires seated { IsSeated (S.caller s.old) }
+        requires home { AreOfCells (S.caller s.old).home.cells self.now }
+        requires reader { reader_of guard.now ≡ (S.caller s.old).reader }
+        ensures unmoved { Unmoved S.caller S.known S.shows s.old s.new }
         ensures own { KeepsMoreWaiting (S.own s.old) (S.own s.new) }
-        ensures owner { IfOk result (IsOfSlots (S.seat s.old).home.slots) }
+        ensures owner { IfOk result (IsOfSlots (S.caller s.old).home.slots) }
         ensures back { IfErr result (λ e. (e ≡ Refused.TooManyOwners) ⊎ (e ≡ Refused.Contended)) }
-        ensures list { IsExact (S.seat s.old) → (es : List (Entry (LinkedEntry T))) (second : Option ℕ) →
+        ensures list { IsExact (S.caller s.old) → (es : List (Entry (LinkedEntry T))) (second : Option ℕ) →
             IsQueue link_of (S.world s.old) (cells_in self.now) es second →
-            Dequeues link_of (S.world s.old) (S.seat s.old).place (cells_in self.now) es second result (S.world s.new) }
-        ensures values { IsExact (S.seat s.old) → (vs : List T) → QueueHas (S.world s.old) self.now vs → MatchResult result
+            Dequeues link_of (S.world s.old) (S.caller s.old).place (cells_in self.now) es second result (S.world s.new) }
+        ensures values { IsExact (S.caller s.old) → (vs : List T) → QueueHas (S.world s.old) self.now vs → MatchResult result
             (λ popped. QueueHas (S.world s.new) self.now (drop 1 vs) × MatchOption popped (slice_get vs 0 ≡ None)
             (λ owner. (entry : LinkedEntry T) × S.shows s.new (slot_of owner) entry × (slice_get vs 0 ≡ Some (value_of entry))))
             (λ _. S.world s.new ≡ S.world s.old) }
@@ -515,17 +515,17 @@ impl<T: Item<LinkedEntry<T>>> Queue<T> {
         guard: &Guard,
         s: &mut S,
     ) -> Result<Option<Shared<LinkedEntry<T>>>, Unpopped<T>>
-        requires seated { IsSeated (S.seat s.old) }
-        requires home { AreOfCells (S.seat s.old).home.cells self.now }
+        requires seated { IsSeated (S.caller s.old) }
+        requires home { AreOfCells (S.caller s.old).home.cells self.now }
         requires callable { F.IsAlwaysCallable condition }
-        requires reader { reader_of guard.now ≡ (S.seat s.old).reader }
-        ensures unmoved { Unmoved S.seat S.known S.shows s.old s.new }
+        requires reader { reader_of guard.now ≡ (S.caller s.old).reader }
+        ensures unmoved { Unmoved S.caller S.known S.shows s.old s.new }
         ensures own { KeepsMoreWaiting (S.own s.old) (S.own s.new) }
-        ensures owner { MatchResult result (IsOfSlots (S.seat s.old).home.slots) (λ e. IsOfSlots (S.seat s.old).home.slots (kept_by e)) }
-        ensures list { IsExact (S.seat s.old) → (es : List (Entry (LinkedEntry T))) (second : Option ℕ) →
+        ensures owner { MatchResult result (IsOfSlots (S.caller s.old).home.slots) (λ e. IsOfSlots (S.caller s.old).home.slots (kept_by e)) }
+        ensures list { IsExact (S.caller s.old) → (es : List (Entry (LinkedEntry T))) (second : Option ℕ) →
             IsQueue link_of (S.world s.old) (cells_in self.now) es second →
             DequeuesIf (λ value held. (shown : Bor (LinkedEntry T)) × (shown.now ≡ value) × F.post condition shown held)
-            (S.world s.old) (S.seat s.old).place (cells_in self.now) es second result (S.world s.new) }
+            (S.world s.old) (S.caller s.old).place (cells_in self.now) es second result (S.world s.new) }
     {
         match find_first(&self.oldest, guard, s) {
             Ok(Some(front)) => {
@@ -559,19 +559,19 @@ impl<T: Item<LinkedEntry<T>>> Queue<T> {
         guard: &Guard,
         s: &mut S,
     ) -> Result<Option<Shared<LinkedEntry<T>>>, Unpopped<T>>
-        requires seated { IsSeated (S.seat s.old) }
-        requires home { AreOfCells (S.seat s.old).home.cells self.now }
-        requires reader { reader_of guard.now ≡ (S.seat s.old).reader }
-        requires link { cells_home front.link.now ≡ (S.seat s.old).home.cells }
+        requires seated { IsSeated (S.caller s.old) }
+        requires home { AreOfCells (S.caller s.old).home.cells self.now }
+        requires reader { reader_of guard.now ≡ (S.caller s.old).reader }
+        requires link { cells_home front.link.now ≡ (S.caller s.old).home.cells }
         requires shown { PtrIsShown (S.shows s.old) front.ptr }
-        ensures unmoved { Unmoved S.seat S.known S.shows s.old s.new }
+        ensures unmoved { Unmoved S.caller S.known S.shows s.old s.new }
         ensures own { KeepsMoreWaiting (S.own s.old) (S.own s.new) }
-        ensures owner { MatchResult result (IsOfSlots (S.seat s.old).home.slots) (λ e. IsOfSlots (S.seat s.old).home.slots (kept_by e)) }
-        ensures list { IsExact (S.seat s.old) → (es : List (Entry (LinkedEntry T))) (second : Option ℕ) →
+        ensures owner { MatchResult result (IsOfSlots (S.caller s.old).home.slots) (λ e. IsOfSlots (S.caller s.old).home.slots (kept_by e)) }
+        ensures list { IsExact (S.caller s.old) → (es : List (Entry (LinkedEntry T))) (second : Option ℕ) →
             IsQueue link_of (S.world s.old) (cells_in self.now) es second →
             (e : Entry (LinkedEntry T)) (rest : List (Entry (LinkedEntry T))) → left es ≡ e ∷ rest → slot_named front.entry.ptr ≡ Some e.slot →
             cell_of front.entry.link.now ≡ link_of e.value → ((n : ℕ) × IsSharedBy n (standing_at (S.world s.old) e.slot)) →
-            DequeuesIf (λ value held. (value ≡ e.value) × (held ≡ holds)) (S.world s.old) (S.seat s.old).place (cells_in self.now) es second result
+            DequeuesIf (λ value held. (value ≡ e.value) × (held ≡ holds)) (S.world s.old) (S.caller s.old).place (cells_in self.now) es second result
             (S.world s.new) }
     {
         if holds {
@@ -593,14 +593,14 @@ impl<T: Item<LinkedEntry<T>>> Queue<T> {
         guard: &'g Guard,
         s: &mut S,
     ) -> Ptr<'g, LinkedEntry<T>>
-        requires seated { IsSeated (S.seat s.old) }
-        requires home { AreOfCells (S.seat s.old).home.cells self.now }
-        requires reader { reader_of guard.now ≡ (S.seat s.old).reader }
-        ensures undisturbed { Undisturbed S.seat S.own S.known S.shows s.old s.new }
-        ensures world { IsExact (S.seat s.old) → S.world s.new ≡ S.world s.old }
+        requires seated { IsSeated (S.caller s.old) }
+        requires home { AreOfCells (S.caller s.old).home.cells self.now }
+        requires reader { reader_of guard.now ≡ (S.caller s.old).reader }
+        ensures undisturbed { Undisturbed S.caller S.own S.known S.shows s.old s.new }
+        ensures world { IsExact (S.caller s.old) → S.world s.new ≡ S.world s.old }
         ensures shown { PtrIsShown (S.shows s.new) result }
         ensures tag { tag_of result ≡ no_tag }
-        ensures list { IsExact (S.seat s.old) → (es : List (Entry (LinkedEntry T))) (second : Option ℕ) →
+        ensures list { IsExact (S.caller s.old) → (es : List (Entry (LinkedEntry T))) (second : Option ℕ) →
             IsQueue link_of (S.world s.old) (cells_in self.now) es second → slot_named result ≡ first_slot (left es) }
     {
         first_ptr_in(&self.oldest, guard, s)
@@ -612,13 +612,13 @@ impl<T: Item<LinkedEntry<T>>> Queue<T> {
         F: FnOnce(Option<&LinkedEntry<T>>) -> R,
         S: Items<LinkedEntry<T>> + Cells<LinkedEntry<T>> + LookThrough<LinkedEntry<T>>,
     >(&self, reader: F, guard: &Guard, s: &mut S) -> R
-        requires seated { IsSeated (S.seat s.old) }
-        requires home { AreOfCells (S.seat s.old).home.cells self.now }
+        requires seated { IsSeated (S.caller s.old) }
+        requires home { AreOfCells (S.caller s.old).home.cells self.now }
         requires callable { F.IsAlwaysCallable reader }
-        requires reader_of_guard { reader_of guard.now ≡ (S.seat s.old).reader }
-        ensures undisturbed { Undisturbed S.seat S.own S.known S.shows s.old s.new }
-        ensures world { IsExact (S.seat s.old) → S.world s.new ≡ S.world s.old }
-        ensures list { IsExact (S.seat s.old) → (es : List (Entry (LinkedEntry T))) (second : Option ℕ) →
+        requires reader_of_guard { reader_of guard.now ≡ (S.caller s.old).reader }
+        ensures undisturbed { Undisturbed S.caller S.own S.known S.shows s.old s.new }
+        ensures world { IsExact (S.caller s.old) → S.world s.new ≡ S.world s.old }
+        ensures list { IsExact (S.caller s.old) → (es : List (Entry (LinkedEntry T))) (second : Option ℕ) →
             IsQueue link_of (S.world s.old) (cells_in self.now) es second →
             (shown : _) × (option_copied shown ≡ first_value (left es)) × F.post reader shown result }
     {
@@ -632,14 +632,14 @@ impl<T: Item<LinkedEntry<T>>> Queue<T> {
         _guard: &'a Guard,
         s: &'a S,
     ) -> Iter<'a, T, S>
-        requires home { AreOfCells (S.seat s.now).home.cells self.now }
+        requires home { AreOfCells (S.caller s.now).home.cells self.now }
         ensures space { space_of result ≡ s.now }
-        ensures home { IsIterOf (S.seat s.now).home.slots result }
-        ensures list { IsExact (S.seat s.now) → (vs : List T) → QueueHas (S.world s.now) self.now vs → GivesInOrder (S.world s.now) result vs }
-        ensures items { IsExact (S.seat s.now) → (vs : List T) → QueueHas (S.world s.now) self.now vs →
-            AlwaysYields (GoesInOrder S.seat S.world) (λ v. v.now) result vs }
-        ensures runs { IsExact (S.seat s.now) → (vs : List T) → QueueHas (S.world s.now) self.now vs →
-            EachRunFrom (GoesInOrder S.seat S.world) result (λ p. ItemsMapTo p (λ v. v.now) vs) }
+        ensures home { IsIterOf (S.caller s.now).home.slots result }
+        ensures list { IsExact (S.caller s.now) → (vs : List T) → QueueHas (S.world s.now) self.now vs → GivesInOrder (S.world s.now) result vs }
+        ensures items { IsExact (S.caller s.now) → (vs : List T) → QueueHas (S.world s.now) self.now vs →
+            AlwaysYields (GoesInOrder S.caller S.world) (λ v. v.now) result vs }
+        ensures runs { IsExact (S.caller s.now) → (vs : List T) → QueueHas (S.world s.now) self.now vs →
+            EachRunFrom (GoesInOrder S.caller S.world) result (λ p. ItemsMapTo p (λ v. v.now) vs) }
     {
         iter_in(&self.oldest, s)
     }
@@ -650,15 +650,15 @@ impl<T: Item<LinkedEntry<T>>> Queue<T> {
         guard: &'g Guard,
         s: &mut S,
     ) -> Walk<'g, T>
-        requires seated { IsSeated (S.seat s.old) }
-        requires home { AreOfCells (S.seat s.old).home.cells self.now }
-        requires reader { reader_of guard.now ≡ (S.seat s.old).reader }
-        ensures undisturbed { Undisturbed S.seat S.own S.known S.shows s.old s.new }
-        ensures home { IsWalkOf (S.seat s.old).home.cells result }
-        ensures world { IsExact (S.seat s.old) → S.world s.new ≡ S.world s.old }
-        ensures list { IsExact (S.seat s.old) → (es : List (Entry (LinkedEntry T))) (second : Option ℕ) →
+        requires seated { IsSeated (S.caller s.old) }
+        requires home { AreOfCells (S.caller s.old).home.cells self.now }
+        requires reader { reader_of guard.now ≡ (S.caller s.old).reader }
+        ensures undisturbed { Undisturbed S.caller S.own S.known S.shows s.old s.new }
+        ensures home { IsWalkOf (S.caller s.old).home.cells result }
+        ensures world { IsExact (S.caller s.old) → S.world s.new ≡ S.world s.old }
+        ensures list { IsExact (S.caller s.old) → (es : List (Entry (LinkedEntry T))) (second : Option ℕ) →
             IsQueue link_of (S.world s.old) (cells_in self.now) es second → ShowsInOrder (S.world s.new) result (shown_of es) }
-        ensures entries { IsExact (S.seat s.old) → (es : List (Entry (LinkedEntry T))) (second : Option ℕ) →
+        ensures entries { IsExact (S.caller s.old) → (es : List (Entry (LinkedEntry T))) (second : Option ℕ) →
             IsQueue link_of (S.world s.old) (cells_in self.now) es second → StandsBefore (S.world s.new) result (left es) }
     {
         walk_in(&self.oldest, guard, s)
@@ -670,12 +670,12 @@ impl<T: Item<LinkedEntry<T>>> Queue<T> {
         guard: &Guard,
         s: &mut S,
     ) -> u64
-        requires seated { IsSeated (S.seat s.old) }
-        requires home { AreOfCells (S.seat s.old).home.cells self.now }
-        requires reader { reader_of guard.now ≡ (S.seat s.old).reader }
-        ensures undisturbed { Undisturbed S.seat S.own S.known S.shows s.old s.new }
-        ensures world { IsExact (S.seat s.old) → S.world s.new ≡ S.world s.old }
-        ensures list { IsExact (S.seat s.old) → (es : List (Entry (LinkedEntry T))) (second : Option ℕ) →
+        requires seated { IsSeated (S.caller s.old) }
+        requires home { AreOfCells (S.caller s.old).home.cells self.now }
+        requires reader { reader_of guard.now ≡ (S.caller s.old).reader }
+        ensures undisturbed { Undisturbed S.caller S.own S.known S.shows s.old s.new }
+        ensures world { IsExact (S.caller s.old) → S.world s.new ≡ S.world s.old }
+        ensures list { IsExact (S.caller s.old) → (es : List (Entry (LinkedEntry T))) (second : Option ℕ) →
             IsQueue link_of (S.world s.old) (cells_in self.now) es second → result ≡ length (content es) }
     {
         count(&self.oldest, guard, s)
@@ -687,12 +687,12 @@ impl<T: Item<LinkedEntry<T>>> Queue<T> {
         guard: &Guard,
         s: &mut S,
     ) -> bool
-        requires seated { IsSeated (S.seat s.old) }
-        requires home { AreOfCells (S.seat s.old).home.cells self.now }
-        requires reader { reader_of guard.now ≡ (S.seat s.old).reader }
-        ensures undisturbed { Undisturbed S.seat S.own S.known S.shows s.old s.new }
-        ensures world { IsExact (S.seat s.old) → S.world s.new ≡ S.world s.old }
-        ensures list { IsExact (S.seat s.old) → (es : List (Entry (LinkedEntry T))) (second : Option ℕ) →
+        requires seated { IsSeated (S.caller s.old) }
+        requires home { AreOfCells (S.caller s.old).home.cells self.now }
+        requires reader { reader_of guard.now ≡ (S.caller s.old).reader }
+        ensures undisturbed { Undisturbed S.caller S.own S.known S.shows s.old s.new }
+        ensures world { IsExact (S.caller s.old) → S.world s.new ≡ S.world s.old }
+        ensures list { IsExact (S.caller s.old) → (es : List (Entry (LinkedEntry T))) (second : Option ℕ) →
             IsQueue link_of (S.world s.old) (cells_in self.now) es second → IsTrue result ↔ (left es ≡ []) }
     {
         self.peek(guard, s).is_null()
@@ -704,14 +704,14 @@ impl<T: Item<LinkedEntry<T>>> Queue<T> {
         guard: &Guard,
         s: &mut S,
     )
-        requires seated { IsSeated (S.seat s.old) }
-        requires home { AreOfCells (S.seat s.old).home.cells self }
-        requires reader { reader_of guard.now ≡ (S.seat s.old).reader }
-        ensures unmoved { Unmoved S.seat S.known S.shows s.old s.new }
+        requires seated { IsSeated (S.caller s.old) }
+        requires home { AreOfCells (S.caller s.old).home.cells self }
+        requires reader { reader_of guard.now ≡ (S.caller s.old).reader }
+        ensures unmoved { Unmoved S.caller S.known S.shows s.old s.new }
         ensures own { KeepsMoreWaiting (S.own s.old) (S.own s.new) }
-        ensures list { IsExact (S.seat s.old) → (es : List (Entry (LinkedEntry T))) (second : Option ℕ) →
+        ensures list { IsExact (S.caller s.old) → (es : List (Entry (LinkedEntry T))) (second : Option ℕ) →
             IsQueue link_of (S.world s.old) (cells_in self) es second →
-            S.world s.new ≡ queue_closed link_of (S.world s.old) (S.seat s.old).place (cells_in self) es second }
+            S.world s.new ≡ queue_closed link_of (S.world s.old) (S.caller s.old).place (cells_in self) es second }
     {
         let Queue { oldest, newest } = self;
         newest.close(s);

@@ -4,18 +4,18 @@ ghost use Rattle.std.specs.Borrow.{Bor};
 ghost use Rattle.std.specs.Iterator.{IsFinite, YieldsThen};
 ghost use Rattle.std.specs.List.{AllZip};
 ghost use Rattle.sdd_space.specs.Guard.{reader_of};
-ghost use Rattle.sdd_space.specs.OwnerOrCell.{AreOf};
+ghost use Rattle.sdd_world_model.specs.OwnerOrCell.{AreOf};
 ghost use Rattle.sdd_space.specs.Undisturbed.{Undisturbed, Unmoved};
-ghost use Rattle.sdd_space.specs.ParticipantChanges.{KeepsMoreWaiting};
+ghost use Rattle.sdd_world_model.specs.ParticipantChanges.{KeepsMoreWaiting};
 ghost use Rattle.sdd_space.specs.Ptr.{PtrIsShown, slot_named, tag_of};
 ghost use Rattle.sdd_space.specs.Refusals.{IsRefusedBy};
 ghost use Rattle.sdd_space.specs.CallerId.{IsSeated, IsExact};
 ghost use Rattle.sdd_space.specs.Shared.{IsOfSlots, cell_of, cells_home, slot_of, slots_home};
-ghost use Rattle.sdd_space.specs.World.{standing_at};
-ghost use Rattle.sdd_space.specs.WorldChanges.{nulled, without_cell};
+ghost use Rattle.sdd_world_model.specs.World.{standing_at};
+ghost use Rattle.sdd_world_model.specs.WorldChanges.{nulled, without_cell};
 ghost use Rattle.sdd_core.specs.declared.tag.Tag.TheVariants.{None as no_tag};
 ghost use Rattle.sdd_participants.specs.Slab.{IsEmptyAt, IsFull};
-ghost use Rattle.sdd_standings.specs.Slots.{IsSharedBy};
+ghost use Rattle.sdd_world_model.specs.Slots.{IsSharedBy};
 ghost use Rattle.sdd_lists.specs.Asking.{kept_by, was_held};
 ghost use Rattle.sdd_lists.specs.Entries.{link_of, value_of};
 ghost use Rattle.std.specs.Iterator.{AlwaysYields};
@@ -58,15 +58,15 @@ impl<T: Item<LinkedEntry<T>>> Stack<T> {
     ///
     /// `NoCell` where no cell is free; `Contended`, in a domain alone, where as many exchanges were lost as its limits allow.
     pub fn new<S: Cells<LinkedEntry<T>>>(s: &mut S) -> Result<Stack<T>, Refused>
-        requires seated { IsSeated (S.seat s.old) }
-        ensures undisturbed { Undisturbed S.seat S.own S.known S.shows s.old s.new }
-        ensures home { IfOk result (λ stack. home_in stack ≡ (S.seat s.old).home.cells) }
-        ensures back { IfErr result (IsRefusedBy (S.seat s.old) Refused.NoCell) }
-        ensures world { IsExact (S.seat s.old) → MatchResult result
+        requires seated { IsSeated (S.caller s.old) }
+        ensures undisturbed { Undisturbed S.caller S.own S.known S.shows s.old s.new }
+        ensures home { IfOk result (λ stack. home_in stack ≡ (S.caller s.old).home.cells) }
+        ensures back { IfErr result (IsRefusedBy (S.caller s.old) Refused.NoCell) }
+        ensures world { IsExact (S.caller s.old) → MatchResult result
             (λ stack. IsEmptyAt (S.world s.old).cells (cell_in stack) × (S.world s.new ≡ nulled (S.world s.old) (cell_in stack)))
             (λ e. IsFull (S.world s.old).cells × (e ≡ Refused.NoCell) × (S.world s.new ≡ S.world s.old)) }
-        ensures list { IsExact (S.seat s.old) → IfOk result (λ stack. IsStack (S.world s.new) (cell_in stack) []) }
-        ensures values { IsExact (S.seat s.old) → IfOk result (λ stack. StackHas (S.world s.new) stack []) }
+        ensures list { IsExact (S.caller s.old) → IfOk result (λ stack. IsStack (S.world s.new) (cell_in stack) []) }
+        ensures values { IsExact (S.caller s.old) → IfOk result (λ stack. StackHas (S.world s.new) stack []) }
     {
         match AtomicShared::null(s) {
             Ok(newest) => Ok(Stack { newest }),
@@ -84,20 +84,20 @@ impl<T: Item<LinkedEntry<T>>> Stack<T> {
             + Cells<LinkedEntry<T>>
             + LookThrough<LinkedEntry<T>>,
     >(&self, value: T, guard: &Guard, s: &mut S) -> Result<Shared<LinkedEntry<T>>, (T, Refused)>
-        requires seated { IsSeated (S.seat s.old) }
-        requires home { home_in self.now ≡ (S.seat s.old).home.cells }
-        requires value { AreOf (S.seat s.old).home (T.holds value) }
-        requires reader { reader_of guard.now ≡ (S.seat s.old).reader }
-        ensures unmoved { Unmoved S.seat S.known S.shows s.old s.new }
+        requires seated { IsSeated (S.caller s.old) }
+        requires home { home_in self.now ≡ (S.caller s.old).home.cells }
+        requires value { AreOf (S.caller s.old).home (T.holds value) }
+        requires reader { reader_of guard.now ≡ (S.caller s.old).reader }
+        ensures unmoved { Unmoved S.caller S.known S.shows s.old s.new }
         ensures own { KeepsMoreWaiting (S.own s.old) (S.own s.new) }
-        ensures owner { IfOk result (λ owner. slots_home owner ≡ (S.seat s.old).home.slots) }
-        ensures back { IfErr result (λ e. (e.0 ≡ value) × ((e.1 ≡ Refused.NoSlot) ⊎ IsRefusedBy (S.seat s.old) Refused.NoCell e.1)) }
-        ensures refused { IsExact (S.seat s.old) → IfErr result (λ e. (S.world s.new ≡ S.world s.old) ×
+        ensures owner { IfOk result (λ owner. slots_home owner ≡ (S.caller s.old).home.slots) }
+        ensures back { IfErr result (λ e. (e.0 ≡ value) × ((e.1 ≡ Refused.NoSlot) ⊎ IsRefusedBy (S.caller s.old) Refused.NoCell e.1)) }
+        ensures refused { IsExact (S.caller s.old) → IfErr result (λ e. (S.world s.new ≡ S.world s.old) ×
             (IsFull (S.world s.old).standings × (e.1 ≡ Refused.NoSlot) ⊎
             ¬ (IsFull (S.world s.old).standings) × IsFull (S.world s.old).cells × (e.1 ≡ Refused.NoCell))) }
-        ensures list { IsExact (S.seat s.old) → (es : List (Entry (LinkedEntry T))) → IsStack (S.world s.old) (cell_in self.now) es →
-            IfOk result (λ owner. PushesOnto (S.world s.old) (S.seat s.old).place (cell_in self.now) es value owner (S.world s.new)) }
-        ensures values { IsExact (S.seat s.old) → (vs : List T) → StackHas (S.world s.old) self.now vs → MatchResult result
+        ensures list { IsExact (S.caller s.old) → (es : List (Entry (LinkedEntry T))) → IsStack (S.world s.old) (cell_in self.now) es →
+            IfOk result (λ owner. PushesOnto (S.world s.old) (S.caller s.old).place (cell_in self.now) es value owner (S.world s.new)) }
+        ensures values { IsExact (S.caller s.old) → (vs : List T) → StackHas (S.world s.old) self.now vs → MatchResult result
             (λ _. StackHas (S.world s.new) self.now (value ∷ vs))
             (λ _. S.world s.new ≡ S.world s.old) }
     {
@@ -122,17 +122,17 @@ impl<T: Item<LinkedEntry<T>>> Stack<T> {
             + Cells<LinkedEntry<T>>
             + LookThrough<LinkedEntry<T>>,
     >(&self, value: T, guard: &Guard, s: &mut S) -> Result<(), (T, Refused)>
-        requires seated { IsSeated (S.seat s.old) }
-        requires home { home_in self.now ≡ (S.seat s.old).home.cells }
-        requires value { AreOf (S.seat s.old).home (T.holds value) }
-        requires reader { reader_of guard.now ≡ (S.seat s.old).reader }
-        ensures unmoved { Unmoved S.seat S.known S.shows s.old s.new }
+        requires seated { IsSeated (S.caller s.old) }
+        requires home { home_in self.now ≡ (S.caller s.old).home.cells }
+        requires value { AreOf (S.caller s.old).home (T.holds value) }
+        requires reader { reader_of guard.now ≡ (S.caller s.old).reader }
+        ensures unmoved { Unmoved S.caller S.known S.shows s.old s.new }
         ensures own { KeepsMoreWaiting (S.own s.old) (S.own s.new) }
-        ensures back { IfErr result (λ e. (e.0 ≡ value) × ((e.1 ≡ Refused.NoSlot) ⊎ IsRefusedBy (S.seat s.old) Refused.NoCell e.1)) }
-        ensures refused { IsExact (S.seat s.old) → IfErr result (λ e. (S.world s.new ≡ S.world s.old) × RefusesPush (S.world s.old) e.1) }
-        ensures list { IsExact (S.seat s.old) → (es : List (Entry (LinkedEntry T))) → IsStack (S.world s.old) (cell_in self.now) es →
+        ensures back { IfErr result (λ e. (e.0 ≡ value) × ((e.1 ≡ Refused.NoSlot) ⊎ IsRefusedBy (S.caller s.old) Refused.NoCell e.1)) }
+        ensures refused { IsExact (S.caller s.old) → IfErr result (λ e. (S.world s.new ≡ S.world s.old) × RefusesPush (S.world s.old) e.1) }
+        ensures list { IsExact (S.caller s.old) → (es : List (Entry (LinkedEntry T))) → IsStack (S.world s.old) (cell_in self.now) es →
             IfOk result (λ _. (fs : List (Entry (LinkedEntry T))) ×
-            AddsOnto (S.world s.old) (S.seat s.old).place (cell_in self.now) es value (S.world s.new) fs) }
+            AddsOnto (S.world s.old) (S.caller s.old).place (cell_in self.now) es value (S.world s.new) fs) }
     {
         match self.push(value, guard, s) {
             Ok(owner) => {
@@ -151,18 +151,18 @@ impl<T: Item<LinkedEntry<T>>> Stack<T> {
             + Cells<LinkedEntry<T>>
             + LookThrough<LinkedEntry<T>>,
     >(&self, items: &mut I, guard: &Guard, s: &mut S) -> Result<(), (T, Refused)>
-        requires seated { IsSeated (S.seat s.old) }
-        requires home { home_in self.now ≡ (S.seat s.old).home.cells }
-        requires reader { reader_of guard.now ≡ (S.seat s.old).reader }
+        requires seated { IsSeated (S.caller s.old) }
+        requires home { home_in self.now ≡ (S.caller s.old).home.cells }
+        requires reader { reader_of guard.now ≡ (S.caller s.old).reader }
         requires can { I.can_next items.old }
         requires ends { IsFinite (I.remaining items.old) }
-        requires values { (i j : I) (value : T) → I.next_gives i (Some value) j → AreOf (S.seat s.old).home (T.holds value) }
-        ensures unmoved { Unmoved S.seat S.known S.shows s.old s.new }
+        requires values { (i j : I) (value : T) → I.next_gives i (Some value) j → AreOf (S.caller s.old).home (T.holds value) }
+        ensures unmoved { Unmoved S.caller S.known S.shows s.old s.new }
         ensures own { KeepsMoreWaiting (S.own s.old) (S.own s.new) }
-        ensures back { IfErr result (λ e. (e.1 ≡ Refused.NoSlot) ⊎ IsRefusedBy (S.seat s.old) Refused.NoCell e.1) }
-        ensures list { IsExact (S.seat s.old) → (es : List (Entry (LinkedEntry T))) → IsStack (S.world s.old) (cell_in self.now) es →
+        ensures back { IfErr result (λ e. (e.1 ≡ Refused.NoSlot) ⊎ IsRefusedBy (S.caller s.old) Refused.NoCell e.1) }
+        ensures list { IsExact (S.caller s.old) → (es : List (Entry (LinkedEntry T))) → IsStack (S.world s.old) (cell_in self.now) es →
             (xs : List T) × (fs : List (Entry (LinkedEntry T))) ×
-            FillsStack (S.seat s.old).place (cell_in self.now) (S.world s.old) es xs (S.world s.new) fs × MatchResult result
+            FillsStack (S.caller s.old).place (cell_in self.now) (S.world s.old) es xs (S.world s.new) fs × MatchResult result
             (λ _. YieldsThen I.next_gives items.old xs None items.new)
             (λ e. YieldsThen I.next_gives items.old xs (Some e.0) items.new × RefusesPush (S.world s.new) e.1) }
     {
@@ -186,17 +186,17 @@ impl<T: Item<LinkedEntry<T>>> Stack<T> {
             + Cells<LinkedEntry<T>>
             + LookThrough<LinkedEntry<T>>,
     >(items: &mut I, guard: &Guard, s: &mut S) -> Result<Stack<T>, Unfinished<Stack<T>, T>>
-        requires seated { IsSeated (S.seat s.old) }
-        requires reader { reader_of guard.now ≡ (S.seat s.old).reader }
+        requires seated { IsSeated (S.caller s.old) }
+        requires reader { reader_of guard.now ≡ (S.caller s.old).reader }
         requires can { I.can_next items.old }
         requires ends { IsFinite (I.remaining items.old) }
-        requires values { (i j : I) (value : T) → I.next_gives i (Some value) j → AreOf (S.seat s.old).home (T.holds value) }
-        ensures unmoved { Unmoved S.seat S.known S.shows s.old s.new }
+        requires values { (i j : I) (value : T) → I.next_gives i (Some value) j → AreOf (S.caller s.old).home (T.holds value) }
+        ensures unmoved { Unmoved S.caller S.known S.shows s.old s.new }
         ensures own { KeepsMoreWaiting (S.own s.old) (S.own s.new) }
-        ensures home { IfSome (stack_of result) (λ stack. home_in stack ≡ (S.seat s.old).home.cells) }
-        ensures back { IfErr result (λ u. (why_not u ≡ Refused.NoSlot) ⊎ IsRefusedBy (S.seat s.old) Refused.NoCell (why_not u)) }
-        ensures list { IsExact (S.seat s.old) →
-            Builds I.next_gives (S.seat s.old).place (S.world s.old) items.old result items.new (S.world s.new) }
+        ensures home { IfSome (stack_of result) (λ stack. home_in stack ≡ (S.caller s.old).home.cells) }
+        ensures back { IfErr result (λ u. (why_not u ≡ Refused.NoSlot) ⊎ IsRefusedBy (S.caller s.old) Refused.NoCell (why_not u)) }
+        ensures list { IsExact (S.caller s.old) →
+            Builds I.next_gives (S.caller s.old).place (S.world s.old) items.old result items.new (S.world s.new) }
     {
         let stack = match Stack::new(s) {
             Ok(stack) => stack,
@@ -222,19 +222,19 @@ impl<T: Item<LinkedEntry<T>>> Stack<T> {
         guard: &'g Guard,
         s: &mut S,
     ) -> Result<Front<'g, LinkedEntry<T>>, (T, Refused)>
-        requires seated { IsSeated (S.seat s.old) }
-        requires home { home_in self.now ≡ (S.seat s.old).home.cells }
-        requires last { IfSome last (λ f. cells_home f.link.now ≡ (S.seat s.old).home.cells) }
-        requires value { AreOf (S.seat s.old).home (T.holds value) }
-        requires reader { reader_of guard.now ≡ (S.seat s.old).reader }
-        ensures unmoved { Unmoved S.seat S.known S.shows s.old s.new }
+        requires seated { IsSeated (S.caller s.old) }
+        requires home { home_in self.now ≡ (S.caller s.old).home.cells }
+        requires last { IfSome last (λ f. cells_home f.link.now ≡ (S.caller s.old).home.cells) }
+        requires value { AreOf (S.caller s.old).home (T.holds value) }
+        requires reader { reader_of guard.now ≡ (S.caller s.old).reader }
+        ensures unmoved { Unmoved S.caller S.known S.shows s.old s.new }
         ensures own { KeepsMoreWaiting (S.own s.old) (S.own s.new) }
-        ensures front { IfOk result (λ f. cells_home f.link.now ≡ (S.seat s.old).home.cells) }
-        ensures back { IfErr result (λ e. (e.0 ≡ value) × ((e.1 ≡ Refused.NoSlot) ⊎ IsRefusedBy (S.seat s.old) Refused.NoCell e.1)) }
-        ensures refused { IsExact (S.seat s.old) → IfErr result (λ e. (S.world s.new ≡ S.world s.old) × RefusesPush (S.world s.old) e.1) }
-        ensures list { IsExact (S.seat s.old) → (es : List (Entry (LinkedEntry T))) → IsStack (S.world s.old) (cell_in self.now) es →
+        ensures front { IfOk result (λ f. cells_home f.link.now ≡ (S.caller s.old).home.cells) }
+        ensures back { IfErr result (λ e. (e.0 ≡ value) × ((e.1 ≡ Refused.NoSlot) ⊎ IsRefusedBy (S.caller s.old) Refused.NoCell e.1)) }
+        ensures refused { IsExact (S.caller s.old) → IfErr result (λ e. (S.world s.new ≡ S.world s.old) × RefusesPush (S.world s.old) e.1) }
+        ensures list { IsExact (S.caller s.old) → (es : List (Entry (LinkedEntry T))) → IsStack (S.world s.old) (cell_in self.now) es →
             LastIs link_of last.entry es → IfOk result (λ f. (gs : List (Entry (LinkedEntry T))) ×
-            AppendsTo (S.world s.old) (S.seat s.old).place (cell_in self.now) es value (S.world s.new) gs × LastIs link_of (Some f) gs) }
+            AppendsTo (S.world s.old) (S.caller s.old).place (cell_in self.now) es value (S.world s.new) gs × LastIs link_of (Some f) gs) }
     {
         let free = s.has_slot();
         if !free {
@@ -266,20 +266,20 @@ impl<T: Item<LinkedEntry<T>>> Stack<T> {
     ) -> Result<Front<'g, LinkedEntry<T>>, (Option<T>, Refused)>
     where
         T: CloneValue,
-        requires seated { IsSeated (S.seat s.old) }
-        requires home { home_in self.now ≡ (S.seat s.old).home.cells }
-        requires last { IfSome last (λ f. cells_home f.link.now ≡ (S.seat s.old).home.cells) }
-        requires values { (v : T) → T.is_clone value.now v → AreOf (S.seat s.old).home (T.holds v) }
-        requires reader { reader_of guard.now ≡ (S.seat s.old).reader }
-        ensures unmoved { Unmoved S.seat S.known S.shows s.old s.new }
+        requires seated { IsSeated (S.caller s.old) }
+        requires home { home_in self.now ≡ (S.caller s.old).home.cells }
+        requires last { IfSome last (λ f. cells_home f.link.now ≡ (S.caller s.old).home.cells) }
+        requires values { (v : T) → T.is_clone value.now v → AreOf (S.caller s.old).home (T.holds v) }
+        requires reader { reader_of guard.now ≡ (S.caller s.old).reader }
+        ensures unmoved { Unmoved S.caller S.known S.shows s.old s.new }
         ensures own { KeepsMoreWaiting (S.own s.old) (S.own s.new) }
-        ensures front { IfOk result (λ f. cells_home f.link.now ≡ (S.seat s.old).home.cells) }
-        ensures back { IfErr result (λ e. (e.1 ≡ Refused.NoMemory) ⊎ (e.1 ≡ Refused.NoSlot) ⊎ IsRefusedBy (S.seat s.old) Refused.NoCell e.1) }
-        ensures refused { IsExact (S.seat s.old) → IfErr result (λ e. (S.world s.new ≡ S.world s.old) × (e.0 ≡ None) ×
+        ensures front { IfOk result (λ f. cells_home f.link.now ≡ (S.caller s.old).home.cells) }
+        ensures back { IfErr result (λ e. (e.1 ≡ Refused.NoMemory) ⊎ (e.1 ≡ Refused.NoSlot) ⊎ IsRefusedBy (S.caller s.old) Refused.NoCell e.1) }
+        ensures refused { IsExact (S.caller s.old) → IfErr result (λ e. (S.world s.new ≡ S.world s.old) × (e.0 ≡ None) ×
             RefusesClone T.is_clone T.is_infallible (S.world s.old) value.now e.1) }
-        ensures list { IsExact (S.seat s.old) → (es : List (Entry (LinkedEntry T))) → IsStack (S.world s.old) (cell_in self.now) es →
+        ensures list { IsExact (S.caller s.old) → (es : List (Entry (LinkedEntry T))) → IsStack (S.world s.old) (cell_in self.now) es →
             LastIs link_of last.entry es → IfOk result (λ f. (v : T) × T.is_clone value.now v × (gs : List (Entry (LinkedEntry T))) ×
-            AppendsTo (S.world s.old) (S.seat s.old).place (cell_in self.now) es v (S.world s.new) gs × LastIs link_of (Some f) gs) }
+            AppendsTo (S.world s.old) (S.caller s.old).place (cell_in self.now) es v (S.world s.new) gs × LastIs link_of (Some f) gs) }
     {
         if let Err(refused) = has_room::<LinkedEntry<T>, S>(s) {
             return Err((None, refused));
@@ -304,19 +304,19 @@ impl<T: Item<LinkedEntry<T>>> Stack<T> {
     >(&self, walk: Walk<'g, T>, guard: &'g Guard, s: &mut S) -> Result<(), (Option<T>, Refused)>
     where
         T: CloneValue,
-        requires seated { IsSeated (S.seat s.old) }
-        requires home { home_in self.now ≡ (S.seat s.old).home.cells }
-        requires walk { IsWalkOf (S.seat s.old).home.cells walk }
-        requires values { (u v : T) → T.is_clone u v → AreOf (S.seat s.old).home (T.holds v) }
-        requires reader { reader_of guard.now ≡ (S.seat s.old).reader }
-        ensures unmoved { Unmoved S.seat S.known S.shows s.old s.new }
+        requires seated { IsSeated (S.caller s.old) }
+        requires home { home_in self.now ≡ (S.caller s.old).home.cells }
+        requires walk { IsWalkOf (S.caller s.old).home.cells walk }
+        requires values { (u v : T) → T.is_clone u v → AreOf (S.caller s.old).home (T.holds v) }
+        requires reader { reader_of guard.now ≡ (S.caller s.old).reader }
+        ensures unmoved { Unmoved S.caller S.known S.shows s.old s.new }
         ensures own { KeepsMoreWaiting (S.own s.old) (S.own s.new) }
-        ensures back { IfErr result (λ e. (e.1 ≡ Refused.NoMemory) ⊎ (e.1 ≡ Refused.NoSlot) ⊎ IsRefusedBy (S.seat s.old) Refused.NoCell e.1) }
-        ensures list { IsExact (S.seat s.old) → IsStack (S.world s.old) (cell_in self.now) [] → (from : ℕ) (now fs : List (Entry (LinkedEntry T))) →
+        ensures back { IfErr result (λ e. (e.1 ≡ Refused.NoMemory) ⊎ (e.1 ≡ Refused.NoSlot) ⊎ IsRefusedBy (S.caller s.old) Refused.NoCell e.1) }
+        ensures list { IsExact (S.caller s.old) → IsStack (S.world s.old) (cell_in self.now) [] → (from : ℕ) (now fs : List (Entry (LinkedEntry T))) →
             StandsBefore (S.world s.old) walk.entry now → AreBeside now (both (cell_in self.now)) [] →
             IsStackBeside (S.world s.old) from fs (cell_in self.now) [] → (first others xs : List T) × (gs : List (Entry (LinkedEntry T))) ×
             (shown_of now ≡ first ++ others) × AllZip T.is_clone first xs ×
-            ExtendsStack (S.seat s.old).place (cell_in self.now) (S.world s.old) [] xs (S.world s.new) gs × IsStack (S.world s.new) from fs ×
+            ExtendsStack (S.caller s.old).place (cell_in self.now) (S.world s.old) [] xs (S.world s.new) gs × IsStack (S.world s.new) from fs ×
             MatchResult result (λ _. others ≡ []) (λ e. (e.0 ≡ None) × (u : T) × (us : List T) × (others ≡ u ∷ us) ×
             RefusesClone T.is_clone T.is_infallible (S.world s.new) u e.1) }
     {
@@ -344,17 +344,17 @@ impl<T: Item<LinkedEntry<T>>> Stack<T> {
     >(&self, guard: &Guard, s: &mut S) -> Result<Stack<T>, Unfinished<Stack<T>, T>>
     where
         T: CloneValue,
-        requires seated { IsSeated (S.seat s.old) }
-        requires home { home_in self.now ≡ (S.seat s.old).home.cells }
-        requires values { (u v : T) → T.is_clone u v → AreOf (S.seat s.old).home (T.holds v) }
-        requires reader { reader_of guard.now ≡ (S.seat s.old).reader }
-        ensures unmoved { Unmoved S.seat S.known S.shows s.old s.new }
+        requires seated { IsSeated (S.caller s.old) }
+        requires home { home_in self.now ≡ (S.caller s.old).home.cells }
+        requires values { (u v : T) → T.is_clone u v → AreOf (S.caller s.old).home (T.holds v) }
+        requires reader { reader_of guard.now ≡ (S.caller s.old).reader }
+        ensures unmoved { Unmoved S.caller S.known S.shows s.old s.new }
         ensures own { KeepsMoreWaiting (S.own s.old) (S.own s.new) }
-        ensures home { IfSome (stack_of result) (λ stack. home_in stack ≡ (S.seat s.old).home.cells) }
+        ensures home { IfSome (stack_of result) (λ stack. home_in stack ≡ (S.caller s.old).home.cells) }
         ensures back { IfErr result (λ u. (why_not u ≡ Refused.NoMemory) ⊎ (why_not u ≡ Refused.NoSlot) ⊎
-            IsRefusedBy (S.seat s.old) Refused.NoCell (why_not u)) }
-        ensures list { IsExact (S.seat s.old) → (es : List (Entry (LinkedEntry T))) → IsStack (S.world s.old) (cell_in self.now) es →
-            StackClones T.is_clone T.is_infallible (S.seat s.old).place (S.world s.old) (cell_in self.now) es result (S.world s.new) }
+            IsRefusedBy (S.caller s.old) Refused.NoCell (why_not u)) }
+        ensures list { IsExact (S.caller s.old) → (es : List (Entry (LinkedEntry T))) → IsStack (S.world s.old) (cell_in self.now) es →
+            StackClones T.is_clone T.is_infallible (S.caller s.old).place (S.world s.old) (cell_in self.now) es result (S.world s.new) }
     {
         let copy = match Stack::new(s) {
             Ok(copy) => copy,
@@ -377,16 +377,16 @@ impl<T: Item<LinkedEntry<T>>> Stack<T> {
             + Cells<LinkedEntry<T>>
             + LookThrough<LinkedEntry<T>>,
     >(&self, guard: &Guard, s: &mut S) -> Result<Option<Shared<LinkedEntry<T>>>, Refused>
-        requires seated { IsSeated (S.seat s.old) }
-        requires home { home_in self.now ≡ (S.seat s.old).home.cells }
-        requires reader { reader_of guard.now ≡ (S.seat s.old).reader }
-        ensures unmoved { Unmoved S.seat S.known S.shows s.old s.new }
+        requires seated { IsSeated (S.caller s.old) }
+        requires home { home_in self.now ≡ (S.caller s.old).home.cells }
+        requires reader { reader_of guard.now ≡ (S.caller s.old).reader }
+        ensures unmoved { Unmoved S.caller S.known S.shows s.old s.new }
         ensures own { KeepsMoreWaiting (S.own s.old) (S.own s.new) }
-        ensures owner { IfOk result (IsOfSlots (S.seat s.old).home.slots) }
+        ensures owner { IfOk result (IsOfSlots (S.caller s.old).home.slots) }
         ensures back { IfErr result (λ e. (e ≡ Refused.TooManyOwners) ⊎ (e ≡ Refused.Contended)) }
-        ensures list { IsExact (S.seat s.old) → (es : List (Entry (LinkedEntry T))) → IsStack (S.world s.old) (cell_in self.now) es →
-            Pops link_of (S.world s.old) (S.seat s.old).place (cell_in self.now) no_tag es result (S.world s.new) }
-        ensures values { IsExact (S.seat s.old) → (vs : List T) → StackHas (S.world s.old) self.now vs → MatchResult result
+        ensures list { IsExact (S.caller s.old) → (es : List (Entry (LinkedEntry T))) → IsStack (S.world s.old) (cell_in self.now) es →
+            Pops link_of (S.world s.old) (S.caller s.old).place (cell_in self.now) no_tag es result (S.world s.new) }
+        ensures values { IsExact (S.caller s.old) → (vs : List T) → StackHas (S.world s.old) self.now vs → MatchResult result
             (λ popped. StackHas (S.world s.new) self.now (drop 1 vs) × MatchOption popped (slice_get vs 0 ≡ None)
             (λ owner. (entry : LinkedEntry T) × S.shows s.new (slot_of owner) entry × (slice_get vs 0 ≡ Some (value_of entry))))
             (λ _. S.world s.new ≡ S.world s.old) }
@@ -400,14 +400,14 @@ impl<T: Item<LinkedEntry<T>>> Stack<T> {
         guard: &'g Guard,
         s: &mut S,
     ) -> Ptr<'g, LinkedEntry<T>>
-        requires seated { IsSeated (S.seat s.old) }
-        requires home { home_in self.now ≡ (S.seat s.old).home.cells }
-        requires reader { reader_of guard.now ≡ (S.seat s.old).reader }
-        ensures undisturbed { Undisturbed S.seat S.own S.known S.shows s.old s.new }
-        ensures world { IsExact (S.seat s.old) → S.world s.new ≡ S.world s.old }
+        requires seated { IsSeated (S.caller s.old) }
+        requires home { home_in self.now ≡ (S.caller s.old).home.cells }
+        requires reader { reader_of guard.now ≡ (S.caller s.old).reader }
+        ensures undisturbed { Undisturbed S.caller S.own S.known S.shows s.old s.new }
+        ensures world { IsExact (S.caller s.old) → S.world s.new ≡ S.world s.old }
         ensures shown { PtrIsShown (S.shows s.new) result }
         ensures tag { tag_of result ≡ no_tag }
-        ensures list { IsExact (S.seat s.old) → (es : List (Entry (LinkedEntry T))) → IsStack (S.world s.old) (cell_in self.now) es →
+        ensures list { IsExact (S.caller s.old) → (es : List (Entry (LinkedEntry T))) → IsStack (S.world s.old) (cell_in self.now) es →
             slot_named result ≡ first_slot (left es) }
     {
         first_ptr_in(&self.newest, guard, s)
@@ -419,14 +419,14 @@ impl<T: Item<LinkedEntry<T>>> Stack<T> {
         _guard: &'a Guard,
         s: &'a S,
     ) -> Iter<'a, T, S>
-        requires home { home_in self.now ≡ (S.seat s.now).home.cells }
+        requires home { home_in self.now ≡ (S.caller s.now).home.cells }
         ensures space { space_of result ≡ s.now }
-        ensures home { IsIterOf (S.seat s.now).home.slots result }
-        ensures list { IsExact (S.seat s.now) → (vs : List T) → StackHas (S.world s.now) self.now vs → GivesInOrder (S.world s.now) result vs }
-        ensures items { IsExact (S.seat s.now) → (vs : List T) → StackHas (S.world s.now) self.now vs →
-            AlwaysYields (GoesInOrder S.seat S.world) (λ v. v.now) result vs }
-        ensures runs { IsExact (S.seat s.now) → (vs : List T) → StackHas (S.world s.now) self.now vs →
-            EachRunFrom (GoesInOrder S.seat S.world) result (λ p. ItemsMapTo p (λ v. v.now) vs) }
+        ensures home { IsIterOf (S.caller s.now).home.slots result }
+        ensures list { IsExact (S.caller s.now) → (vs : List T) → StackHas (S.world s.now) self.now vs → GivesInOrder (S.world s.now) result vs }
+        ensures items { IsExact (S.caller s.now) → (vs : List T) → StackHas (S.world s.now) self.now vs →
+            AlwaysYields (GoesInOrder S.caller S.world) (λ v. v.now) result vs }
+        ensures runs { IsExact (S.caller s.now) → (vs : List T) → StackHas (S.world s.now) self.now vs →
+            EachRunFrom (GoesInOrder S.caller S.world) result (λ p. ItemsMapTo p (λ v. v.now) vs) }
     {
         iter_in(&self.newest, s)
     }
@@ -436,10 +436,10 @@ impl<T: Item<LinkedEntry<T>>> Stack<T> {
         &self,
         s: &'a S,
     ) -> Iter<'a, T, S>
-        requires home { home_in self.now ≡ (S.seat s.now).home.cells }
+        requires home { home_in self.now ≡ (S.caller s.now).home.cells }
         ensures space { space_of result ≡ s.now }
-        ensures home { IsIterOf (S.seat s.now).home.slots result }
-        ensures list { IsExact (S.seat s.now) → (vs : List T) → StackHas (S.world s.now) self.now vs → GivesInOrder (S.world s.now) result vs }
+        ensures home { IsIterOf (S.caller s.now).home.slots result }
+        ensures list { IsExact (S.caller s.now) → (vs : List T) → StackHas (S.world s.now) self.now vs → GivesInOrder (S.world s.now) result vs }
     {
         iter_in(&self.newest, s)
     }
@@ -450,15 +450,15 @@ impl<T: Item<LinkedEntry<T>>> Stack<T> {
         guard: &'g Guard,
         s: &mut S,
     ) -> Walk<'g, T>
-        requires seated { IsSeated (S.seat s.old) }
-        requires home { home_in self.now ≡ (S.seat s.old).home.cells }
-        requires reader { reader_of guard.now ≡ (S.seat s.old).reader }
-        ensures undisturbed { Undisturbed S.seat S.own S.known S.shows s.old s.new }
-        ensures home { IsWalkOf (S.seat s.old).home.cells result }
-        ensures world { IsExact (S.seat s.old) → S.world s.new ≡ S.world s.old }
-        ensures list { IsExact (S.seat s.old) → (es : List (Entry (LinkedEntry T))) → IsStack (S.world s.old) (cell_in self.now) es →
+        requires seated { IsSeated (S.caller s.old) }
+        requires home { home_in self.now ≡ (S.caller s.old).home.cells }
+        requires reader { reader_of guard.now ≡ (S.caller s.old).reader }
+        ensures undisturbed { Undisturbed S.caller S.own S.known S.shows s.old s.new }
+        ensures home { IsWalkOf (S.caller s.old).home.cells result }
+        ensures world { IsExact (S.caller s.old) → S.world s.new ≡ S.world s.old }
+        ensures list { IsExact (S.caller s.old) → (es : List (Entry (LinkedEntry T))) → IsStack (S.world s.old) (cell_in self.now) es →
             ShowsInOrder (S.world s.new) result (shown_of es) }
-        ensures entries { IsExact (S.seat s.old) → (es : List (Entry (LinkedEntry T))) → IsStack (S.world s.old) (cell_in self.now) es →
+        ensures entries { IsExact (S.caller s.old) → (es : List (Entry (LinkedEntry T))) → IsStack (S.world s.old) (cell_in self.now) es →
             StandsBefore (S.world s.new) result (left es) }
     {
         walk_in(&self.newest, guard, s)
@@ -470,12 +470,12 @@ impl<T: Item<LinkedEntry<T>>> Stack<T> {
         guard: &Guard,
         s: &mut S,
     ) -> u64
-        requires seated { IsSeated (S.seat s.old) }
-        requires home { home_in self.now ≡ (S.seat s.old).home.cells }
-        requires reader { reader_of guard.now ≡ (S.seat s.old).reader }
-        ensures undisturbed { Undisturbed S.seat S.own S.known S.shows s.old s.new }
-        ensures world { IsExact (S.seat s.old) → S.world s.new ≡ S.world s.old }
-        ensures list { IsExact (S.seat s.old) → (es : List (Entry (LinkedEntry T))) → IsStack (S.world s.old) (cell_in self.now) es →
+        requires seated { IsSeated (S.caller s.old) }
+        requires home { home_in self.now ≡ (S.caller s.old).home.cells }
+        requires reader { reader_of guard.now ≡ (S.caller s.old).reader }
+        ensures undisturbed { Undisturbed S.caller S.own S.known S.shows s.old s.new }
+        ensures world { IsExact (S.caller s.old) → S.world s.new ≡ S.world s.old }
+        ensures list { IsExact (S.caller s.old) → (es : List (Entry (LinkedEntry T))) → IsStack (S.world s.old) (cell_in self.now) es →
             result ≡ length (content es) }
     {
         count(&self.newest, guard, s)
@@ -487,12 +487,12 @@ impl<T: Item<LinkedEntry<T>>> Stack<T> {
         guard: &Guard,
         s: &mut S,
     ) -> bool
-        requires seated { IsSeated (S.seat s.old) }
-        requires home { home_in self.now ≡ (S.seat s.old).home.cells }
-        requires reader { reader_of guard.now ≡ (S.seat s.old).reader }
-        ensures undisturbed { Undisturbed S.seat S.own S.known S.shows s.old s.new }
-        ensures world { IsExact (S.seat s.old) → S.world s.new ≡ S.world s.old }
-        ensures list { IsExact (S.seat s.old) → (es : List (Entry (LinkedEntry T))) → IsStack (S.world s.old) (cell_in self.now) es →
+        requires seated { IsSeated (S.caller s.old) }
+        requires home { home_in self.now ≡ (S.caller s.old).home.cells }
+        requires reader { reader_of guard.now ≡ (S.caller s.old).reader }
+        ensures undisturbed { Undisturbed S.caller S.own S.known S.shows s.old s.new }
+        ensures world { IsExact (S.caller s.old) → S.world s.new ≡ S.world s.old }
+        ensures list { IsExact (S.caller s.old) → (es : List (Entry (LinkedEntry T))) → IsStack (S.world s.old) (cell_in self.now) es →
             IsTrue result ↔ (left es ≡ []) }
     {
         self.peek(guard, s).is_null()
@@ -504,13 +504,13 @@ impl<T: Item<LinkedEntry<T>>> Stack<T> {
         guard: &Guard,
         s: &mut S,
     )
-        requires seated { IsSeated (S.seat s.old) }
-        requires home { home_in self ≡ (S.seat s.old).home.cells }
-        requires reader { reader_of guard.now ≡ (S.seat s.old).reader }
-        ensures unmoved { Unmoved S.seat S.known S.shows s.old s.new }
+        requires seated { IsSeated (S.caller s.old) }
+        requires home { home_in self ≡ (S.caller s.old).home.cells }
+        requires reader { reader_of guard.now ≡ (S.caller s.old).reader }
+        ensures unmoved { Unmoved S.caller S.known S.shows s.old s.new }
         ensures own { KeepsMoreWaiting (S.own s.old) (S.own s.new) }
-        ensures list { IsExact (S.seat s.old) → (es : List (Entry (LinkedEntry T))) → IsStack (S.world s.old) (cell_in self) es →
-            S.world s.new ≡ without_cell (emptied link_of (S.world s.old) (S.seat s.old).place (cell_in self) no_tag es) (cell_in self) }
+        ensures list { IsExact (S.caller s.old) → (es : List (Entry (LinkedEntry T))) → IsStack (S.world s.old) (cell_in self) es →
+            S.world s.new ≡ without_cell (emptied link_of (S.world s.old) (S.caller s.old).place (cell_in self) no_tag es) (cell_in self) }
     {
         let Stack { newest } = self;
         let_go_of_all(&newest, guard, s);
@@ -534,23 +534,23 @@ impl<T: Item<LinkedEntry<T>>> Stack<T> {
         guard: &Guard,
         s: &mut S,
     ) -> Result<Shared<LinkedEntry<T>>, (T, Option<Refused>)>
-        requires seated { IsSeated (S.seat s.old) }
-        requires home { home_in self.now ≡ (S.seat s.old).home.cells }
-        requires value { AreOf (S.seat s.old).home (T.holds value) }
+        requires seated { IsSeated (S.caller s.old) }
+        requires home { home_in self.now ≡ (S.caller s.old).home.cells }
+        requires value { AreOf (S.caller s.old).home (T.holds value) }
         requires callable { F.IsAlwaysCallable condition }
-        requires reader { reader_of guard.now ≡ (S.seat s.old).reader }
-        ensures unmoved { Unmoved S.seat S.known S.shows s.old s.new }
+        requires reader { reader_of guard.now ≡ (S.caller s.old).reader }
+        ensures unmoved { Unmoved S.caller S.known S.shows s.old s.new }
         ensures own { KeepsMoreWaiting (S.own s.old) (S.own s.new) }
-        ensures owner { IfOk result (λ owner. slots_home owner ≡ (S.seat s.old).home.slots) }
+        ensures owner { IfOk result (λ owner. slots_home owner ≡ (S.caller s.old).home.slots) }
         ensures back { IfErr result (λ e. (e.0 ≡ value) ×
             IfSome e.1 (λ why. (why ≡ Refused.NoSlot) ⊎ (why ≡ Refused.NoCell) ⊎ (why ≡ Refused.Contended))) }
-        ensures asked { IsExact (S.seat s.old) → (es : List (Entry (LinkedEntry T))) → IsStack (S.world s.old) (cell_in self.now) es →
+        ensures asked { IsExact (S.caller s.old) → (es : List (Entry (LinkedEntry T))) → IsStack (S.world s.old) (cell_in self.now) es →
             (shown : _) × (option_copied shown ≡ first_value (left es)) × F.post condition shown (was_held result) }
-        ensures refused { IsExact (S.seat s.old) → (es : List (Entry (LinkedEntry T))) → IsStack (S.world s.old) (cell_in self.now) es →
+        ensures refused { IsExact (S.caller s.old) → (es : List (Entry (LinkedEntry T))) → IsStack (S.world s.old) (cell_in self.now) es →
             IfErr result (λ e. (S.world s.new ≡ S.world s.old) × IfSome e.1 (λ why. IsFull (S.world s.old).standings × (why ≡ Refused.NoSlot) ⊎
             ¬ (IsFull (S.world s.old).standings) × IsFull (S.world s.old).cells × (why ≡ Refused.NoCell))) }
-        ensures list { IsExact (S.seat s.old) → (es : List (Entry (LinkedEntry T))) → IsStack (S.world s.old) (cell_in self.now) es →
-            IfOk result (λ owner. PushesOnto (S.world s.old) (S.seat s.old).place (cell_in self.now) es value owner (S.world s.new)) }
+        ensures list { IsExact (S.caller s.old) → (es : List (Entry (LinkedEntry T))) → IsStack (S.world s.old) (cell_in self.now) es →
+            IfOk result (λ owner. PushesOnto (S.world s.old) (S.caller s.old).place (cell_in self.now) es value owner (S.world s.new)) }
     {
         let shown = match first_value_in(&self.newest, guard, s) {
             Ok(shown) => shown,
@@ -585,16 +585,16 @@ impl<T: Item<LinkedEntry<T>>> Stack<T> {
         guard: &Guard,
         s: &mut S,
     ) -> Result<Option<Shared<LinkedEntry<T>>>, Unpopped<T>>
-        requires seated { IsSeated (S.seat s.old) }
-        requires home { home_in self.now ≡ (S.seat s.old).home.cells }
+        requires seated { IsSeated (S.caller s.old) }
+        requires home { home_in self.now ≡ (S.caller s.old).home.cells }
         requires callable { F.IsAlwaysCallable condition }
-        requires reader { reader_of guard.now ≡ (S.seat s.old).reader }
-        ensures unmoved { Unmoved S.seat S.known S.shows s.old s.new }
+        requires reader { reader_of guard.now ≡ (S.caller s.old).reader }
+        ensures unmoved { Unmoved S.caller S.known S.shows s.old s.new }
         ensures own { KeepsMoreWaiting (S.own s.old) (S.own s.new) }
-        ensures owner { MatchResult result (IsOfSlots (S.seat s.old).home.slots) (λ e. IsOfSlots (S.seat s.old).home.slots (kept_by e)) }
-        ensures list { IsExact (S.seat s.old) → (es : List (Entry (LinkedEntry T))) → IsStack (S.world s.old) (cell_in self.now) es →
+        ensures owner { MatchResult result (IsOfSlots (S.caller s.old).home.slots) (λ e. IsOfSlots (S.caller s.old).home.slots (kept_by e)) }
+        ensures list { IsExact (S.caller s.old) → (es : List (Entry (LinkedEntry T))) → IsStack (S.world s.old) (cell_in self.now) es →
             PopsIf (λ value held. (shown : Bor (LinkedEntry T)) × (shown.now ≡ value) × F.post condition shown held)
-            (S.world s.old) (S.seat s.old).place (cell_in self.now) es result (S.world s.new) }
+            (S.world s.old) (S.caller s.old).place (cell_in self.now) es result (S.world s.new) }
     {
         match find_first(&self.newest, guard, s) {
             Ok(Some(front)) => {
@@ -628,18 +628,18 @@ impl<T: Item<LinkedEntry<T>>> Stack<T> {
         guard: &Guard,
         s: &mut S,
     ) -> Result<Option<Shared<LinkedEntry<T>>>, Unpopped<T>>
-        requires seated { IsSeated (S.seat s.old) }
-        requires home { home_in self.now ≡ (S.seat s.old).home.cells }
-        requires reader { reader_of guard.now ≡ (S.seat s.old).reader }
-        requires link { cells_home front.link.now ≡ (S.seat s.old).home.cells }
+        requires seated { IsSeated (S.caller s.old) }
+        requires home { home_in self.now ≡ (S.caller s.old).home.cells }
+        requires reader { reader_of guard.now ≡ (S.caller s.old).reader }
+        requires link { cells_home front.link.now ≡ (S.caller s.old).home.cells }
         requires shown { PtrIsShown (S.shows s.old) front.ptr }
-        ensures unmoved { Unmoved S.seat S.known S.shows s.old s.new }
+        ensures unmoved { Unmoved S.caller S.known S.shows s.old s.new }
         ensures own { KeepsMoreWaiting (S.own s.old) (S.own s.new) }
-        ensures owner { MatchResult result (IsOfSlots (S.seat s.old).home.slots) (λ e. IsOfSlots (S.seat s.old).home.slots (kept_by e)) }
-        ensures list { IsExact (S.seat s.old) → (es : List (Entry (LinkedEntry T))) → IsStack (S.world s.old) (cell_in self.now) es →
+        ensures owner { MatchResult result (IsOfSlots (S.caller s.old).home.slots) (λ e. IsOfSlots (S.caller s.old).home.slots (kept_by e)) }
+        ensures list { IsExact (S.caller s.old) → (es : List (Entry (LinkedEntry T))) → IsStack (S.world s.old) (cell_in self.now) es →
             (e : Entry (LinkedEntry T)) (rest : List (Entry (LinkedEntry T))) → left es ≡ e ∷ rest → slot_named front.entry.ptr ≡ Some e.slot →
             cell_of front.entry.link.now ≡ link_of e.value → ((n : ℕ) × IsSharedBy n (standing_at (S.world s.old) e.slot)) →
-            PopsIf (λ value held. (value ≡ e.value) × (held ≡ holds)) (S.world s.old) (S.seat s.old).place (cell_in self.now) es result (S.world s.new) }
+            PopsIf (λ value held. (value ≡ e.value) × (held ≡ holds)) (S.world s.old) (S.caller s.old).place (cell_in self.now) es result (S.world s.new) }
     {
         if holds {
             match take_first(&self.newest, front, guard, s) {
@@ -662,15 +662,15 @@ impl<T: Item<LinkedEntry<T>>> Stack<T> {
         _guard: &Guard,
         s: &mut S,
     ) -> Result<Stack<T>, Refused>
-        requires seated { IsSeated (S.seat s.old) }
-        requires home { home_in self.now ≡ (S.seat s.old).home.cells }
-        ensures unmoved { Unmoved S.seat S.known S.shows s.old s.new }
+        requires seated { IsSeated (S.caller s.old) }
+        requires home { home_in self.now ≡ (S.caller s.old).home.cells }
+        ensures unmoved { Unmoved S.caller S.known S.shows s.old s.new }
         ensures own { KeepsMoreWaiting (S.own s.old) (S.own s.new) }
-        ensures home { IfOk result (λ stack. home_in stack ≡ (S.seat s.old).home.cells) }
-        ensures back { IfErr result (IsRefusedBy (S.seat s.old) Refused.NoCell) }
-        ensures refused { IsExact (S.seat s.old) →
+        ensures home { IfOk result (λ stack. home_in stack ≡ (S.caller s.old).home.cells) }
+        ensures back { IfErr result (IsRefusedBy (S.caller s.old) Refused.NoCell) }
+        ensures refused { IsExact (S.caller s.old) →
             IfErr result (λ e. IsFull (S.world s.old).cells × (e ≡ Refused.NoCell) × (S.world s.new ≡ S.world s.old)) }
-        ensures list { IsExact (S.seat s.old) → (es : List (Entry (LinkedEntry T))) → IsStack (S.world s.old) (cell_in self.now) es →
+        ensures list { IsExact (S.caller s.old) → (es : List (Entry (LinkedEntry T))) → IsStack (S.world s.old) (cell_in self.now) es →
             IfOk result (λ all. IsEmptyAt (S.world s.old).cells (cell_in all) × IsStack (S.world s.new) (cell_in self.now) [] ×
             IsStack (S.world s.new) (cell_in all) es ×
             (S.world s.new ≡ poured (S.world s.old) (cell_in self.now) (cell_in all) es)) }
@@ -691,13 +691,13 @@ impl<T: Item<LinkedEntry<T>>> Stack<T> {
         F: FnOnce(Option<&LinkedEntry<T>>) -> R,
         S: Items<LinkedEntry<T>> + Cells<LinkedEntry<T>> + LookThrough<LinkedEntry<T>>,
     >(&self, reader: F, guard: &Guard, s: &mut S) -> R
-        requires seated { IsSeated (S.seat s.old) }
-        requires home { home_in self.now ≡ (S.seat s.old).home.cells }
+        requires seated { IsSeated (S.caller s.old) }
+        requires home { home_in self.now ≡ (S.caller s.old).home.cells }
         requires callable { F.IsAlwaysCallable reader }
-        requires reader_of_guard { reader_of guard.now ≡ (S.seat s.old).reader }
-        ensures undisturbed { Undisturbed S.seat S.own S.known S.shows s.old s.new }
-        ensures world { IsExact (S.seat s.old) → S.world s.new ≡ S.world s.old }
-        ensures list { IsExact (S.seat s.old) → (es : List (Entry (LinkedEntry T))) → IsStack (S.world s.old) (cell_in self.now) es →
+        requires reader_of_guard { reader_of guard.now ≡ (S.caller s.old).reader }
+        ensures undisturbed { Undisturbed S.caller S.own S.known S.shows s.old s.new }
+        ensures world { IsExact (S.caller s.old) → S.world s.new ≡ S.world s.old }
+        ensures list { IsExact (S.caller s.old) → (es : List (Entry (LinkedEntry T))) → IsStack (S.world s.old) (cell_in self.now) es →
             (shown : _) × (option_copied shown ≡ first_value (left es)) × F.post reader shown result }
     {
         let shown = shown_in(&self.newest, guard, s);

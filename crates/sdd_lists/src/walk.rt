@@ -29,13 +29,13 @@ pub(crate) fn walk_in<
     T: Item<LinkedEntry<T>>,
     S: Items<LinkedEntry<T>> + Cells<LinkedEntry<T>> + LookThrough<LinkedEntry<T>>,
 >(cell: &AtomicShared<LinkedEntry<T>>, guard: &'g Guard, s: &mut S) -> Walk<'g, T>
-    requires seated { IsSeated (S.seat s.old) }
-    requires home { cells_home cell.now ≡ (S.seat s.old).home.cells }
-    requires reader { reader_of guard.now ≡ (S.seat s.old).reader }
-    ensures undisturbed { Undisturbed S.seat S.own S.known S.shows s.old s.new }
-    ensures home { IsWalkOf (S.seat s.old).home.cells result }
-    ensures world { IsExact (S.seat s.old) → S.world s.new ≡ S.world s.old }
-    ensures exact { IsExact (S.seat s.old) → (t : Tag) (es : List (Entry (LinkedEntry T))) → IsList link_of (S.world s.old) (cell_of cell.now) t es →
+    requires seated { IsSeated (S.caller s.old) }
+    requires home { cells_home cell.now ≡ (S.caller s.old).home.cells }
+    requires reader { reader_of guard.now ≡ (S.caller s.old).reader }
+    ensures undisturbed { Undisturbed S.caller S.own S.known S.shows s.old s.new }
+    ensures home { IsWalkOf (S.caller s.old).home.cells result }
+    ensures world { IsExact (S.caller s.old) → S.world s.new ≡ S.world s.old }
+    ensures exact { IsExact (S.caller s.old) → (t : Tag) (es : List (Entry (LinkedEntry T))) → IsList link_of (S.world s.old) (cell_of cell.now) t es →
         StandsBefore (S.world s.new) result (left es) }
 {
     let most = reach::<LinkedEntry<T>, S>(s);
@@ -50,15 +50,15 @@ impl<'g, T: Item<LinkedEntry<T>>> Walk<'g, T> {
         guard: &'g Guard,
         s: &mut S,
     ) -> Option<&'g T>
-        requires seated { IsSeated (S.seat s.old) }
-        requires home { IsWalkOf (S.seat s.old).home.cells self.old }
-        requires reader { reader_of guard.now ≡ (S.seat s.old).reader }
-        ensures undisturbed { Undisturbed S.seat S.own S.known S.shows s.old s.new }
-        ensures home { IsWalkOf (S.seat s.old).home.cells self.new }
-        ensures world { IsExact (S.seat s.old) → S.world s.new ≡ S.world s.old }
-        ensures list { IsExact (S.seat s.old) → (vs : List T) → ShowsInOrder (S.world s.old) self.old vs →
+        requires seated { IsSeated (S.caller s.old) }
+        requires home { IsWalkOf (S.caller s.old).home.cells self.old }
+        requires reader { reader_of guard.now ≡ (S.caller s.old).reader }
+        ensures undisturbed { Undisturbed S.caller S.own S.known S.shows s.old s.new }
+        ensures home { IsWalkOf (S.caller s.old).home.cells self.new }
+        ensures world { IsExact (S.caller s.old) → S.world s.new ≡ S.world s.old }
+        ensures list { IsExact (S.caller s.old) → (vs : List T) → ShowsInOrder (S.world s.old) self.old vs →
             (option_copied result ≡ slice_get vs 0) × ShowsInOrder (S.world s.new) self.new (drop 1 vs) }
-        ensures entries { IsExact (S.seat s.old) → (es : List (Entry (LinkedEntry T))) → StandsBefore (S.world s.old) self.old es →
+        ensures entries { IsExact (S.caller s.old) → (es : List (Entry (LinkedEntry T))) → StandsBefore (S.world s.old) self.old es →
             (option_copied result ≡ first_shown es) × StandsBefore (S.world s.new) self.new (left (drop 1 es)) }
         ensures ends { IfSome result (λ _. steps_left self.new < steps_left self.old) }
     {

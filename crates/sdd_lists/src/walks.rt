@@ -6,8 +6,8 @@ ghost use Rattle.sdd_space.specs.Ptr.{PtrIsShown, shown_by, slot_named, tag_of};
 ghost use Rattle.sdd_core.specs.declared.tag.Tag.TheVariants.{None as no_tag};
 ghost use Rattle.sdd_space.specs.CallerId.{IsSeated, IsExact};
 ghost use Rattle.sdd_space.specs.Shared.{cell_of, cells_home};
-ghost use Rattle.sdd_space.specs.World.{standing_at};
-ghost use Rattle.sdd_standings.specs.Slots.{IsSharedBy};
+ghost use Rattle.sdd_world_model.specs.World.{standing_at};
+ghost use Rattle.sdd_world_model.specs.Slots.{IsSharedBy};
 ghost use Rattle.sdd_participants.specs.Slab.{entry_at};
 ghost use Rattle.sdd_participants.specs.declared.standing.CellContents.{CellContents};
 ghost use Rattle.sdd_core.specs.declared.tag.Tag.{Tag};
@@ -23,7 +23,7 @@ use sdd_space::{AtomicShared, Cells, Guard, Item, Items, LookThrough, Ptr};
 
 /// How many entries a list has at most, as no two of them are in one slot.
 pub(crate) fn reach<T: LinkedList, S: Items<T>>(s: &S) -> u64
-    ensures { IsExact (S.seat s.now) → (es : List (Entry T)) → AreLinked T.link (S.world s.now) es → length es ≤ result }
+    ensures { IsExact (S.caller s.now) → (es : List (Entry T)) → AreLinked T.link (S.world s.now) es → length es ≤ result }
 {
     values_fit_slots::<T, S>(s);
     s.slots()
@@ -43,16 +43,16 @@ pub(crate) fn first_in<'g, T: LinkedList, S: Cells<T> + LookThrough<T>>(
     guard: &'g Guard,
     s: &mut S,
 ) -> Option<Front<'g, T>>
-    requires seated { IsSeated (S.seat s.old) }
-    requires home { cells_home cell.now ≡ (S.seat s.old).home.cells }
-    requires reader { reader_of guard.now ≡ (S.seat s.old).reader }
-    ensures undisturbed { Undisturbed S.seat S.own S.known S.shows s.old s.new }
-    ensures home { IfSome result (λ f. cells_home f.link.now ≡ (S.seat s.old).home.cells) }
+    requires seated { IsSeated (S.caller s.old) }
+    requires home { cells_home cell.now ≡ (S.caller s.old).home.cells }
+    requires reader { reader_of guard.now ≡ (S.caller s.old).reader }
+    ensures undisturbed { Undisturbed S.caller S.own S.known S.shows s.old s.new }
+    ensures home { IfSome result (λ f. cells_home f.link.now ≡ (S.caller s.old).home.cells) }
     ensures link { IfSome result (λ f. cell_of f.link.now ≡ T.link f.entry.now) }
     ensures shown { IfSome result (λ f. PtrIsShown (S.shows s.new) f.ptr) }
     ensures value { IfSome result (λ f. shown_by f.ptr ≡ Some f.entry.now) }
-    ensures world { IsExact (S.seat s.old) → S.world s.new ≡ S.world s.old }
-    ensures exact { IsExact (S.seat s.old) → (es : List (Entry T)) → AreLinked T.link (S.world s.old) es →
+    ensures world { IsExact (S.caller s.old) → S.world s.new ≡ S.world s.old }
+    ensures exact { IsExact (S.caller s.old) → (es : List (Entry T)) → AreLinked T.link (S.world s.old) es →
         (held : CellContents) → entry_at (S.world s.old).cells (cell_of cell.now) ≡ Some held → held.held ≡ first_slot es →
         MatchOption result (es ≡ []) (λ f. (e : Entry T) × (rest : List (Entry T)) × (es ≡ e ∷ rest) × (slot_named f.ptr ≡ Some e.slot) ×
         (f.entry.now ≡ e.value) × ((n : ℕ) × IsSharedBy n (standing_at (S.world s.old) e.slot))) }
@@ -78,17 +78,17 @@ pub(crate) fn find_first<'g, T: LinkedList, S: Items<T> + Cells<T> + LookThrough
     guard: &'g Guard,
     s: &mut S,
 ) -> Result<Option<Front<'g, T>>, Refused>
-    requires seated { IsSeated (S.seat s.old) }
-    requires home { cells_home cell.now ≡ (S.seat s.old).home.cells }
-    requires reader { reader_of guard.now ≡ (S.seat s.old).reader }
-    ensures undisturbed { Undisturbed S.seat S.own S.known S.shows s.old s.new }
-    ensures home { IfOk result (λ o. IfSome o (λ f. cells_home f.link.now ≡ (S.seat s.old).home.cells)) }
+    requires seated { IsSeated (S.caller s.old) }
+    requires home { cells_home cell.now ≡ (S.caller s.old).home.cells }
+    requires reader { reader_of guard.now ≡ (S.caller s.old).reader }
+    ensures undisturbed { Undisturbed S.caller S.own S.known S.shows s.old s.new }
+    ensures home { IfOk result (λ o. IfSome o (λ f. cells_home f.link.now ≡ (S.caller s.old).home.cells)) }
     ensures link { IfOk result (λ o. IfSome o (λ f. cell_of f.link.now ≡ T.link f.entry.now)) }
     ensures shown { IfOk result (λ o. IfSome o (λ f. PtrIsShown (S.shows s.new) f.ptr)) }
     ensures value { IfOk result (λ o. IfSome o (λ f. shown_by f.ptr ≡ Some f.entry.now)) }
     ensures back { IfErr result (λ e. e ≡ Refused.Contended) }
-    ensures world { IsExact (S.seat s.old) → S.world s.new ≡ S.world s.old }
-    ensures exact { IsExact (S.seat s.old) → (es : List (Entry T)) → AreLinked T.link (S.world s.old) es →
+    ensures world { IsExact (S.caller s.old) → S.world s.new ≡ S.world s.old }
+    ensures exact { IsExact (S.caller s.old) → (es : List (Entry T)) → AreLinked T.link (S.world s.old) es →
         (held : CellContents) → entry_at (S.world s.old).cells (cell_of cell.now) ≡ Some held → held.held ≡ first_slot es →
         MatchResult result (λ o. MatchOption o (left es ≡ []) (λ f. (e : Entry T) × (rest : List (Entry T)) × (left es ≡ e ∷ rest) ×
         (slot_named f.ptr ≡ Some e.slot) × (f.entry.now ≡ e.value) × ((n : ℕ) × IsSharedBy n (standing_at (S.world s.old) e.slot))))
@@ -113,17 +113,17 @@ fn find_past_deleted<'g, T: LinkedList, S: Items<T> + Cells<T> + LookThrough<T>>
     guard: &'g Guard,
     s: &mut S,
 ) -> Result<Option<Front<'g, T>>, Refused>
-    requires seated { IsSeated (S.seat s.old) }
-    requires home { cells_home cell.now ≡ (S.seat s.old).home.cells }
-    requires reader { reader_of guard.now ≡ (S.seat s.old).reader }
-    ensures undisturbed { Undisturbed S.seat S.own S.known S.shows s.old s.new }
-    ensures home { IfOk result (λ o. IfSome o (λ f. cells_home f.link.now ≡ (S.seat s.old).home.cells)) }
+    requires seated { IsSeated (S.caller s.old) }
+    requires home { cells_home cell.now ≡ (S.caller s.old).home.cells }
+    requires reader { reader_of guard.now ≡ (S.caller s.old).reader }
+    ensures undisturbed { Undisturbed S.caller S.own S.known S.shows s.old s.new }
+    ensures home { IfOk result (λ o. IfSome o (λ f. cells_home f.link.now ≡ (S.caller s.old).home.cells)) }
     ensures link { IfOk result (λ o. IfSome o (λ f. cell_of f.link.now ≡ T.link f.entry.now)) }
     ensures shown { IfOk result (λ o. IfSome o (λ f. PtrIsShown (S.shows s.new) f.ptr)) }
     ensures value { IfOk result (λ o. IfSome o (λ f. shown_by f.ptr ≡ Some f.entry.now)) }
     ensures back { IfErr result (λ e. e ≡ Refused.Contended) }
-    ensures world { IsExact (S.seat s.old) → S.world s.new ≡ S.world s.old }
-    ensures exact { IsExact (S.seat s.old) → (es : List (Entry T)) → AreLinked T.link (S.world s.old) es →
+    ensures world { IsExact (S.caller s.old) → S.world s.new ≡ S.world s.old }
+    ensures exact { IsExact (S.caller s.old) → (es : List (Entry T)) → AreLinked T.link (S.world s.old) es →
         (held : CellContents) → entry_at (S.world s.old).cells (cell_of cell.now) ≡ Some held → held.held ≡ first_slot es →
         MatchResult result (λ o. MatchOption o (left es ≡ []) (λ f. (e : Entry T) × (rest : List (Entry T)) × (left es ≡ e ∷ rest) ×
         (slot_named f.ptr ≡ Some e.slot) × (f.entry.now ≡ e.value) × ((n : ℕ) × IsSharedBy n (standing_at (S.world s.old) e.slot))))
@@ -140,17 +140,17 @@ fn find_by_walking<'g, T: LinkedList, S: Items<T> + Cells<T> + LookThrough<T>>(
     guard: &'g Guard,
     s: &mut S,
 ) -> Result<Option<Front<'g, T>>, Refused>
-    requires seated { IsSeated (S.seat s.old) }
-    requires home { cells_home cell.now ≡ (S.seat s.old).home.cells }
-    requires reader { reader_of guard.now ≡ (S.seat s.old).reader }
-    ensures undisturbed { Undisturbed S.seat S.own S.known S.shows s.old s.new }
-    ensures home { IfOk result (λ o. IfSome o (λ f. cells_home f.link.now ≡ (S.seat s.old).home.cells)) }
+    requires seated { IsSeated (S.caller s.old) }
+    requires home { cells_home cell.now ≡ (S.caller s.old).home.cells }
+    requires reader { reader_of guard.now ≡ (S.caller s.old).reader }
+    ensures undisturbed { Undisturbed S.caller S.own S.known S.shows s.old s.new }
+    ensures home { IfOk result (λ o. IfSome o (λ f. cells_home f.link.now ≡ (S.caller s.old).home.cells)) }
     ensures link { IfOk result (λ o. IfSome o (λ f. cell_of f.link.now ≡ T.link f.entry.now)) }
     ensures shown { IfOk result (λ o. IfSome o (λ f. PtrIsShown (S.shows s.new) f.ptr)) }
     ensures value { IfOk result (λ o. IfSome o (λ f. shown_by f.ptr ≡ Some f.entry.now)) }
     ensures back { IfErr result (λ e. e ≡ Refused.Contended) }
-    ensures world { IsExact (S.seat s.old) → S.world s.new ≡ S.world s.old }
-    ensures exact { IsExact (S.seat s.old) → (es : List (Entry T)) → AreLinked T.link (S.world s.old) es →
+    ensures world { IsExact (S.caller s.old) → S.world s.new ≡ S.world s.old }
+    ensures exact { IsExact (S.caller s.old) → (es : List (Entry T)) → AreLinked T.link (S.world s.old) es →
         (held : CellContents) → entry_at (S.world s.old).cells (cell_of cell.now) ≡ Some held → held.held ≡ first_slot es →
         MatchResult result (λ o. MatchOption o (left es ≡ []) (λ f. (e : Entry T) × (rest : List (Entry T)) × (left es ≡ e ∷ rest) ×
         (slot_named f.ptr ≡ Some e.slot) × (f.entry.now ≡ e.value) × ((n : ℕ) × IsSharedBy n (standing_at (S.world s.old) e.slot))))
@@ -178,14 +178,14 @@ pub(crate) fn front_in<'g, T: LinkedList, S: Items<T> + Cells<T> + LookThrough<T
     guard: &'g Guard,
     s: &mut S,
 ) -> Option<Front<'g, T>>
-    requires seated { IsSeated (S.seat s.old) }
-    requires home { cells_home cell.now ≡ (S.seat s.old).home.cells }
-    requires reader { reader_of guard.now ≡ (S.seat s.old).reader }
-    ensures undisturbed { Undisturbed S.seat S.own S.known S.shows s.old s.new }
-    ensures home { IfSome result (λ f. cells_home f.link.now ≡ (S.seat s.old).home.cells) }
+    requires seated { IsSeated (S.caller s.old) }
+    requires home { cells_home cell.now ≡ (S.caller s.old).home.cells }
+    requires reader { reader_of guard.now ≡ (S.caller s.old).reader }
+    ensures undisturbed { Undisturbed S.caller S.own S.known S.shows s.old s.new }
+    ensures home { IfSome result (λ f. cells_home f.link.now ≡ (S.caller s.old).home.cells) }
     ensures link { IfSome result (λ f. cell_of f.link.now ≡ T.link f.entry.now) }
-    ensures world { IsExact (S.seat s.old) → S.world s.new ≡ S.world s.old }
-    ensures exact { IsExact (S.seat s.old) → (es : List (Entry T)) → AreLinked T.link (S.world s.old) es →
+    ensures world { IsExact (S.caller s.old) → S.world s.new ≡ S.world s.old }
+    ensures exact { IsExact (S.caller s.old) → (es : List (Entry T)) → AreLinked T.link (S.world s.old) es →
         (held : CellContents) → entry_at (S.world s.old).cells (cell_of cell.now) ≡ Some held → held.held ≡ first_slot es →
         MatchOption result (left es ≡ []) (λ f. (e : Entry T) × (rest : List (Entry T)) × (left es ≡ e ∷ rest) × (slot_named f.ptr ≡ Some e.slot) ×
         (f.entry.now ≡ e.value) × ((n : ℕ) × IsSharedBy n (standing_at (S.world s.old) e.slot))) }
@@ -204,13 +204,13 @@ pub(crate) fn first_value_in<'g, T: LinkedList, S: Items<T> + Cells<T> + LookThr
     guard: &'g Guard,
     s: &mut S,
 ) -> Result<Option<&'g T>, Refused>
-    requires seated { IsSeated (S.seat s.old) }
-    requires home { cells_home cell.now ≡ (S.seat s.old).home.cells }
-    requires reader { reader_of guard.now ≡ (S.seat s.old).reader }
-    ensures undisturbed { Undisturbed S.seat S.own S.known S.shows s.old s.new }
+    requires seated { IsSeated (S.caller s.old) }
+    requires home { cells_home cell.now ≡ (S.caller s.old).home.cells }
+    requires reader { reader_of guard.now ≡ (S.caller s.old).reader }
+    ensures undisturbed { Undisturbed S.caller S.own S.known S.shows s.old s.new }
     ensures back { IfErr result (λ e. e ≡ Refused.Contended) }
-    ensures world { IsExact (S.seat s.old) → S.world s.new ≡ S.world s.old }
-    ensures exact { IsExact (S.seat s.old) → (t : Tag) (es : List (Entry T)) → IsList T.link (S.world s.old) (cell_of cell.now) t es →
+    ensures world { IsExact (S.caller s.old) → S.world s.new ≡ S.world s.old }
+    ensures exact { IsExact (S.caller s.old) → (t : Tag) (es : List (Entry T)) → IsList T.link (S.world s.old) (cell_of cell.now) t es →
         MatchResult result (λ o. option_copied o ≡ first_value (left es)) (λ _. ⊥) }
 {
     match find_first(cell, guard, s) {
@@ -226,12 +226,12 @@ pub(crate) fn shown_in<'g, T: LinkedList, S: Items<T> + Cells<T> + LookThrough<T
     guard: &'g Guard,
     s: &mut S,
 ) -> Option<&'g T>
-    requires seated { IsSeated (S.seat s.old) }
-    requires home { cells_home cell.now ≡ (S.seat s.old).home.cells }
-    requires reader { reader_of guard.now ≡ (S.seat s.old).reader }
-    ensures undisturbed { Undisturbed S.seat S.own S.known S.shows s.old s.new }
-    ensures world { IsExact (S.seat s.old) → S.world s.new ≡ S.world s.old }
-    ensures exact { IsExact (S.seat s.old) → (t : Tag) (es : List (Entry T)) → IsList T.link (S.world s.old) (cell_of cell.now) t es →
+    requires seated { IsSeated (S.caller s.old) }
+    requires home { cells_home cell.now ≡ (S.caller s.old).home.cells }
+    requires reader { reader_of guard.now ≡ (S.caller s.old).reader }
+    ensures undisturbed { Undisturbed S.caller S.own S.known S.shows s.old s.new }
+    ensures world { IsExact (S.caller s.old) → S.world s.new ≡ S.world s.old }
+    ensures exact { IsExact (S.caller s.old) → (t : Tag) (es : List (Entry T)) → IsList T.link (S.world s.old) (cell_of cell.now) t es →
         option_copied result ≡ first_value (left es) }
 {
     match first_value_in(cell, guard, s) {
@@ -242,11 +242,11 @@ pub(crate) fn shown_in<'g, T: LinkedList, S: Items<T> + Cells<T> + LookThrough<T
 
 /// 1 for the link of an entry that isn't deleted, and else 0.
 fn one_if_kept<T: Item<T>, S: Cells<T>>(link: &AtomicShared<T>, s: &mut S) -> u64
-    requires seated { IsSeated (S.seat s.old) }
-    requires home { cells_home link.now ≡ (S.seat s.old).home.cells }
-    ensures undisturbed { Undisturbed S.seat S.own S.known S.shows s.old s.new }
+    requires seated { IsSeated (S.caller s.old) }
+    requires home { cells_home link.now ≡ (S.caller s.old).home.cells }
+    ensures undisturbed { Undisturbed S.caller S.own S.known S.shows s.old s.new }
     ensures most { result ≤ 1 }
-    ensures exact { IsExact (S.seat s.old) → (S.world s.new ≡ S.world s.old) × ((cell : CellContents) ×
+    ensures exact { IsExact (S.caller s.old) → (S.world s.new ≡ S.world s.old) × ((cell : CellContents) ×
         (entry_at (S.world s.old).cells (cell_of link.now) ≡ Some cell) × (result ≡ (if is_deleting cell.tag then 0 else 1))) }
 {
     match link.tag(s) {
@@ -261,12 +261,12 @@ pub(crate) fn count<T: LinkedList, S: Items<T> + Cells<T> + LookThrough<T>>(
     guard: &Guard,
     s: &mut S,
 ) -> u64
-    requires seated { IsSeated (S.seat s.old) }
-    requires home { cells_home cell.now ≡ (S.seat s.old).home.cells }
-    requires reader { reader_of guard.now ≡ (S.seat s.old).reader }
-    ensures undisturbed { Undisturbed S.seat S.own S.known S.shows s.old s.new }
-    ensures world { IsExact (S.seat s.old) → S.world s.new ≡ S.world s.old }
-    ensures exact { IsExact (S.seat s.old) → (t : Tag) (es : List (Entry T)) → IsList T.link (S.world s.old) (cell_of cell.now) t es →
+    requires seated { IsSeated (S.caller s.old) }
+    requires home { cells_home cell.now ≡ (S.caller s.old).home.cells }
+    requires reader { reader_of guard.now ≡ (S.caller s.old).reader }
+    ensures undisturbed { Undisturbed S.caller S.own S.known S.shows s.old s.new }
+    ensures world { IsExact (S.caller s.old) → S.world s.new ≡ S.world s.old }
+    ensures exact { IsExact (S.caller s.old) → (t : Tag) (es : List (Entry T)) → IsList T.link (S.world s.old) (cell_of cell.now) t es →
         result ≡ length (content es) }
 {
     let most = reach::<T, S>(s);
@@ -290,11 +290,11 @@ pub(crate) fn slot_in<T: Item<T>, S: Cells<T>>(
     guard: &Guard,
     s: &mut S,
 ) -> Option<u32>
-    requires seated { IsSeated (S.seat s.old) }
-    requires home { cells_home cell.now ≡ (S.seat s.old).home.cells }
-    requires reader { reader_of guard.now ≡ (S.seat s.old).reader }
-    ensures undisturbed { Undisturbed S.seat S.own S.known S.shows s.old s.new }
-    ensures exact { IsExact (S.seat s.old) → (S.world s.new ≡ S.world s.old) × ((t : Tag) ×
+    requires seated { IsSeated (S.caller s.old) }
+    requires home { cells_home cell.now ≡ (S.caller s.old).home.cells }
+    requires reader { reader_of guard.now ≡ (S.caller s.old).reader }
+    ensures undisturbed { Undisturbed S.caller S.own S.known S.shows s.old s.new }
+    ensures exact { IsExact (S.caller s.old) → (S.world s.new ≡ S.world s.old) × ((t : Tag) ×
         (entry_at (S.world s.old).cells (cell_of cell.now) ≡ Some (record { held = result; tag = t }))) }
 {
     number_of(&cell.load(guard, s))
@@ -324,12 +324,12 @@ pub(crate) fn is_let_go_of<T: LinkedList, S: Items<T> + Cells<T> + LookThrough<T
     guard: &Guard,
     s: &mut S,
 ) -> bool
-    requires seated { IsSeated (S.seat s.old) }
-    requires home { cells_home cell.now ≡ (S.seat s.old).home.cells }
-    requires reader { reader_of guard.now ≡ (S.seat s.old).reader }
-    ensures undisturbed { Undisturbed S.seat S.own S.known S.shows s.old s.new }
-    ensures world { IsExact (S.seat s.old) → S.world s.new ≡ S.world s.old }
-    ensures exact { IsExact (S.seat s.old) → (t : Tag) (es : List (Entry T)) → IsList T.link (S.world s.old) (cell_of cell.now) t es →
+    requires seated { IsSeated (S.caller s.old) }
+    requires home { cells_home cell.now ≡ (S.caller s.old).home.cells }
+    requires reader { reader_of guard.now ≡ (S.caller s.old).reader }
+    ensures undisturbed { Undisturbed S.caller S.own S.known S.shows s.old s.new }
+    ensures world { IsExact (S.caller s.old) → S.world s.new ≡ S.world s.old }
+    ensures exact { IsExact (S.caller s.old) → (t : Tag) (es : List (Entry T)) → IsList T.link (S.world s.old) (cell_of cell.now) t es →
         result ≡ lets_go_of watched es }
 {
     let most = reach::<T, S>(s);
@@ -357,16 +357,16 @@ pub(crate) fn kept_in<'g, T: LinkedList, S: Cells<T> + LookThrough<T>>(
     guard: &'g Guard,
     s: &mut S,
 ) -> Option<Front<'g, T>>
-    requires seated { IsSeated (S.seat s.old) }
-    requires home { cells_home cell.now ≡ (S.seat s.old).home.cells }
-    requires reader { reader_of guard.now ≡ (S.seat s.old).reader }
-    ensures undisturbed { Undisturbed S.seat S.own S.known S.shows s.old s.new }
-    ensures home { IfSome result (λ f. cells_home f.link.now ≡ (S.seat s.old).home.cells) }
+    requires seated { IsSeated (S.caller s.old) }
+    requires home { cells_home cell.now ≡ (S.caller s.old).home.cells }
+    requires reader { reader_of guard.now ≡ (S.caller s.old).reader }
+    ensures undisturbed { Undisturbed S.caller S.own S.known S.shows s.old s.new }
+    ensures home { IfSome result (λ f. cells_home f.link.now ≡ (S.caller s.old).home.cells) }
     ensures link { IfSome result (λ f. cell_of f.link.now ≡ T.link f.entry.now) }
     ensures shown { IfSome result (λ f. PtrIsShown (S.shows s.new) f.ptr) }
     ensures value { IfSome result (λ f. shown_by f.ptr ≡ Some f.entry.now) }
-    ensures world { IsExact (S.seat s.old) → S.world s.new ≡ S.world s.old }
-    ensures exact { IsExact (S.seat s.old) → (es : List (Entry T)) → AreLinked T.link (S.world s.old) es →
+    ensures world { IsExact (S.caller s.old) → S.world s.new ≡ S.world s.old }
+    ensures exact { IsExact (S.caller s.old) → (es : List (Entry T)) → AreLinked T.link (S.world s.old) es →
         (held : CellContents) → entry_at (S.world s.old).cells (cell_of cell.now) ≡ Some held → IsSecond T.link (S.world s.old) held.held es →
         IfSome result (λ f. (e : Entry T) × (rest : List (Entry T)) × EndsWith es e rest × (is_deleted e ≡ false) × (slot_named f.ptr ≡ Some e.slot) ×
         (f.entry.now ≡ e.value) × ((n : ℕ) × IsSharedBy n (standing_at (S.world s.old) e.slot))) }
@@ -388,20 +388,20 @@ fn last_from<'g, T: LinkedList, S: Items<T> + Cells<T> + LookThrough<T>>(
     guard: &'g Guard,
     s: &mut S,
 ) -> Result<Front<'g, T>, Refused>
-    requires seated { IsSeated (S.seat s.old) }
-    requires home { cells_home front.link.now ≡ (S.seat s.old).home.cells }
+    requires seated { IsSeated (S.caller s.old) }
+    requires home { cells_home front.link.now ≡ (S.caller s.old).home.cells }
     requires link { cell_of front.link.now ≡ T.link front.entry.now }
     requires shown { PtrIsShown (S.shows s.old) front.ptr }
     requires value { shown_by front.ptr ≡ Some front.entry.now }
-    requires reader { reader_of guard.now ≡ (S.seat s.old).reader }
-    ensures undisturbed { Undisturbed S.seat S.own S.known S.shows s.old s.new }
-    ensures home { IfOk result (λ f. cells_home f.link.now ≡ (S.seat s.old).home.cells) }
+    requires reader { reader_of guard.now ≡ (S.caller s.old).reader }
+    ensures undisturbed { Undisturbed S.caller S.own S.known S.shows s.old s.new }
+    ensures home { IfOk result (λ f. cells_home f.link.now ≡ (S.caller s.old).home.cells) }
     ensures link { IfOk result (λ f. cell_of f.link.now ≡ T.link f.entry.now) }
     ensures shown { IfOk result (λ f. PtrIsShown (S.shows s.new) f.ptr) }
     ensures value { IfOk result (λ f. shown_by f.ptr ≡ Some f.entry.now) }
     ensures back { IfErr result (λ e. e ≡ Refused.Contended) }
-    ensures world { IsExact (S.seat s.old) → S.world s.new ≡ S.world s.old }
-    ensures exact { IsExact (S.seat s.old) → (es : List (Entry T)) → AreLinked T.link (S.world s.old) es →
+    ensures world { IsExact (S.caller s.old) → S.world s.new ≡ S.world s.old }
+    ensures exact { IsExact (S.caller s.old) → (es : List (Entry T)) → AreLinked T.link (S.world s.old) es →
         (e : Entry T) (rest : List (Entry T)) → EndsWith es e rest → is_deleted e ≡ false → front.entry.entry.now ≡ e.value →
         MatchResult result (λ f. (last : Entry T) × (behind : List (Entry T)) × IsLastOf es last behind × (f.entry.now ≡ last.value)) (λ _. ⊥) }
 {
@@ -428,15 +428,15 @@ pub(crate) fn find_last<'g, T: LinkedList, S: Items<T> + Cells<T> + LookThrough<
     guard: &'g Guard,
     s: &mut S,
 ) -> Result<Option<Front<'g, T>>, Refused>
-    requires seated { IsSeated (S.seat s.old) }
-    requires oldest { cells_home oldest.now ≡ (S.seat s.old).home.cells }
-    requires newest { cells_home newest.now ≡ (S.seat s.old).home.cells }
-    requires reader { reader_of guard.now ≡ (S.seat s.old).reader }
-    ensures undisturbed { Undisturbed S.seat S.own S.known S.shows s.old s.new }
-    ensures home { IfOk result (λ o. IfSome o (λ f. cells_home f.link.now ≡ (S.seat s.old).home.cells)) }
+    requires seated { IsSeated (S.caller s.old) }
+    requires oldest { cells_home oldest.now ≡ (S.caller s.old).home.cells }
+    requires newest { cells_home newest.now ≡ (S.caller s.old).home.cells }
+    requires reader { reader_of guard.now ≡ (S.caller s.old).reader }
+    ensures undisturbed { Undisturbed S.caller S.own S.known S.shows s.old s.new }
+    ensures home { IfOk result (λ o. IfSome o (λ f. cells_home f.link.now ≡ (S.caller s.old).home.cells)) }
     ensures back { IfErr result (λ e. e ≡ Refused.Contended) }
-    ensures world { IsExact (S.seat s.old) → S.world s.new ≡ S.world s.old }
-    ensures exact { IsExact (S.seat s.old) → (es : List (Entry T)) (second : Option ℕ) →
+    ensures world { IsExact (S.caller s.old) → S.world s.new ≡ S.world s.old }
+    ensures exact { IsExact (S.caller s.old) → (es : List (Entry T)) (second : Option ℕ) →
         IsQueue T.link (S.world s.old) (record { oldest = cell_of oldest.now; newest = cell_of newest.now }) es second →
         MatchResult result (λ o. MatchOption o (is_spent es ≡ true) (λ f. (e : Entry T) × (rest : List (Entry T)) × IsLastOf es e rest ×
         (f.entry.now ≡ e.value) × (cell_of f.link.now ≡ T.link e.value))) (λ _. ⊥) }
@@ -473,14 +473,14 @@ pub(crate) fn first_ptr_in<'g, T: LinkedList, S: Items<T> + Cells<T> + LookThrou
     guard: &'g Guard,
     s: &mut S,
 ) -> Ptr<'g, T>
-    requires seated { IsSeated (S.seat s.old) }
-    requires home { cells_home cell.now ≡ (S.seat s.old).home.cells }
-    requires reader { reader_of guard.now ≡ (S.seat s.old).reader }
-    ensures undisturbed { Undisturbed S.seat S.own S.known S.shows s.old s.new }
-    ensures world { IsExact (S.seat s.old) → S.world s.new ≡ S.world s.old }
+    requires seated { IsSeated (S.caller s.old) }
+    requires home { cells_home cell.now ≡ (S.caller s.old).home.cells }
+    requires reader { reader_of guard.now ≡ (S.caller s.old).reader }
+    ensures undisturbed { Undisturbed S.caller S.own S.known S.shows s.old s.new }
+    ensures world { IsExact (S.caller s.old) → S.world s.new ≡ S.world s.old }
     ensures shown { PtrIsShown (S.shows s.new) result }
     ensures tag { tag_of result ≡ no_tag }
-    ensures exact { IsExact (S.seat s.old) → (t : Tag) (es : List (Entry T)) → IsList T.link (S.world s.old) (cell_of cell.now) t es →
+    ensures exact { IsExact (S.caller s.old) → (t : Tag) (es : List (Entry T)) → IsList T.link (S.world s.old) (cell_of cell.now) t es →
         slot_named result ≡ first_slot (left es) }
 {
     let front = match find_first(cell, guard, s) {

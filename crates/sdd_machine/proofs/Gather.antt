@@ -16,7 +16,7 @@ use Rattle.sdd_machine.specs.Table.{is_free, is_open, is_ended, Place, free_plac
 use Rattle.sdd_machine.specs.Views.{places_of}
 use Rattle.sdd_machine.specs.declared.machine.places.Scan.{Scan}
 use Rattle.std.proofs.Common.{Option}
-use Rattle.sdd_machine.proofs.Seen.{seen, held_freed, post_freed}
+use Rattle.sdd_machine.proofs.Views.{seen, held_freed, post_freed}
 use Rattle.sdd_machine.specs.declared.machine.places.Phase.{Phase}
 use Rattle.sdd_machine.specs.declared.machine.places.Phase.TheVariants.{Free}
 use Rattle.std.proofs.lemmas.List.{length-replicate}

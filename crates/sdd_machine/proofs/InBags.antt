@@ -17,7 +17,7 @@ use Rattle.sdd_machine.specs.Table.{finds_another}
 use Rattle.sdd_machine.specs.History.{is_change, fate, changed, taken_over, Fate, Kept, Waits, Left, Gone}
 use Rattle.sdd_machine.specs.History as history
 use Rattle.sdd_machine.proofs.Counts.{since, Good, good, place_step, holder_open, adopts_holds, get_or-free}
-use Rattle.sdd_machine.proofs.Fates.{FateOk, ItemOf, Item, In, is_with, BagsOk, was_retired, live, retired_at, contains-put, change_is, fate_step}
+use Rattle.sdd_machine.proofs.WaitingItems.{FateOk, ItemOf, Item, In, is_with, BagsOk, was_retired, live, retired_at, contains-put, change_is, fate_step}
 
 -- one place changed, and no bag
 bags_with : (p q i : ℕ) (f : Fate) (x y : Place) → BagsOk f q i x → BagsOk f q i y → BagsOk f q i (cond (eqb p q) y x)

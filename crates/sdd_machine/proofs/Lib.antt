@@ -3,11 +3,11 @@ pub mod Histories
 pub mod Places
 pub mod Counts
 pub mod Guards
-pub mod Fates
+pub mod WaitingItems
 pub mod InBags
-pub mod Theorem
-pub mod Seen
+pub mod Laws
+pub mod Views
 pub mod Gather
 pub mod Walks
-pub mod Relinks
-pub mod Trios
+pub mod SharedLinks
+pub mod ThreeBags

@@ -1,10 +1,10 @@
-pub mod Fresh
-pub mod Aging
-pub mod Listed
-pub mod Adopting
+pub mod NewSlab
+pub mod AgedBags
+pub mod EmptyPlaces
+pub mod Adoptions
 pub mod Renaming
-pub mod Beside
+pub mod JobsAtPlaces
 pub mod Places
-pub mod Shown
+pub mod ShownEntries
 pub mod Collecting
-mod Counting
+mod CountedTally

@@ -1,4 +1,4 @@
--- Whose number a right is to: a book's where its witness is blank, and else a table's
+-- Whose number a right is to: a ghost map's where its witness is blank, and else a table's
 use Rattle.std.proofs.Common.{◌≡◌, ◌≢◌, ℕ, Bool, true, false, List, [], ◌∷◌, refl, sym, ap, ◌∙◌}
 use base.Stored.{Gv}
 use Rattle.atomic_table.specs.Seated.{TableId}
@@ -17,23 +17,23 @@ size-in : (cell : Bool) (table : TableId) (name size : ℕ) → (home_in_table c
 size-in true table name size = refl
 size-in false table name size = refl
 
--- a blank one leaves the part's home
+-- a blank one leaves the fraction's home
 pub home-blank : (views : List Gv) (table : TableId) (name : ℕ) (cell : Bool) (home : GhostName) → views ≡ [] → home_by views table name cell home ≡ home
 home-blank [] table name cell home e = refl
 home-blank (g ∷ gs) table name cell home e = absurd (cc)
 
--- in a book's home the witness is blank
-pub blank-in-book : (views : List Gv) (table : TableId) (name : ℕ) (cell : Bool) (home book : GhostName) → home_by views table name cell home ≡ book →
-    book.tables ≡ [] → views ≡ []
-blank-in-book [] table name cell home book e none = refl
-blank-in-book (g ∷ gs) table name cell home book e none =
+-- in a ghost map's home the witness is blank
+pub blank-in-gamma : (views : List Gv) (table : TableId) (name : ℕ) (cell : Bool) (home gamma : GhostName) → home_by views table name cell home ≡ gamma →
+    gamma.tables ≡ [] → views ≡ []
+blank-in-gamma [] table name cell home gamma e none = refl
+blank-in-gamma (g ∷ gs) table name cell home gamma e none =
     let some : table ∷ [] ≡ [] = sym (tables-in cell table name home.size) ∙ (ap tables_of e ∙ none) in absurd (cc)
 
--- so the part is of it
-pub part-in-book : (views : List Gv) (table : TableId) (name : ℕ) (cell : Bool) (home book : GhostName) → home_by views table name cell home ≡ book →
-    book.tables ≡ [] → home ≡ book
-part-in-book views table name cell home book e none =
-    sym (home-blank views table name cell home (blank-in-book views table name cell home book e none)) ∙ e
+-- so the fraction is of it
+pub fraction-in-gamma : (views : List Gv) (table : TableId) (name : ℕ) (cell : Bool) (home gamma : GhostName) → home_by views table name cell home ≡ gamma →
+    gamma.tables ≡ [] → home ≡ gamma
+fraction-in-gamma views table name cell home gamma e none =
+    sym (home-blank views table name cell home (blank-in-gamma views table name cell home gamma e none)) ∙ e
 
 -- with a witness it is the table's
 pub home-witnessed : (views : List Gv) (table : TableId) (name : ℕ) (cell : Bool) (home : GhostName) → views ≢ [] →
@@ -52,7 +52,7 @@ pub cells-witnessed : (views : List Gv) (table : TableId) (name : ℕ) (cell : B
 cells-witnessed views table name cell home is some =
     home-witnessed views table name cell home some ∙ ap (λ (b : Bool). home_in_table b table name home.size) is
 
--- outside a book there is a witness
+-- outside a ghost map there is a witness
 pub witness-there : (views : List Gv) (table : TableId) (name : ℕ) (cell : Bool) (home : GhostName) → home.tables ≡ [] →
     (home_by views table name cell home).tables ≢ [] → views ≢ []
 witness-there [] table name cell home none some e = some none

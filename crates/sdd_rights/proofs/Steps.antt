@@ -1,4 +1,4 @@
--- The ghost steps of a part. Assumes `Logic`.
+-- The ghost steps of a fraction. Assumes `Logic`.
 use Rattle.std.proofs.Common.{◌≡◌, ℕ, suc, ◌+◌, ◌^◌, ◌<◌, ◌≤◌, [], ◌∷◌, arith, refl, sym, subst}
 use mathlib.Core.Path.{Path}
 use mathlib.Mathlib.Data.Part.{◌∈◌, mem_unique, get}
@@ -21,10 +21,10 @@ use types.Tokens.{bor_open, obor_alter, bor_fracture, one_token}
 use denote.Struct.Lending.{Lends}
 use denote.Steps.{nothing}
 use Rattle.atomic_table.specs.Seated.{halved, itself}
-use Rattle.sdd_rights.specs.Units.{share_of, IsCount, units, book_owns, tokens}
-use Rattle.sdd_rights.proofs.Counting.{counts-pos, counts-whole, counts-fits}
+use Rattle.sdd_rights.specs.Units.{share_of, IsCount, units, keys_own, tokens}
+use Rattle.sdd_rights.proofs.Units.{counts-pos, counts-whole, counts-fits}
 
--- parts of one number have one value, at least a unit each, and no more than there are
+-- fractions of one number have one value, at least a unit each, and no more than there are
 pub record Meets (g h : Gv) (m n : ℕ) : Type 0 where
   pub values : g ≡ h
   pub some : 0 < m
@@ -48,7 +48,7 @@ module _ {M : Type 1} {𝓤 : Ura M} (𝓛 : Logic 𝓤) where
 
   infix 26 ◌⊢◌
   infixr 35 ◌∗◌
-  -- a share at a value is the two parts of the share at that value
+  -- a share at a value is the two fractions of the share at that value
   pub both_in : (q r s : Share) (g : Gv) → s ∈ Share.op q r → ◌∈◌ {α = Share × Gv} (s, g) (halved.op (q, g) (r, g))
   both_in q r s g m = Prod.mk-mem-op Share.op (Ag.op (SetCoded-set (coded itself))) {a = q} {a' = r} {x = s} {b = g} {b' = g} {y = g} m
       (Ag.idem (SetCoded-set (coded itself)) g)
@@ -155,8 +155,8 @@ module _ {M : Type 1} {𝓤 : Ura M} (𝓛 : Logic 𝓤) where
         move ! (2 ∷ 0 ∷ 1 ∷ []) $ obor_alter ! tt (at g q ∷ []) $
         use1 𝓛 (‵ (fbor κ (at g q)) ⊛ ‵ ftrue) (id⊢ 𝓤 _) $ split ! $ bor_fracture ! tt (share_of γ i g) q $ now ! $ keep ! (0 ∷ 2 ∷ []) $ done !))
 
-  pub Lends-part : (γ i : ℕ) (g : Gv) (k : ℕ) (l : Lft) → Lends 𝓛 (units γ i g k) (λ κ. fshr_bor κ (share_of γ i g)) l
-  Lends-part γ i g k l κ ts inc sp = let t : Lft → Fml = λ ν. fshr_bor ν (share_of γ i g) in qed 𝓛 (‵ (fbor κ (units γ i g k)) ∷ raw (lfts 𝓛 ts) ∷ []) ∵
+  pub Lends-fraction : (γ i : ℕ) (g : Gv) (k : ℕ) (l : Lft) → Lends 𝓛 (units γ i g k) (λ κ. fshr_bor κ (share_of γ i g)) l
+  Lends-fraction γ i g k l κ ts inc sp = let t : Lft → Fml = λ ν. fshr_bor ν (share_of γ i g) in qed 𝓛 (‵ (fbor κ (units γ i g k)) ∷ raw (lfts 𝓛 ts) ∷ []) ∵
       updating ! $ move ! (1 ∷ []) $
       use1 𝓛 (exists (λ (q : Share). ‵ (flft (span ts) q) ⊛ raw (wand 𝓤 (A.lft (span ts) q) (lfts 𝓛 ts)))) (one_token 𝓛 ts) $ pick ! (λ q. split ! $
       use1 𝓛 (‵ (flft κ (thinned κ q)) ⊛ raw (wand 𝓤 (A.lft κ (thinned κ q)) (A.lft (span ts) q))) (𝓛.lfts.lft-incl (span ts) κ q sp) $ split ! $
@@ -165,16 +165,16 @@ module _ {M : Type 1} {𝓤 : Ura M} (𝓛 : Logic 𝓤) where
       use2 𝓛 (‵ (flft (span ts) q)) (apply∗ 𝓤 (A.lft κ (thinned κ q)) (A.lft (span ts) q)) $ move ! (0 ∷ 2 ∷ []) $
       use2 𝓛 (raw (lfts 𝓛 ts)) (apply∗ 𝓤 (A.lft (span ts) q) (lfts 𝓛 ts)) $ now ! $ move ! (1 ∷ 0 ∷ []) $ done !)
 
-  -- ---- the book
-  pub book_new : emp 𝓤 ⊢ H.⇛ (ex 𝓤 (λ (γ : ℕ). ⟦ book_owns γ 0 ⟧))
-  book_new = via 𝓤 _ (entries_new halved 𝓛 0 (λ _. (full_share, gnil))) (basic 𝓛 (ex 𝓤 (λ (γ : ℕ). ⟦ book_owns γ 0 ⟧)))
+  -- ---- the ghost map
+  pub keys_new : emp 𝓤 ⊢ H.⇛ (ex 𝓤 (λ (γ : ℕ). ⟦ keys_own γ 0 ⟧))
+  keys_new = via 𝓤 _ (entries_new halved 𝓛 0 (λ _. (full_share, gnil))) (basic 𝓛 (ex 𝓤 (λ (γ : ℕ). ⟦ keys_own γ 0 ⟧)))
 
-  pub issues : (γ n : ℕ) (g : Gv) → ⟦ book_owns γ n ⟧ ⊢ H.⇛ (⟦ book_owns γ (suc n) ⟧ ∗ ⟦ units γ n g (2 ^ 63) ⟧)
-  issues γ n g = qed 𝓛 (‵ (book_owns γ n) ∷ []) ∵ updating ! $ use1 𝓛 (‵ (share_of γ n gnil full_share) ⊛ ‵ (book_owns γ (suc n)))
+  pub issues : (γ n : ℕ) (g : Gv) → ⟦ keys_own γ n ⟧ ⊢ H.⇛ (⟦ keys_own γ (suc n) ⟧ ∗ ⟦ units γ n g (2 ^ 63) ⟧)
+  issues γ n g = qed 𝓛 (‵ (keys_own γ n) ∷ []) ∵ updating ! $ use1 𝓛 (‵ (share_of γ n gnil full_share) ⊛ ‵ (keys_own γ (suc n)))
       (entries_take halved 𝓛 γ n (λ _. (full_share, gnil))) $ split ! $ use1 𝓛 (later (‵ (share_of γ n g full_share))) (resets γ n gnil g) $ await ! tt $
       use1 𝓛 (‵ (units γ n g (2 ^ 63))) (whole_in γ n g) $ now ! $ move ! (1 ∷ 0 ∷ []) $ done !
 
--- ---- the tokens of a round
+-- ---- the tokens of a lifetime
 module _ {M : Type 1} {𝓤 : Ura M} (𝓛 : Logic 𝓤) (a : ℕ) where
   open 𝓛 use {H, A}
 

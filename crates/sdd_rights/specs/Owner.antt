@@ -1,4 +1,4 @@
--- What a right to a slot or a cell of a domain shows: the token of the slot's owner, or of the right to the cell
+-- What a right to a slot or a cell of a domain shows: the seat of the slot's owner, or of the right to the cell
 use Rattle.std.specs.Prelude.{ℕ, ◌≡◌, ◌==◌, Bool, true, false, List, [], ◌∷◌}
 use Rattle.std.proofs.Common.{ap}
 use mathlib.Core.HLevel.{→_prop}
@@ -11,17 +11,17 @@ use Rattle.sdd_rights.specs.declared.views.CellKind.TheVariants.{Owned, Shared}
 use Rattle.sdd_rights.specs.contracts.views.View.{the_row}
 use Rattle.sdd_rights.specs.Views.{owner_of, right_to}
 
--- the views of a witness that is the token of the owner of a slot, which shows this; it may be one of several
+-- the views of a witness that is the seat of the owner of a slot, which shows this; it may be one of several
 abbrev pub witness_of_owner : ℕ → Bool → Gv → List Gv
 witness_of_owner slot shared shown = the_row.coded.code (owner_of slot shared shown) ∷ []
 
--- the views of a witness that is the token of the right to a cell of this kind
+-- the views of a witness that is the seat of the right to a cell of this kind
 abbrev pub witness_of_cell : ℕ → CellKind → List Gv
 witness_of_cell cell kind = the_row.coded.code (right_to cell kind) ∷ []
 
--- what a right in a domain is to: its part, of a book of its own, is the second one for a cell, and the first one for a slot
+-- what a right in a domain is to: its fraction, of a ghost map of its own, is the second one for a cell, and the first one for a slot
 abbrev pub is_cell : ℕ → Bool
-is_cell part = part == 1
+is_cell fraction = fraction == 1
 
 -- what a cell is for, that holds owners which may be several or not
 abbrev pub cell_kind : Bool → CellKind
@@ -36,10 +36,10 @@ abbrev first_shown : List ShownValue → Gv
 first_shown [] = gnil
 first_shown (s ∷ ss) = s.value
 
--- an owner's token shows one value
+-- an owner's seat shows one value
 pub one-shown : (slot : ℕ) (shared : Bool) (g h : Gv) → witness_of_owner slot shared g ≡ witness_of_owner slot shared h → g ≡ h
 one-shown slot shared g h e =
-    ap (λ (v : View). first_shown v.stakes.owns) (the_row.coded.inj (owner_of slot shared g) (owner_of slot shared h) (ap first_code e))
+    ap (λ (v : View). first_shown v.fractions.owns) (the_row.coded.inj (owner_of slot shared g) (owner_of slot shared h) (ap first_code e))
 
 pub codes-prop : {A : Type 0} {views others : List Gv} → IsProp (A → views ≡ others)
 codes-prop {views = views} {others = others} = →_prop (Coded-set (coded_list itself) views others)

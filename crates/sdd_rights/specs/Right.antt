@@ -32,15 +32,16 @@ home_of right = right.home
 abbrev pub views_of : Right → List Gv
 views_of right = right.views
 
--- the witness is the token of the owner of this slot of the home's table, which may be one of several; the grip is of the slot's number in the home's book,
--- and shows what the token does
-pub record IsOwnerBy (home : GhostName) (slot : ℕ) (shared : Bool) (witness : Witness) (grip : ReadFraction) : Type 0 where
+-- the witness is the seat of the owner of this slot of the home's table, which may be one of several; the read fraction is of the slot's number in the
+-- home's ghost map,
+-- and shows what the seat does
+pub record IsOwnerBy (home : GhostName) (slot : ℕ) (shared : Bool) (witness : Witness) (read_fraction : ReadFraction) : Type 0 where
   pub table : home.tables ≡ witness.table_id ∷ []
-  pub book : home.name ≡ grip.book
-  pub number : grip.number ≡ slot
-  pub owner : witness.views ≡ witness_of_owner slot shared grip.shown
+  pub gamma : home.name ≡ read_fraction.gamma
+  pub number : read_fraction.number ≡ slot
+  pub owner : witness.views ≡ witness_of_owner slot shared read_fraction.shown
 
--- the witness is the token of the right to this cell of the home's table
+-- the witness is the seat of the right to this cell of the home's table
 pub record IsCellBy (home : GhostName) (cell : ℕ) (kind : CellKind) (witness : Witness) : Type 0 where
   pub table : home.tables ≡ witness.table_id ∷ []
   pub right : witness.views ≡ witness_of_cell cell kind
@@ -58,4 +59,4 @@ raw_home_of right = right.home
 
 -- the home that a badge names
 abbrev pub badge_home : NameWitness → GhostName
-badge_home badge = badge.part.home
+badge_home badge = badge.fraction.home

@@ -29,19 +29,19 @@ abbrev pub kept_at : RightsAuthority → ℕ → Kept
 kept_at rights k = slice_index_or rights.kept k (whole Free)
 
 abbrev pub kept_of : Fraction StandingKind → Kept
-kept_of part = record { kind = part.kind; units = part.units }
+kept_of fraction = record { kind = fraction.kind; units = fraction.units }
 
 -- some units of this number of this home
-pub record IsPartOf (home : GhostName) (k : ℕ) (part : Fraction StandingKind) : Type 0 where
-  pub home_is : part.home ≡ home
-  pub number_is : part.number ≡ k
+pub record IsFractionOf (home : GhostName) (k : ℕ) (fraction : Fraction StandingKind) : Type 0 where
+  pub home_is : fraction.home ≡ home
+  pub number_is : fraction.number ≡ k
 
--- a part of each number below the length, in order
-abbrev pub ArePartsUpTo : GhostName → List (Fraction StandingKind) → Type 0
-ArePartsUpTo home parts = (k : ℕ) (d : Fraction StandingKind) → k < length parts → IsPartOf home k (slice_index_or parts k d)
+-- a fraction of each number below the length, in order
+abbrev pub AreFractionsUpTo : GhostName → List (Fraction StandingKind) → Type 0
+AreFractionsUpTo home fractions = (k : ℕ) (d : Fraction StandingKind) → k < length fractions → IsFractionOf home k (slice_index_or fractions k d)
 
--- a part of each number of the home, which is a book's, in order
-pub record ArePartsOf (home : GhostName) (parts : List (Fraction StandingKind)) : Type 0 where
+-- a fraction of each number of the home, which is a ghost map's, in order
+pub record AreFractionsOf (home : GhostName) (fractions : List (Fraction StandingKind)) : Type 0 where
   pub tables : home.tables ≡ []
-  pub size : length parts ≡ home.size
-  pub each : ArePartsUpTo home parts
+  pub size : length fractions ≡ home.size
+  pub each : AreFractionsUpTo home fractions

@@ -9,7 +9,7 @@ number_of shares = shares.name
 
 -- the home whose number it is
 abbrev pub home_of : SharedRights → GhostName
-home_of shares = shares.part.home
+home_of shares = shares.fraction.home
 
 -- how many owners' rights they are
 abbrev pub count_of : SharedRights → ℕ

@@ -12,8 +12,9 @@ use Rattle.atomic_table.specs.Seated.{TableId, table_id_coded, halved, itself}
 abbrev pub gv_coded : Coded Gv
 gv_coded = itself
 
--- which book, and for how many numbers it is meant; or, for the slots of a domain, the book of their places, how many there are, and whose they are: the
--- domain's table, which is in the list then; or the same, without a book, for its cells
+-- which ghost map, and for how many numbers it is meant; or, for the slots of a domain, the ghost map of their places, how many there are, and whose they
+-- are: the
+-- domain's table, which is in the list then; or the same, without a ghost map, for its cells
 pub record GhostName : Type 0 where
   pub name : ℕ
   pub size : ℕ
@@ -25,7 +26,7 @@ home_coded = coded_via (coded× coded_ℕ (coded× coded_ℕ (coded× (coded_lis
     (λ (h : GhostName). (h.name, (h.size, (h.tables, h.cells))))
     (λ x y e i. record { name = (e i).0; size = (e i).1.0; tables = (e i).1.1.0; cells = (e i).1.1.1 })
 
--- a share of the number i of the book γ, at the ghost value g
+-- a share of the number i of the ghost map γ, at the ghost value g
 abbrev pub share_of : ℕ → ℕ → Gv → Share → Fml
 share_of γ i g q = entry halved γ i (q, g)
 
@@ -37,8 +38,8 @@ IsCount q k = (Counts 63 q k) × (k ≤ 2 ^ 63)
 abbrev pub units : ℕ → ℕ → Gv → ℕ → Fml
 units γ i g k = fex Share (λ q. fex (IsCount q k) (λ _. share_of γ i g q))
 
-abbrev pub book_owns : ℕ → ℕ → Fml
-book_owns γ n = entries_from halved γ n (λ _. (full_share, gnil))
+abbrev pub keys_own : ℕ → ℕ → Fml
+keys_own γ n = entries_from halved γ n (λ _. (full_share, gnil))
 
 abbrev pub told_coded : {K : Type 0} → Coded K → Coded (ℕ × (K × Gv))
 told_coded c = coded× coded_ℕ (coded× c itself)
@@ -46,12 +47,12 @@ told_coded c = coded× coded_ℕ (coded× c itself)
 abbrev pub told : {K : Type 0} → Coded K → ℕ → K → Gv → Gv
 told c a kind shown = (told_coded c).code (a, (kind, shown))
 
--- k units in 2 ^ 63 of the token of the round's lifetime
+-- k units in 2 ^ 63 of the token of the lifetime
 abbrev pub tokens : ℕ → ℕ → Fml
 tokens a k = fex Share (λ e. fex (Counts 63 e k) (λ _. flft (a ∷ []) e))
 
-abbrev pub part_owns : {K : Type 0} → Coded K → ℕ → ℕ → ℕ → ℕ → K → Gv → Fml
-part_owns c γ i k a kind shown = fsep (units γ i (told c a kind shown) k) (tokens a k)
+abbrev pub fraction_owns : {K : Type 0} → Coded K → ℕ → ℕ → ℕ → ℕ → K → Gv → Fml
+fraction_owns c γ i k a kind shown = fsep (units γ i (told c a kind shown) k) (tokens a k)
 
-abbrev pub part_shares : {K : Type 0} → Coded K → ℕ → ℕ → ℕ → K → Gv → Lft → Fml
-part_shares c γ i a kind shown = beside (one (share_of γ i (told c a kind shown))) (one (λ q. flft (a ∷ []) q))
+abbrev pub fraction_shares : {K : Type 0} → Coded K → ℕ → ℕ → ℕ → K → Gv → Lft → Fml
+fraction_shares c γ i a kind shown = beside (one (share_of γ i (told c a kind shown))) (one (λ q. flft (a ∷ []) q))

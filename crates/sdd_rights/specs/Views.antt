@@ -1,4 +1,4 @@
--- What tokens know at first, and what that of an owner knows
+-- What seats know at first, and what that of an owner knows
 use Rattle.std.specs.Prelude.{ℕ, Bool, false, List, [], ◌∷◌, None}
 use base.Stored.{Gv}
 use Rattle.sdd_rights.specs.declared.views.EpochView.{EpochView}
@@ -49,10 +49,10 @@ no_rights = record { rights = [] }
 abbrev pub no_counts : CountsView
 no_counts = record { made = 0; gone = 0; in_place = 0; over = 0; registered = 0 }
 
--- it moves no value and knows of none, and the values' places are of this book
+-- it moves no value and knows of none, and the values' places are of this ghost map
 abbrev pub at_rest : ℕ → FractionsView
-at_rest book = record {
-  book = book;
+at_rest gamma = record {
+  gamma = gamma;
   links = 0;
   moves = None;
   bank = false;
@@ -72,26 +72,26 @@ no_pledges = record { ledger = false; founds = false; own = []; booked = [] }
 abbrev pub no_sizes : Sizes
 no_sizes = record { participants = 0; slots = 0; jobs = 0; cells = 0 }
 
--- a token that knows its owners alone
-abbrev pub owner_token : List ℕ → View
-owner_token owns = record {
+-- a seat that knows its owners alone
+abbrev pub owner_seat : List ℕ → View
+owner_seat owns = record {
   sizes = no_sizes;
   epoch = nobody 0;
   places = none_ended;
   slots = owning_only owns;
   cells = no_rights;
-  stakes = at_rest 0;
+  fractions = at_rest 0;
   pledges = no_pledges;
   words = [];
   plain = [];
 }
 
--- the token of the owner of a slot, which shows this; it may be one of several
+-- the seat of the owner of a slot, which shows this; it may be one of several
 abbrev pub owner_of : ℕ → Bool → Gv → View
-owner_of slot shared value = record (owner_token (slot ∷ [])) {
-  stakes = record (at_rest 0) { owns = record { slot = slot; shared = shared; value = value } ∷ [] };
+owner_of slot shared value = record (owner_seat (slot ∷ [])) {
+  fractions = record (at_rest 0) { owns = record { slot = slot; shared = shared; value = value } ∷ [] };
 }
 
--- the token of the right to a cell of this kind
+-- the seat of the right to a cell of this kind
 abbrev pub right_to : ℕ → CellKind → View
-right_to cell kind = record (owner_token []) { cells = record { rights = record { cell = cell; kind = kind } ∷ [] } }
+right_to cell kind = record (owner_seat []) { cells = record { rights = record { cell = cell; kind = kind } ∷ [] } }

@@ -1,7 +1,7 @@
-//! The book of a space, and the parts of its numbers.
+//! The ghost map of a space, and the fractions of its numbers.
 ghost use Rattle.std.specs.Prelude.{◌≡◌, ℕ, ◌+◌, ◌-◌, ◌<◌, ◌≤◌, []};
 ghost use base.Stored.{Gv};
-ghost use Rattle.sdd_rights.specs.Units.{GhostName, home_coded, book_owns, part_owns, part_shares, gv_coded};
+ghost use Rattle.sdd_rights.specs.Units.{GhostName, home_coded, keys_own, fraction_owns, fraction_shares, gv_coded};
 
 use crate::read_fraction::ReadFraction;
 use std::marker::{Model, PhantomData};
@@ -21,28 +21,28 @@ pub struct GhostKeys<K> {
 }
 
 impl<K> Model for GhostKeys<K> {
-    ghost also_owns = { λ b. book_owns b.home.name b.next };
+    ghost also_owns = { λ b. keys_own b.home.name b.next };
 }
 
-/// Some units of a number of a book, on whose round, kind and value they agree with all its other units.
+/// Some units of a number of a ghost map, on whose lifetime, kind and value they agree with all its other units.
 pub struct Fraction<K> {
     of: PhantomData<K>,
     pub ghost home: { GhostName } by { home_coded },
     pub ghost number: { ℕ },
     pub ghost units: { ℕ },
-    pub ghost round: { ℕ },
+    pub ghost lifetime: { ℕ },
     pub ghost kind: { K },
     pub ghost shown: { Gv } by { gv_coded },
 }
 
 impl<K> Model for Fraction<K> {
-    ghost also_owns = { λ p. part_owns K.row.coded p.home.name p.number p.units p.round p.kind p.shown };
+    ghost also_owns = { λ p. fraction_owns K.row.coded p.home.name p.number p.units p.lifetime p.kind p.shown };
 
-    ghost also_shares = { λ p _ κ. part_shares K.row.coded p.home.name p.number p.round p.kind p.shown κ };
+    ghost also_shares = { λ p _ κ. fraction_shares K.row.coded p.home.name p.number p.lifetime p.kind p.shown κ };
 }
 
 impl<K> GhostKeys<K> {
-    /// A new book, with a home that no other has. The size is a name alone: it says for how many numbers the book is meant, and limits none.
+    /// A new ghost map, with a home that no other has. The size is a name alone: it says for how many numbers the ghost map is meant, and limits none.
     pub fn new(size: usize) -> GhostKeys<K>
         ensures size { result.home.size ≡ size }
         ensures first { result.next ≡ 0 }
@@ -52,9 +52,9 @@ impl<K> GhostKeys<K> {
         GhostKeys { of: PhantomData }
     }
 
-    /// All units of the next number, in a round of their own. They show no value yet.
+    /// All units of the next number, in a lifetime of their own. They show no value yet.
     pub fn issue(&mut self, kind: &K) -> Fraction<K>
-        ensures book { self.new ≡ record self.old { next = self.old.next + 1 } }
+        ensures keys { self.new ≡ record self.old { next = self.old.next + 1 } }
         ensures home { result.home ≡ self.old.home }
         ensures number { result.number ≡ self.old.next }
         ensures units { result.units ≡ WHOLE }
@@ -66,51 +66,51 @@ impl<K> GhostKeys<K> {
 }
 
 impl<K> Fraction<K> {
-    /// Some units of the part, as a part of their own. At least one stays.
+    /// Some units of the fraction, as a fraction of their own. At least one stays.
     pub fn split(&mut self, units: u64) -> Fraction<K>
         requires some { 0 < units }
         requires fewer { units < self.old.units }
         ensures rest { self.new ≡ record self.old { units = self.old.units - units } }
-        ensures part { result ≡ record self.old { units = units } }
+        ensures fraction { result ≡ record self.old { units = units } }
     {
         let _ = units;
         Fraction { of: PhantomData }
     }
 
-    /// Two parts of one number become one. They had agreed.
+    /// Two fractions of one number become one. They had agreed.
     pub fn join(&mut self, other: Fraction<K>)
         requires home { other.home ≡ self.old.home }
         requires number { other.number ≡ self.old.number }
         ensures joined { self.new ≡ record self.old { units = self.old.units + other.units } }
         ensures fits { self.new.units ≤ WHOLE }
-        ensures round { other.round ≡ self.old.round }
+        ensures lifetime { other.lifetime ≡ self.old.lifetime }
         ensures kind { other.kind ≡ self.old.kind }
         ensures shown { other.shown ≡ self.old.shown }
     {
         let Fraction { of: _ } = other;
     }
 
-    /// A part of one unit, as a grip of its number.
-    pub(crate) fn into_grip(self) -> ReadFraction
+    /// A fraction of one unit, as a read fraction of its number.
+    pub(crate) fn into_read_fraction(self) -> ReadFraction
         requires { self.units ≡ 1 }
-        ensures { (result.book ≡ self.home.name) × (result.number ≡ self.number) }
+        ensures { (result.gamma ≡ self.home.name) × (result.number ≡ self.number) }
     {
         let Fraction { of: _ } = self;
         ReadFraction { of: PhantomData }
     }
 
-    /// Two parts of one number have the same round and kind, and show the same.
+    /// Two fractions of one number have the same lifetime and kind, and show the same.
     pub fn agree(&self, other: &Fraction<K>)
         requires home { other.now.home ≡ self.now.home }
         requires number { other.now.number ≡ self.now.number }
-        ensures round { other.now.round ≡ self.now.round }
+        ensures lifetime { other.now.lifetime ≡ self.now.lifetime }
         ensures kind { other.now.kind ≡ self.now.kind }
         ensures shown { other.now.shown ≡ self.now.shown }
     {
         let _ = other;
     }
 
-    /// Two parts of one number have no unit in common. So who has all units is alone.
+    /// Two fractions of one number have no unit in common. So who has all units is alone.
     pub fn apart(&mut self, other: &mut Fraction<K>)
         requires home { other.old.home ≡ self.old.home }
         requires number { other.old.number ≡ self.old.number }
@@ -130,7 +130,7 @@ impl<K> Fraction<K> {
         let _ = value;
     }
 
-    /// What a part shows is the code of one value only.
+    /// What a fraction shows is the code of one value only.
     pub fn same<T>(&self, one: &T, other: &T)
         requires one { self.now.shown ≡ T.row.coded.code one.now }
         requires other { self.now.shown ≡ T.row.coded.code other.now }

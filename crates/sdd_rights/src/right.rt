@@ -41,24 +41,27 @@ impl StandingKind {
 
 /// The right of an owner to a number: all its units but the one that its space keeps, where nobody else may be an owner, and a single one else.
 ///
-/// In a domain there is no book of the slots or cells, and its part, of a book of its own, says the kind, and whether it is to a slot or a cell. The
-/// witness of a right to a slot is the token of the slot's owner, and its grip is of the slot's number and shows what the token does; that of a right to
-/// a cell is the cell's token.
+/// In a domain there is no ghost map of the slots or cells, and its fraction, of a ghost map of its own, says the kind, and whether it is to a slot or a
+/// cell. The
+/// witness of a right to a slot is the seat of the slot's owner, and its read fraction is of the slot's number and shows what the seat does; that of a right to
+/// a cell is the cell's seat.
 ///
 /// It can be neither copied nor let go of by chance: it is redeemed where it was granted.
 pub struct Right {
     pub(crate) name: SlotName,
-    pub(crate) part: Fraction<StandingKind>,
+    pub(crate) fraction: Fraction<StandingKind>,
     pub(crate) witness: Witness,
-    pub(crate) grip: ReadFraction,
-    pub ghost named: { witness.views ≡ [] → part.number ≡ name },
-    pub ghost inside: { name < part.home.size },
-    pub ghost owner: { IsOwner part.kind },
-    pub ghost due: { witness.views ≡ [] → part.units ≡ right_units part.kind },
-    pub ghost books: { part.home.tables ≡ [] },
-    pub ghost placed: { witness.views ≢ [] → is_cell part.number ≡ false → grip.number ≡ name },
-    pub ghost owns: { witness.views ≢ [] × (is_cell part.number ≡ false) → witness.views ≡ witness_of_owner name (is_shared part.kind) grip.shown } by { codes-prop },
-    pub ghost reaches: { witness.views ≢ [] × (is_cell part.number ≡ true) → witness.views ≡ witness_of_cell name (cell_kind (is_shared part.kind)) } by { codes-prop },
+    pub(crate) read_fraction: ReadFraction,
+    pub ghost named: { witness.views ≡ [] → fraction.number ≡ name },
+    pub ghost inside: { name < fraction.home.size },
+    pub ghost owner: { IsOwner fraction.kind },
+    pub ghost due: { witness.views ≡ [] → fraction.units ≡ right_units fraction.kind },
+    pub ghost tableless: { fraction.home.tables ≡ [] },
+    pub ghost placed: { witness.views ≢ [] → is_cell fraction.number ≡ false → read_fraction.number ≡ name },
+    pub ghost owns: { witness.views ≢ [] × (is_cell fraction.number ≡ false) → witness.views ≡ witness_of_owner name
+        (is_shared fraction.kind) read_fraction.shown } by { codes-prop },
+    pub ghost reaches: { witness.views ≢ [] × (is_cell fraction.number ≡ true) → witness.views ≡ witness_of_cell name (cell_kind
+        (is_shared fraction.kind)) } by { codes-prop },
 }
 
 const _: () = prove!(size_of::<Right>() == 4);
@@ -73,8 +76,8 @@ impl Model for Right {
 
     ghost view = { λ r. record {
       number = r.name;
-      home = home_by r.witness.views r.witness.table_id r.grip.book (is_cell r.part.number) r.part.home;
-      kind = r.part.kind;
+      home = home_by r.witness.views r.witness.table_id r.read_fraction.gamma (is_cell r.fraction.number) r.fraction.home;
+      kind = r.fraction.kind;
       views = r.witness.views;
       owner = r.owner;
     } };
@@ -98,34 +101,34 @@ impl Right {
         self.name.number()
     }
 
-    /// The right to a slot of a domain, by the token of its owner and a unit of the number of the slot's place. The domain has so many slots.
+    /// The right to a slot of a domain, by the seat of its owner and a unit of the number of the slot's place. The domain has so many slots.
     pub fn of_witness(
         number: u32,
         size: usize,
         kind: StandingKind,
         witness: Witness,
-        grip: ReadFraction,
+        read_fraction: ReadFraction,
     ) -> Right
-        requires owner { witness.views ≡ witness_of_owner number (is_shared kind) grip.shown }
-        requires place { grip.number ≡ number }
+        requires owner { witness.views ≡ witness_of_owner number (is_shared kind) read_fraction.shown }
+        requires place { read_fraction.number ≡ number }
         requires inside { number < size }
         requires kind { IsOwner kind }
         ensures number { number_of result ≡ number }
-        ensures home { home_of result ≡ home_of_table witness.table_id grip.book size }
+        ensures home { home_of result ≡ home_of_table witness.table_id read_fraction.gamma size }
         ensures kind { kind_of result ≡ kind }
         ensures views { views_of result ≡ witness.views }
     {
-        let mut book = GhostKeys::new(size);
-        let part = book.issue(&kind);
+        let mut keys = GhostKeys::new(size);
+        let fraction = keys.issue(&kind);
         Right {
             name: SlotName::of(number),
-            part,
+            fraction,
             witness,
-            grip,
+            read_fraction,
         }
     }
 
-    /// The right to a cell of a domain, by its token. The domain has so many cells.
+    /// The right to a cell of a domain, by its seat. The domain has so many cells.
     pub fn of_cell(number: u32, size: usize, kind: StandingKind, witness: Witness) -> Right
         requires cell { witness.views ≡ witness_of_cell number (cell_kind (is_shared kind)) }
         requires inside { number < size }
@@ -135,41 +138,41 @@ impl Right {
         ensures kind { kind_of result ≡ kind }
         ensures views { views_of result ≡ witness.views }
     {
-        let mut book = GhostKeys::new(size);
-        let _ = book.issue(&kind);
-        let part = book.issue(&kind);
+        let mut keys = GhostKeys::new(size);
+        let _ = keys.issue(&kind);
+        let fraction = keys.issue(&kind);
         Right {
             name: SlotName::of(number),
-            part,
+            fraction,
             witness,
-            grip: ReadFraction::blank(),
+            read_fraction: ReadFraction::blank(),
         }
     }
 
-    /// The right that has this unit of a number of a book, which several may own.
-    fn of_part(name: SlotName, part: Fraction<StandingKind>) -> Right
-        requires named { part.number ≡ name }
-        requires inside { name < part.home.size }
-        requires kind { part.kind ≡ StandingKind.Shared }
-        requires single { part.units ≡ 1 }
-        requires books { part.home.tables ≡ [] }
+    /// The right that has this unit of a number of a ghost map, which several may own.
+    fn of_fraction(name: SlotName, fraction: Fraction<StandingKind>) -> Right
+        requires named { fraction.number ≡ name }
+        requires inside { name < fraction.home.size }
+        requires kind { fraction.kind ≡ StandingKind.Shared }
+        requires single { fraction.units ≡ 1 }
+        requires tableless { fraction.home.tables ≡ [] }
         ensures number { number_of result ≡ name }
-        ensures home { home_of result ≡ part.home }
+        ensures home { home_of result ≡ fraction.home }
         ensures kind { kind_of result ≡ StandingKind.Shared }
     {
         Right {
             name,
-            part,
+            fraction,
             witness: Witness::blank(),
-            grip: ReadFraction::blank(),
+            read_fraction: ReadFraction::blank(),
         }
     }
 
     /// A right to a number of a home of its own, to stand in another's place.
     fn to_nothing() -> Right {
-        let mut book = GhostKeys::new(1);
-        let mut whole = book.issue(&StandingKind::Shared);
-        Right::of_part(SlotName::of(0), whole.split(1))
+        let mut keys = GhostKeys::new(1);
+        let mut whole = keys.issue(&StandingKind::Shared);
+        Right::of_fraction(SlotName::of(0), whole.split(1))
     }
 
     /// Takes the right out of where it is. One to nothing stands there, until it is put back.
@@ -188,11 +191,11 @@ impl Right {
 
     /// Lets go of the right for ever: nobody has it again, nor redeems it.
     pub fn forget(self) {
-        let (_owner, grip) = self.into_owner();
-        grip.discard();
+        let (_owner, read_fraction) = self.into_owner();
+        read_fraction.discard();
     }
 
-    /// The token of the owner of the slot, and the unit of the number of its place, in a domain; of a right to a cell the cell's token, and a blank unit;
+    /// The seat of the owner of the slot, and the unit of the number of its place, in a domain; of a right to a cell the cell's seat, and a blank unit;
     /// blank ones else.
     pub fn into_owner(self) -> (Witness, ReadFraction)
         ensures views { result.0.views ≡ views_of self }
@@ -202,19 +205,19 @@ impl Right {
     {
         let Right {
             name: _,
-            part: _,
+            fraction: _,
             witness,
-            grip,
+            read_fraction,
         } = self;
-        (witness, grip)
+        (witness, read_fraction)
     }
 
-    /// The token of the owner of the slot, or of the right to the cell, in a domain; a blank one else.
+    /// The seat of the owner of the slot, or of the right to the cell, in a domain; a blank one else.
     pub fn witness(&self) -> &Witness
         ensures views { result.now.views ≡ views_of self.now }
         ensures inside { number_of self.now < (home_of self.now).size }
-        ensures owner { AreSlotsOfTable (home_of self.now) → (grip : ReadFraction)
-            × IsOwnerBy (home_of self.now) (number_of self.now) (is_shared (kind_of self.now)) result.now grip }
+        ensures owner { AreSlotsOfTable (home_of self.now) → (read_fraction : ReadFraction)
+            × IsOwnerBy (home_of self.now) (number_of self.now) (is_shared (kind_of self.now)) result.now read_fraction }
         ensures cell { AreCellsOfTable (home_of self.now) →
             IsCellBy (home_of self.now) (number_of self.now) (cell_kind (is_shared (kind_of self.now))) result.now }
     {
@@ -222,12 +225,12 @@ impl Right {
     }
 
     /// The unit of the number of the slot's place, in a domain; a blank one else.
-    pub fn grip(&self) -> &ReadFraction
+    pub fn read_fraction(&self) -> &ReadFraction
         ensures inside { number_of self.now < (home_of self.now).size }
         ensures owner { AreSlotsOfTable (home_of self.now) → (witness : Witness) × (witness.views ≡ views_of self.now)
             × IsOwnerBy (home_of self.now) (number_of self.now) (is_shared (kind_of self.now)) witness result.now }
     {
-        &self.grip
+        &self.read_fraction
     }
 }
 
@@ -305,13 +308,13 @@ impl SharedRight {
 pub struct SharedRights {
     pub(crate) name: SlotName,
     pub(crate) count: u64,
-    pub(crate) part: Fraction<StandingKind>,
-    pub ghost named: { part.number ≡ name },
-    pub ghost inside: { name < part.home.size },
-    pub ghost kind: { part.kind ≡ StandingKind.Shared },
+    pub(crate) fraction: Fraction<StandingKind>,
+    pub ghost named: { fraction.number ≡ name },
+    pub ghost inside: { name < fraction.home.size },
+    pub ghost kind: { fraction.kind ≡ StandingKind.Shared },
     pub ghost some: { 1 ≤ count },
-    pub ghost due: { part.units ≡ count },
-    pub ghost books: { part.home.tables ≡ [] },
+    pub ghost due: { fraction.units ≡ count },
+    pub ghost tableless: { fraction.home.tables ≡ [] },
 }
 
 impl SharedRights {
@@ -330,18 +333,18 @@ impl SharedRights {
         let SharedRights {
             name,
             count,
-            mut part,
+            mut fraction,
         } = self;
         if count == 1 {
-            return (Right::of_part(name, part), None);
+            return (Right::of_fraction(name, fraction), None);
         }
-        let one = part.split(1);
+        let one = fraction.split(1);
         let rest = SharedRights {
             name,
             count: count - 1,
-            part,
+            fraction,
         };
-        (Right::of_part(name, one), Some(rest))
+        (Right::of_fraction(name, one), Some(rest))
     }
 
     /// The number that the rights are to.
@@ -361,18 +364,18 @@ impl SharedRights {
 
 /// A right to a number that is out as raw: a cell of raw pointers has one. There is no owner of such a number.
 ///
-/// In a domain its witness is the cell's token, and its part is of a book of its own.
+/// In a domain its witness is the cell's seat, and its fraction is of a ghost map of its own.
 ///
 /// It can't be copied, but be redeemed where it was granted, or let go of for ever.
 pub struct RawRight {
     pub(crate) number: u32,
-    pub(crate) part: Fraction<StandingKind>,
+    pub(crate) fraction: Fraction<StandingKind>,
     pub(crate) witness: Witness,
-    pub ghost named: { witness.views ≡ [] → part.number ≡ number },
-    pub ghost inside: { number < part.home.size },
-    pub ghost kind: { part.kind ≡ StandingKind.Raw },
-    pub ghost due: { witness.views ≡ [] → part.units ≡ right_units part.kind },
-    pub ghost books: { part.home.tables ≡ [] },
+    pub ghost named: { witness.views ≡ [] → fraction.number ≡ number },
+    pub ghost inside: { number < fraction.home.size },
+    pub ghost kind: { fraction.kind ≡ StandingKind.Raw },
+    pub ghost due: { witness.views ≡ [] → fraction.units ≡ right_units fraction.kind },
+    pub ghost tableless: { fraction.home.tables ≡ [] },
     pub ghost reaches: { witness.views ≢ [] → witness.views ≡ witness_of_cell number CellKind.Raw } by { codes-prop },
 }
 
@@ -386,28 +389,28 @@ impl Model for RawRight {
 
     ghost coded = { raw_right_coded };
 
-    ghost view = { λ r. record { number = r.number; home = home_by r.witness.views r.witness.table_id 0 true r.part.home } };
+    ghost view = { λ r. record { number = r.number; home = home_by r.witness.views r.witness.table_id 0 true r.fraction.home } };
 }
 
 impl RawRight {
     ghost use Rattle.sdd_rights.specs.Right.{raw_number_of, raw_home_of, cells_of_table, AreCellsOfTable, IsCellBy};
 
-    /// The right to a cell of raw pointers of a domain, by its token. The domain has so many cells.
+    /// The right to a cell of raw pointers of a domain, by its seat. The domain has so many cells.
     pub fn of_cell(number: u32, size: usize, witness: Witness) -> RawRight
         requires cell { witness.views ≡ witness_of_cell number CellKind.Raw }
         requires inside { number < size }
         ensures number { raw_number_of result ≡ number }
         ensures home { raw_home_of result ≡ cells_of_table witness.table_id size }
     {
-        let mut book = GhostKeys::new(size);
+        let mut keys = GhostKeys::new(size);
         RawRight {
             number,
-            part: book.issue(&StandingKind::Raw),
+            fraction: keys.issue(&StandingKind::Raw),
             witness,
         }
     }
 
-    /// The cell's token, in a domain; a blank one else.
+    /// The cell's seat, in a domain; a blank one else.
     pub fn witness(&self) -> &Witness
         ensures cell { AreCellsOfTable (raw_home_of self.now) → IsCellBy (raw_home_of self.now) (raw_number_of self.now) CellKind.Raw result.now }
     {
@@ -420,7 +423,7 @@ impl RawRight {
     {
         let RawRight {
             number: _,
-            part: _,
+            fraction: _,
             witness,
         } = self;
         witness
@@ -430,7 +433,7 @@ impl RawRight {
     pub fn forget(self) {
         let RawRight {
             number: _,
-            part: _,
+            fraction: _,
             witness: _,
         } = self;
     }
@@ -446,7 +449,7 @@ impl RawRight {
 /// Whose numbers are meant: it names a home, and is a right to none of its numbers.
 #[derive(Drop)]
 pub struct NameWitness {
-    pub(crate) part: Fraction<StandingKind>,
+    pub(crate) fraction: Fraction<StandingKind>,
 }
 
 const _: () = prove!(size_of::<NameWitness>() == 0);

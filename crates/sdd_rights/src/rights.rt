@@ -1,4 +1,4 @@
-//! The units that a space keeps of the numbers of one book.
+//! The units that a space keeps of the numbers of one ghost map.
 ghost use Rattle.std.specs.Prelude.{◌≡◌, ◌+◌, ◌-◌, ◌<◌, ◌≤◌, IfOk, replicate, slice_set};
 ghost use Rattle.sdd_rights.specs.StandingKind.{right_units, IsOwner};
 ghost use Rattle.sdd_rights.specs.Right.{number_of, home_of, kind_of, raw_number_of, raw_home_of, badge_home};
@@ -15,22 +15,22 @@ use std::marker::Model;
 
 /// What a space keeps of the numbers of its home: of each the kind, and some units, at least one.
 ///
-/// A space has one beside what it knows of its slots. The parts have no bytes; still `new` asks the allocator once, for none.
+/// A space has one beside what it knows of its slots. The fractions have no bytes; still `new` asks the allocator once, for none.
 #[derive(Drop)]
 pub struct RightsAuthority {
-    book: GhostKeys<StandingKind>,
-    parts: Vec<Fraction<StandingKind>>,
+    keys: GhostKeys<StandingKind>,
+    fractions: Vec<Fraction<StandingKind>>,
 }
 
 impl Model for RightsAuthority {
     ghost use Rattle.std.specs.Prelude.{map};
-    ghost use Rattle.sdd_rights.specs.RightsAuthority.{RightsAuthority, ArePartsOf, kept_of};
+    ghost use Rattle.sdd_rights.specs.RightsAuthority.{RightsAuthority, AreFractionsOf, kept_of};
 
     ghost Value = { RightsAuthority };
 
-    ghost view = { λ r. record { home = r.book.home; kept = map kept_of r.parts.items } };
+    ghost view = { λ r. record { home = r.keys.home; kept = map kept_of r.fractions.items } };
 
-    ghost invariant = { λ r. ArePartsOf r.book.home r.parts.items };
+    ghost invariant = { λ r. AreFractionsOf r.keys.home r.fractions.items };
 }
 
 impl RightsAuthority {
@@ -43,12 +43,12 @@ impl RightsAuthority {
         ensures size { IfOk result (λ r. r.home.size ≡ size) }
         ensures kept { IfOk result (λ r. r.kept ≡ replicate size (whole kind)) }
     {
-        let mut book = GhostKeys::new(size);
-        let mut parts = Vec::with_capacity(alloc, size)?;
+        let mut keys = GhostKeys::new(size);
+        let mut fractions = Vec::with_capacity(alloc, size)?;
         for _number in 0..size {
-            parts.push_reserved(book.issue(&kind));
+            fractions.push_reserved(keys.issue(&kind));
         }
-        Ok(RightsAuthority { book, parts })
+        Ok(RightsAuthority { keys, fractions })
     }
 
     /// A badge of this home.
@@ -57,7 +57,7 @@ impl RightsAuthority {
         ensures same { self.new ≡ self.old }
     {
         NameWitness {
-            part: self.book.issue(&StandingKind::Free),
+            fraction: self.keys.issue(&StandingKind::Free),
         }
     }
 
@@ -68,29 +68,29 @@ impl RightsAuthority {
         requires fewer { units < (kept_at self.old number).units }
         ensures home { self.new.home ≡ self.old.home }
         ensures kept { self.new.kept ≡ slice_set self.old.kept number (record (kept_at self.old number) { units = (kept_at self.old number).units - units }) }
-        ensures part_home { result.home ≡ self.old.home }
-        ensures part_number { result.number ≡ number }
-        ensures part_kind { result.kind ≡ (kept_at self.old number).kind }
-        ensures part_units { result.units ≡ units }
+        ensures fraction_home { result.home ≡ self.old.home }
+        ensures fraction_number { result.number ≡ number }
+        ensures fraction_kind { result.kind ≡ (kept_at self.old number).kind }
+        ensures fraction_units { result.units ≡ units }
     {
-        self.parts[number].split(units)
+        self.fractions[number].split(units)
     }
 
     /// Takes units of a number back. All had agreed.
-    pub fn join(&mut self, number: usize, mut part: Fraction<StandingKind>)
+    pub fn join(&mut self, number: usize, mut fraction: Fraction<StandingKind>)
         requires inside { number < self.old.home.size }
-        requires part_home { part.home ≡ self.old.home }
-        requires part_number { part.number ≡ number }
+        requires fraction_home { fraction.home ≡ self.old.home }
+        requires fraction_number { fraction.number ≡ number }
         ensures home { self.new.home ≡ self.old.home }
         ensures kept { self.new.kept ≡ slice_set self.old.kept number
-            (record (kept_at self.old number) { units = (kept_at self.old number).units + part.units }) }
-        ensures some { (0 < (kept_at self.old number).units) × (0 < part.units) }
-        ensures fits { (kept_at self.old number).units + part.units ≤ WHOLE }
-        ensures kind { part.kind ≡ (kept_at self.old number).kind }
+            (record (kept_at self.old number) { units = (kept_at self.old number).units + fraction.units }) }
+        ensures some { (0 < (kept_at self.old number).units) × (0 < fraction.units) }
+        ensures fits { (kept_at self.old number).units + fraction.units ≤ WHOLE }
+        ensures kind { fraction.kind ≡ (kept_at self.old number).kind }
     {
-        let kept = &mut self.parts[number];
-        kept.apart(&mut part);
-        kept.join(part);
+        let kept = &mut self.fractions[number];
+        kept.apart(&mut fraction);
+        kept.join(fraction);
     }
 
     /// Sets the kind of a number that is kept whole.
@@ -100,17 +100,17 @@ impl RightsAuthority {
         ensures home { self.new.home ≡ self.old.home }
         ensures kept { self.new.kept ≡ slice_set self.old.kept number (whole kind) }
     {
-        self.parts[number].set(&kind, &());
+        self.fractions[number].set(&kind, &());
     }
 
     /// Who has units of a number knows its kind.
-    pub fn agree(&self, number: usize, part: &Fraction<StandingKind>)
+    pub fn agree(&self, number: usize, fraction: &Fraction<StandingKind>)
         requires inside { number < self.now.home.size }
-        requires part_home { part.now.home ≡ self.now.home }
-        requires part_number { part.now.number ≡ number }
-        ensures { (kept_at self.now number).kind ≡ part.now.kind }
+        requires fraction_home { fraction.now.home ≡ self.now.home }
+        requires fraction_number { fraction.now.number ≡ number }
+        ensures { (kept_at self.now number).kind ≡ fraction.now.kind }
     {
-        self.parts[number].agree(part);
+        self.fractions[number].agree(fraction);
     }
 
     /// Grants the first right to a number that is kept whole: of all units but one, or, for a number that others may own too, of a single one.
@@ -124,14 +124,14 @@ impl RightsAuthority {
         ensures home { self.new.home ≡ self.old.home }
         ensures kept { self.new.kept ≡ slice_set self.old.kept number (granted kind) }
     {
-        let kept = &mut self.parts[number as usize];
+        let kept = &mut self.fractions[number as usize];
         kept.set(&kind, &());
-        let part = kept.split(kind.units());
+        let fraction = kept.split(kind.units());
         Right {
             name: SlotName::of(number),
-            part,
+            fraction,
             witness: Witness::blank(),
-            grip: ReadFraction::blank(),
+            read_fraction: ReadFraction::blank(),
         }
     }
 
@@ -146,12 +146,12 @@ impl RightsAuthority {
         ensures home { self.new.home ≡ self.old.home }
         ensures kept { self.new.kept ≡ slice_set self.old.kept number (record (kept_at self.old number) { units = (kept_at self.old number).units - 1 }) }
     {
-        let part = self.parts[number as usize].split(1);
+        let fraction = self.fractions[number as usize].split(1);
         Right {
             name: SlotName::of(number),
-            part,
+            fraction,
             witness: Witness::blank(),
-            grip: ReadFraction::blank(),
+            read_fraction: ReadFraction::blank(),
         }
     }
 
@@ -170,15 +170,15 @@ impl RightsAuthority {
     {
         let Right {
             name,
-            mut part,
+            mut fraction,
             witness: _,
-            grip,
+            read_fraction,
         } = right;
         let number = name.number();
-        grip.discard();
-        let kept = &mut self.parts[number as usize];
-        kept.apart(&mut part);
-        kept.join(part);
+        read_fraction.discard();
+        let kept = &mut self.fractions[number as usize];
+        kept.apart(&mut fraction);
+        kept.join(fraction);
         number
     }
 
@@ -195,11 +195,11 @@ impl RightsAuthority {
         ensures kept { self.new.kept ≡ slice_set self.old.kept number
             (record (kept_at self.old number) { units = (kept_at self.old number).units - count }) }
     {
-        let part = self.parts[number as usize].split(count);
+        let fraction = self.fractions[number as usize].split(count);
         SharedRights {
             name: SlotName::of(number),
             count,
-            part,
+            fraction,
         }
     }
 
@@ -218,12 +218,12 @@ impl RightsAuthority {
         let SharedRights {
             name,
             count: _,
-            mut part,
+            mut fraction,
         } = several;
         let number = name.number();
-        let kept = &mut self.parts[number as usize];
-        kept.apart(&mut part);
-        kept.join(part);
+        let kept = &mut self.fractions[number as usize];
+        kept.apart(&mut fraction);
+        kept.join(fraction);
         number
     }
 
@@ -234,7 +234,7 @@ impl RightsAuthority {
         ensures kind { (kept_at self.now (number_of right.now)).kind ≡ kind_of right.now }
         ensures owner { IsOwner (kind_of right.now) }
     {
-        self.parts[right.name.number() as usize].agree(&right.part);
+        self.fractions[right.name.number() as usize].agree(&right.fraction);
     }
 
     /// Grants a right to a number that is kept whole, which is out as raw from then on.
@@ -246,12 +246,12 @@ impl RightsAuthority {
         ensures home { self.new.home ≡ self.old.home }
         ensures kept { self.new.kept ≡ slice_set self.old.kept number (granted StandingKind.Raw) }
     {
-        let kept = &mut self.parts[number as usize];
+        let kept = &mut self.fractions[number as usize];
         kept.set(&StandingKind::Raw, &());
-        let part = kept.split(StandingKind::Raw.units());
+        let fraction = kept.split(StandingKind::Raw.units());
         RawRight {
             number,
-            part,
+            fraction,
             witness: Witness::blank(),
         }
     }
@@ -268,12 +268,12 @@ impl RightsAuthority {
     {
         let RawRight {
             number,
-            mut part,
+            mut fraction,
             witness: _,
         } = right;
-        let kept = &mut self.parts[number as usize];
-        kept.apart(&mut part);
-        kept.join(part);
+        let kept = &mut self.fractions[number as usize];
+        kept.apart(&mut fraction);
+        kept.join(fraction);
         number
     }
 
@@ -283,6 +283,6 @@ impl RightsAuthority {
         ensures inside { raw_number_of raw.now < self.now.home.size }
         ensures kind { (kept_at self.now (raw_number_of raw.now)).kind ≡ StandingKind.Raw }
     {
-        self.parts[raw.number as usize].agree(&raw.part);
+        self.fractions[raw.number as usize].agree(&raw.fraction);
     }
 }

@@ -1,10 +1,10 @@
-//! What is known of a domain: by a participant, by the token of an owner, by the right to a cell, and by what stands beside the table.
+//! What is known of a domain: by a participant, by the seat of an owner, by the right to a cell, and by what stands beside the table.
 //!
-//! No value of these types is made: a token carries one for the proofs alone. Who only carries a token reads no more than this module; what words and views
+//! No value of these types is made: a seat carries one for the proofs alone. Who only carries a seat reads no more than this module; what words and views
 //! have to do with one another is the rule of `sdd_domain_invariant`.
 //!
 //! No step of a domain sets these: `adopts` of an epoch's view; `links`; what is counted as `registered`; and what is `plain`. They are what `specs/Views` says
-//! of a token that knows nothing.
+//! of a seat that knows nothing.
 ghost use base.Stored.{Gv};
 ghost use base.Fml.{ftrue};
 ghost use Rattle.std.specs.Prelude.{List};
@@ -15,7 +15,7 @@ use std::marker::Model;
 
 /// What a participant knows of the epoch.
 pub struct EpochView {
-    /// How many places there are; 0 where it isn't a participant's token.
+    /// How many places there are; 0 where it isn't a participant's seat.
     pub all: u64,
     pub place: u64,
     /// 0 with no place, 1 closed, 2 open.
@@ -145,7 +145,7 @@ pub struct CountsView {
 pub struct Deposit {
     pub slot: u64,
     pub units: u64,
-    pub round: u64,
+    pub lifetime: u64,
     pub ghost value: { Gv } by { itself },
 }
 
@@ -153,17 +153,17 @@ impl Model for Deposit {
     ghost also_owns = { λ _. ftrue };
 }
 
-/// What a participant knows of the stakes in the values of slots, and of how many values it moved in and out.
+/// What a participant knows of the fractions in the values of slots, and of how many values it moved in and out.
 pub struct FractionsView {
-    /// The book of the values' places.
-    pub book: u64,
-    /// The book of the places of what is kept beside the values.
+    /// The ghost map of the values' places.
+    pub gamma: u64,
+    /// The ghost map of the places of what is kept beside the values.
     pub links: u64,
-    /// The slot whose value it moves in or out: it has all stakes in it out.
+    /// The slot whose value it moves in or out: it has all fractions in it out.
     pub moves: Option<u64>,
     /// Whether it is the bank's.
     pub bank: bool,
-    /// Whether it may found the bank: one token may, once.
+    /// Whether it may found the bank: one seat may, once.
     pub founds: bool,
     /// What lies in the bank, where it is the bank's.
     pub banked: [Deposit; 0],
@@ -178,11 +178,11 @@ pub struct FractionsView {
     pub counts: CountsView,
 }
 
-/// Shares of other tokens' views: a participant's own pledge while it takes a step beside such a token, or all of the ledger's.
+/// Shares of other seats' views: a participant's own pledge while it takes a step beside such a seat, or all of the ledger's.
 pub struct PledgesView {
     /// Whether it is the ledger's.
     pub ledger: bool,
-    /// Whether it may found the ledger: one token may, once.
+    /// Whether it may found the ledger: one seat may, once.
     pub founds: bool,
     /// Its own pledge, or none.
     pub ghost own: { List Pledge } by { pledges_coded },
@@ -203,13 +203,13 @@ pub struct Plain {
 
 /// What a participant knows.
 pub struct View {
-    /// How many of each its domain has; none where it isn't a participant's token.
+    /// How many of each its domain has; none where it isn't a participant's seat.
     pub sizes: Sizes,
     pub epoch: EpochView,
     pub places: EndedView,
     pub slots: SlotsView,
     pub cells: CellsView,
-    pub stakes: FractionsView,
+    pub fractions: FractionsView,
     pub pledges: PledgesView,
     /// Where it is a lone participant: all words behind the places'.
     pub words: [u64; 0],

@@ -1,7 +1,7 @@
 -- What each action of a cell leaves in hand: it is sound, and it is what the call means
-use Rattle.sdd_script.proofs.Words.{◌≡◌, ℕ, Bool, true, false, if◌then◌else◌, [], ◌∷◌, ◌++◌, ◌<◌, Option, Some, None, is_some, map, length, slice_index_or, slice_set, refl, ap, ◌∙◌, IsTrue, ◌↔◌, IfSome, option_map, Vec, map-set, map_push, Tag, IsEmptyAt, entry_at, CellContents, OwnerOrCell, with_cell, cell_closed, held_in, World, index_of, PlaceName, OwnerName, CellName, At, Val, OwnerKind, AnyOwner, AnyCell, CellOwner, NamedParticipant, Environment, ScriptState, cell_of, in_world, slot_of, Meets, slot_put, IsCell, FitsIn, Fills, named_owner, dated_if_waiting, owner_holding, cell_holding, cell_number, filling_holding, desk_of, IsTied, Does, Here, attends, does, goes, leaves, place-is, sits, still, IsPut, after_celled, arith, cell-there, cell_as, cell_closed-leaves, celled-leaves, common_steps, dates_spilled, filling_kind, held-dated, holding_around, making_cell, named as named-as, tagged-leaves, with_dates}
+use Rattle.sdd_script.proofs.Words.{◌≡◌, ℕ, Bool, true, false, if◌then◌else◌, [], ◌∷◌, ◌++◌, ◌<◌, Option, Some, None, is_some, map, length, slice_index_or, slice_set, refl, ap, ◌∙◌, IsTrue, ◌↔◌, IfSome, option_map, Vec, map-set, map_push, Tag, IsEmptyAt, entry_at, CellContents, OwnerOrCell, with_cell, cell_closed, held_in, World, index_of, PlaceName, OwnerName, CellName, At, Val, OwnerKind, AnyOwner, AnyCell, CellOwner, NamedParticipant, Environment, ScriptState, cell_of, in_world, slot_of, Meets, slot_put, IsCell, FitsIn, Fills, named_owner, dated_if_waiting, owner_holding, cell_holding, cell_number, filling_holding, state_of, IsTied, Does, Here, attends, does, goes, leaves, place-is, sits, still, IsPut, after_celled, arith, cell-there, cell_as, cell_closed-leaves, celled-leaves, common_steps, dates_spilled, filling_kind, held-dated, holding_around, making_cell, named as named-as, tagged-leaves, with_dates}
 use Rattle.sdd_core.specs.declared.tag.Tag.TheVariants.{None as no_tag}
-use Rattle.sdd_space.specs.OwnerOrCell as holding
+use Rattle.sdd_world_model.specs.OwnerOrCell as holding
 use Rattle.sdd_script_text.specs.Actions as call
 use Rattle.sdd_script_text.specs.declared.answer.Reply.TheVariants as reply
 use Rattle.sdd_script_model.specs.declared.owner_kind.OwnerKind.TheVariants as ownership
@@ -12,7 +12,7 @@ slot-of-put d x = grind (arith, common_steps)
 
 -- what a name of a cell stands for, which holds this
 pub is-cell : (h : Environment) (n : ℕ) (x : AnyCell) {cell : CellContents} → slice_index_or h.cells.entries.items n None ≡ Some x →
-    entry_at h.world.cells (cell_number x) ≡ Some cell → IsCell (desk_of h) n (cell_number x) cell
+    entry_at h.world.cells (cell_number x) ≡ Some cell → IsCell (state_of h) n (cell_number x) cell
 is-cell h n (Sole x) there holds = record { named = ap cell_of (named-as cell_holding h.cells.entries.items n there); holds = holds }
 is-cell h n (Share x) there holds = record { named = ap cell_of (named-as cell_holding h.cells.entries.items n there); holds = holds }
 
@@ -30,12 +30,12 @@ put-in : (d : ScriptState) (own : OwnerKind) (x : Option OwnerName) → FitsIn d
 put-in d own x h = grind (arith, common_steps)
 
 -- what fills a cell is at home
-pub named-home : (h : Environment) → IsTied h → (x : Option OwnerName) → IfSome (named_owner (desk_of h).owners x) (holding.IsOf h.world.home)
+pub named-home : (h : Environment) → IsTied h → (x : Option OwnerName) → IfSome (named_owner (state_of h).owners x) (holding.IsOf h.world.home)
 named-home h t x = (let home = t.sound.home.owners in grind (arith, home))
 
 module _ {h : Environment} (name : PlaceName) {a : NamedParticipant} (at : Here h name.0 a) where
   abbrev d : ScriptState
-  d = desk_of h
+  d = state_of h
 
   abbrev p : ℕ
   p = index_of a.place

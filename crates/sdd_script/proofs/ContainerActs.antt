@@ -1,5 +1,5 @@
 -- What each line that is told of a container's entries means
-use Rattle.sdd_script.proofs.Words.{◌≡◌, ℕ, List, Option, Some, None, length, map, slice_index_or, refl, ap, inl, inr, subst, ◌∙◌, reader_at, ReaderId, reader_of, Entry, first_value, left, cells_in, cell_in, shown_of, GuardName, ListName, PlaceName, At, Reply, IsContainer, AreNumbers, Acts, HasOpen, IsListName, Val, Number, list_cell, GuardsIn, IsTied, desk_of, NamedGuard, AnyList, Environment, still, no-queue, queue-home, no-stack, stack-home, same-list, IsListCell, HasEntries, IsGuardIn, IsListOf, IsOfNumbers, NamesNone, StandsFor, TellsNumber, content}
+use Rattle.sdd_script.proofs.Words.{◌≡◌, ℕ, List, Option, Some, None, length, map, slice_index_or, refl, ap, inl, inr, subst, ◌∙◌, reader_at, ReaderId, reader_of, Entry, first_value, left, cells_in, cell_in, shown_of, GuardName, ListName, PlaceName, At, Reply, IsContainer, AreNumbers, Acts, HasOpen, IsListName, Val, Number, list_cell, GuardsIn, IsTied, state_of, NamedGuard, AnyList, Environment, still, no-queue, queue-home, no-stack, stack-home, same-list, IsListCell, HasEntries, IsGuardIn, IsListOf, IsOfNumbers, NamesNone, StandsFor, TellsNumber, content}
 use Rattle.sdd_script_text.specs.declared.name.ListName.TheVariants as list
 use Rattle.sdd_script_text.specs.Actions as call
 use Rattle.sdd_script_text.specs.declared.answer.Reply.TheVariants as reply
@@ -11,7 +11,7 @@ use Rattle.sdd_script.proofs.StackActs.{is-stack, stack-entries}
 abbrev pub Names : Environment → ListName → AnyList → Type 0
 Names h l x = StandsFor h.lists.queues.entries.items h.lists.stacks.entries.items l x
 
-pub no-list : (h : Environment) (l : ListName) → NamesNone h.lists.queues.entries.items h.lists.stacks.entries.items l → ¬ (IsListName (desk_of h) l)
+pub no-list : (h : Environment) (l : ListName) → NamesNone h.lists.queues.entries.items h.lists.stacks.entries.items l → ¬ (IsListName (state_of h) l)
 no-list h (list.Queue q) none = no-queue h q.0 none
 no-list h (list.Stack s) none = no-stack h s.0 none
 
@@ -19,7 +19,7 @@ no-list h (list.Stack s) none = no-stack h s.0 none
 pub reader-is : (h : Environment) → IsTied h → (g : ℕ) (held : NamedGuard) (p : ℕ) → slice_index_or h.guards.entries.items g None ≡ Some held →
     held.place ≡ p → reader_of held.guard ≡ reader_at h.world p
 reader-is h t g held p here own =
-    let its : IsGuardIn h.world.home.readers (desk_of h).places held = subst (GuardsIn h.world.home.readers (desk_of h).places) here (t.guards g) in
+    let its : IsGuardIn h.world.home.readers (state_of h).places held = subst (GuardsIn h.world.home.readers (state_of h).places) here (t.guards g) in
     its.reader ∙ ap (λ (n : ℕ). let id : ReaderId = record { home = h.world.home.readers; number = n } in id) own
 
 module _ (h : Environment) (t : IsTied h) where
@@ -27,7 +27,7 @@ module _ (h : Environment) (t : IsTied h) where
   pub record Holds (l : ListName) (x : AnyList) : Type 0 where
     pub entries : List (Entry Val)
     pub second : Option ℕ
-    pub is : IsContainer (desk_of h) l (list_cell x) entries
+    pub is : IsContainer (state_of h) l (list_cell x) entries
     pub has : HasEntries h.world x entries second
     pub numbers : AreNumbers entries
 
@@ -55,7 +55,7 @@ module _ (h : Environment) (t : IsTied h) where
   entries-of l x never = absurd never
 
   -- it begins in a list's cell
-  pub list-begins : (l : ListName) (x : AnyList) → Names h l x → IsListCell (desk_of h) (list_cell x)
+  pub list-begins : (l : ListName) (x : AnyList) → Names h l x → IsListCell (state_of h) (list_cell x)
   list-begins (list.Queue q) (any.Queue x) mine = inl (q.0, (queue-entries h t q.0 x.now mine).2.oldest)
   list-begins (list.Stack s) (any.Stack x) mine = inr (s.0, (stack-entries h t s.0 x.now mine).1.named)
   list-begins l x never = absurd never
@@ -68,35 +68,35 @@ module _ (h : Environment) (t : IsTied h) where
   list-home (list.Stack s) (any.Stack x) mine = stack-home h t s.0 x.now mine
   list-home l x never = absurd never
 
-  pub is-list : (l : ListName) (x : AnyList) → Names h l x → IsListName (desk_of h) l
+  pub is-list : (l : ListName) (x : AnyList) → Names h l x → IsListName (state_of h) l
   is-list (list.Queue q) (any.Queue x) mine = is-queue h q.0 x.now mine
   is-list (list.Stack s) (any.Stack x) mine = is-stack h s.0 x.now mine
   is-list l x never = absurd never
 
-  module _ (name : PlaceName) (g : GuardName) (valid : HasOpen (desk_of h) name.0 g.0) (l : ListName) (x : AnyList) (mine : Names h l x) where
+  module _ (name : PlaceName) (g : GuardName) (valid : HasOpen (state_of h) name.0 g.0) (l : ListName) (x : AnyList) (mine : Names h l x) where
     pub acts-peeked : (given : Reply) → ((es : List (Entry Val)) (second : Option ℕ) → HasEntries h.world x es second →
         TellsNumber given (first_value (left es))) →
-        Acts (desk_of h) (At name (call.Peek l g)) given (desk_of h)
+        Acts (state_of h) (At name (call.Peek l g)) given (state_of h)
     acts-peeked reply.Nothing tells =
         let its = entries-of l x mine in
-        still (desk_of h) (At name (call.Peek l g)) reply.Nothing
+        still (state_of h) (At name (call.Peek l g)) reply.Nothing
         ((valid, is-list l x mine), ((list_cell x, its.entries, its.is, tells its.entries its.second its.has), refl))
     acts-peeked (reply.Value m) tells =
         let its = entries-of l x mine in
-        still (desk_of h) (At name (call.Peek l g)) (reply.Value m)
+        still (state_of h) (At name (call.Peek l g)) (reply.Value m)
         ((valid, is-list l x mine), ((list_cell x, its.entries, its.is, tells its.entries its.second its.has), refl))
     acts-peeked other tells = let its = entries-of l x mine in absurd (tells its.entries its.second its.has)
 
     pub acts-counted : (m : ℕ) → ((es : List (Entry Val)) (second : Option ℕ) → HasEntries h.world x es second → m ≡ length (content es)) →
-        Acts (desk_of h) (At name (call.Len l g)) (reply.Value m) (desk_of h)
+        Acts (state_of h) (At name (call.Len l g)) (reply.Value m) (state_of h)
     acts-counted m counts =
         let its = entries-of l x mine in
-        still (desk_of h) (At name (call.Len l g)) (reply.Value m)
+        still (state_of h) (At name (call.Len l g)) (reply.Value m)
         ((valid, is-list l x mine), ((list_cell x, its.entries, its.is, counts its.entries its.second its.has), refl))
 
     pub acts-listed : (ns : List ℕ) → ((es : List (Entry Val)) (second : Option ℕ) → HasEntries h.world x es second → shown_of es ≡ map Number ns) →
-        Acts (desk_of h) (At name (call.List l g)) (reply.Numbers ns) (desk_of h)
+        Acts (state_of h) (At name (call.List l g)) (reply.Numbers ns) (state_of h)
     acts-listed ns lists =
         let its = entries-of l x mine in
-        still (desk_of h) (At name (call.List l g)) (reply.Numbers ns)
+        still (state_of h) (At name (call.List l g)) (reply.Numbers ns)
         ((valid, is-list l x mine), ((list_cell x, its.entries, its.is, lists its.entries its.second its.has), refl))

@@ -1,11 +1,11 @@
 -- What a copy of a queue or a stack leaves in hand, refused or not: it is sound, and it is what the call means
-use Rattle.sdd_script.proofs.Words.{◌≡◌, ◌<◌, ◌≤◌, inl, inr, ℕ, Bool, true, false, List, [], ◌∷◌, ◌++◌, Option, Some, None, is_some, map, length, slice_index, slice_index_or, if◌then◌else◌, refl, sym, ap, ◌∙◌, subst, arith, Err, Ok, option_map, Vec, get_or_past, length-map, Refused, is_waiting, reader_at, ReaderId, OwnerOrCell, World, IsPlaceOf, standing_at, IsWhole, Entry, AreOfCells, IsQueue, cells_in, queue_closed, cell_in, home_in, shown_of, Queue, Stack, index_of, GuardName, PlaceName, QueueName, StackName, At, Body, LosesNames, entry_slots, AreNumbers, Begins, IsNamedQueue, BeginsLine, ScriptState, opening_at, place_of, HasOpen, IsStack, stack_closed, Val, link_of, newest_holding, oldest_holding, stack_holding, NamedParticipant, attending, Environment, IsTied, desk_of, Does, does, goes, still, both-long, queues-more, stacks-more, ArePlain, MakesQueueOf, MakesStackOf, cases_lt, ext_get_or, its-numbers, names_from, not, numbers as stack_numbers, ◌&&◌}
-use Rattle.sdd_space.specs.OwnerOrCell as holding
+use Rattle.sdd_script.proofs.Words.{◌≡◌, ◌<◌, ◌≤◌, inl, inr, ℕ, Bool, true, false, List, [], ◌∷◌, ◌++◌, Option, Some, None, is_some, map, length, slice_index, slice_index_or, if◌then◌else◌, refl, sym, ap, ◌∙◌, subst, arith, Err, Ok, option_map, Vec, get_or_past, length-map, Refused, is_waiting, reader_at, ReaderId, OwnerOrCell, World, IsPlaceOf, standing_at, IsWhole, Entry, AreOfCells, IsQueue, cells_in, queue_closed, cell_in, home_in, shown_of, Queue, Stack, index_of, GuardName, PlaceName, QueueName, StackName, At, Body, LosesNames, entry_slots, AreNumbers, Begins, IsNamedQueue, BeginsLine, ScriptState, opening_at, place_of, HasOpen, IsStack, stack_closed, Val, link_of, newest_holding, oldest_holding, stack_holding, NamedParticipant, open_since, Environment, IsTied, state_of, Does, does, goes, still, both-long, queues-more, stacks-more, ArePlain, MakesQueueOf, MakesStackOf, cases_lt, ext_get_or, its-numbers, names_from, not, numbers as stack_numbers, ◌&&◌}
+use Rattle.sdd_world_model.specs.OwnerOrCell as holding
 use Rattle.sdd_script_text.specs.declared.name.ListName.TheVariants as list
 use Rattle.sdd_script_text.specs.Actions as call
 use Rattle.sdd_script_text.specs.declared.answer.Reply.TheVariants as reply
-use Rattle.sdd_script_model.proofs.Copying.{first-numbers, queue-copied, queue-few, queue-holds, queue-inside, queue-long, queue-placed, queue-plain, queue-refused, shown-numbers, stack-copied, stack-few, stack-holds, stack-inside, stack-long, stack-placed, stack-plain, stack-refused}
-use Rattle.sdd_script_model.proofs.Filling.{AreAllNumbers}
+use Rattle.sdd_script_model.proofs.CopySound.{first-numbers, queue-copied, queue-few, queue-holds, queue-inside, queue-long, queue-placed, queue-plain, queue-refused, shown-numbers, stack-copied, stack-few, stack-holds, stack-inside, stack-long, stack-placed, stack-plain, stack-refused}
+use Rattle.sdd_script_model.proofs.FillSound.{AreAllNumbers}
 use Rattle.sdd_interpreter.specs.Copies.{QueueIsCopied, StackIsCopied}
 use Rattle.sdd_interpreter.proofs.Acts as acts
 use Rattle.sdd_script.proofs.QueueActs.{is-queue, queue-entries}
@@ -41,9 +41,9 @@ module _ (h : Environment) (t : IsTied h) where
       ∙ either (is_waiting (standing_at h.world s)) (slice_index h.log.dates.items s) h.log.moment)
 
 module _ (h : Environment) (t : IsTied h) (whole : IsWhole h.world) (name : PlaceName) (a : NamedParticipant)
-    (there : attending (Some a) ≡ opening_at (desk_of h).places name.0) (line : BeginsLine (desk_of h)) where
+    (there : open_since (Some a) ≡ opening_at (state_of h).places name.0) (line : BeginsLine (state_of h)) where
   abbrev d : ScriptState
-  d = desk_of h
+  d = state_of h
 
   abbrev n : ℕ
   n = name.0
@@ -54,7 +54,7 @@ module _ (h : Environment) (t : IsTied h) (whole : IsWhole h.world) (name : Plac
   live : IsPlaceOf h.world p
   live = acts.sits (acts.under name.0 t whole there)
 
-  place-is : place_of (desk_of h) n ≡ p
+  place-is : place_of (state_of h) n ≡ p
   place-is = acts.place-is (acts.under name.0 t whole there)
 
   -- what was told of the slots says which items lose their names
@@ -76,7 +76,7 @@ module _ (h : Environment) (t : IsTied h) (whole : IsWhole h.world) (name : Plac
   reader-same : (w : World Val) → w.home ≡ h.world.home → reader_at w p ≡ reader_at h.world p
   reader-same w home = ap (λ z. let id : ReaderId = record { home = z.readers; number = p } in id) home
 
-  -- where each of these is as before, so is the desk, but for the world, the names and the dates
+  -- where each of these is as before, so is the state, but for the world, the names and the dates
   as-refused : (queues newest stacks : List (Option OwnerOrCell)) (w v : World Val) (slots : List ℕ) (names : List (Option ℕ)) (dates : List ℕ) →
       queues ≡ d.queues → newest ≡ d.newest → stacks ≡ d.stacks → w ≡ v → slots ≡ d.slots →
       record d { queues = queues; newest = newest; stacks = stacks; world = w; slots = slots; names = names; dates = dates }
@@ -91,7 +91,7 @@ module _ (h : Environment) (t : IsTied h) (whole : IsWhole h.world) (name : Plac
 
   -- and for nothing else
   as-before : (names : List (Option ℕ)) (dates : List ℕ) → names ≡ d.names → dates ≡ d.dates →
-      record d { world = d.world; names = names; dates = dates } ≡ desk_of h
+      record d { world = d.world; names = names; dates = dates } ≡ state_of h
   as-before names dates same_names same_dates =
       ap (λ (x : List (Option ℕ)). record d { names = x; dates = dates }) same_names ∙ ap (λ (x : List ℕ). record d { dates = x }) same_dates
 
@@ -111,14 +111,14 @@ module _ (h : Environment) (t : IsTied h) (whole : IsWhole h.world) (name : Plac
       ∙ neither (is_some (standing_at w s)) (slice_index_or h.log.names.items s None)))
 
   module _ (q : QueueName) (x : Queue Body) (mine : Some x ≡ slice_index_or h.lists.queues.entries.items q.0 None) (g : GuardName)
-      (valid : HasOpen (desk_of h) n g.0) where
+      (valid : HasOpen (state_of h) n g.0) where
     abbrev es : List (Entry Val)
     es = (queue-entries h t q.0 x mine).0
 
     abbrev second : Option ℕ
     second = (queue-entries h t q.0 x mine).1
 
-    abbrev is : IsNamedQueue (desk_of h) q.0 (cells_in x) es second
+    abbrev is : IsNamedQueue (state_of h) q.0 (cells_in x) es second
     is = (queue-entries h t q.0 x mine).2
 
     pub numbers-of_queue : AreNumbers es
@@ -170,7 +170,7 @@ module _ (h : Environment) (t : IsTied h) (whole : IsWhole h.world) (name : Plac
         (fs : List (Entry Val)) (held : Option ℕ) → MakesQueueOf h.world p (shown_of es) (cells_in y) fs held w → AreOfCells h.world.home.cells y →
         queues.items ≡ h.lists.queues.entries.items ++ Some y ∷ [] → slots.items ≡ h.log.slots.items ++ entry_slots fs →
         names.items ≡ names_from h.log.names.items (length h.log.slots.items) (entry_slots fs) → r.0 ≡ length h.lists.queues.entries.items →
-        Does (desk_of h) (At name (call.CloneList (list.Queue q) g)) (reply.Queue r)
+        Does (state_of h) (At name (call.CloneList (list.Queue q) g)) (reply.Queue r)
         (record h { world = w; lists = record h.lists { queues = record { entries = queues } }; log = record h.log { slots = slots; names = names } })
     acts-queue_copied w queues slots names y r fs held makes home pushed longer written named =
         let c = cells_in y in
@@ -190,7 +190,7 @@ module _ (h : Environment) (t : IsTied h) (whole : IsWhole h.world) (name : Plac
         slots.items ≡ h.log.slots.items →
         (w : World Val) (why : Refused) (free waited : List Bool) → AreFreeSo h free → AreTold h waited → (names : Vec (Option ℕ)) (dates : Vec ℕ) →
         AreForgotten h w free names → AreDatedNow h w waited dates → QueueIsCopied p h.world es (Err why) w →
-        Does (desk_of h) (At name (call.CloneList (list.Queue q) g)) (reply.Refused why)
+        Does (state_of h) (At name (call.CloneList (list.Queue q) g)) (reply.Refused why)
         (record h {
           world = w;
           lists = record h.lists { queues = record { entries = queues } };
@@ -244,11 +244,11 @@ module _ (h : Environment) (t : IsTied h) (whole : IsWhole h.world) (name : Plac
         )
 
   module _ (s : StackName) (x : Stack Body) (mine : Some x ≡ slice_index_or h.lists.stacks.entries.items s.0 None) (g : GuardName)
-      (valid : HasOpen (desk_of h) n g.0) where
+      (valid : HasOpen (state_of h) n g.0) where
     abbrev fills : List (Entry Val)
     fills = (stack-entries h t s.0 x mine).0
 
-    abbrev its : IsStack (desk_of h) s.0 (cell_in x) fills
+    abbrev its : IsStack (state_of h) s.0 (cell_in x) fills
     its = (stack-entries h t s.0 x mine).1
 
     pub numbers-of_stack : AreNumbers fills
@@ -288,7 +288,7 @@ module _ (h : Environment) (t : IsTied h) (whole : IsWhole h.world) (name : Plac
         (fs : List (Entry Val)) → MakesStackOf h.world p (shown_of fills) (cell_in y) fs w → home_in y ≡ h.world.home.cells →
         stacks.items ≡ h.lists.stacks.entries.items ++ Some y ∷ [] → slots.items ≡ h.log.slots.items ++ entry_slots fs →
         names.items ≡ names_from h.log.names.items (length h.log.slots.items) (entry_slots fs) → r.0 ≡ length h.lists.stacks.entries.items →
-        Does (desk_of h) (At name (call.CloneList (list.Stack s) g)) (reply.Stack r)
+        Does (state_of h) (At name (call.CloneList (list.Stack s) g)) (reply.Stack r)
         (record h { world = w; lists = record h.lists { stacks = record { entries = stacks } }; log = record h.log { slots = slots; names = names } })
     acts-stack_copied w stacks slots names y r fs makes home pushed longer written named =
         let c : ℕ = cell_in y in
@@ -305,7 +305,7 @@ module _ (h : Environment) (t : IsTied h) (whole : IsWhole h.world) (name : Plac
         slots.items ≡ h.log.slots.items →
         (w : World Val) (why : Refused) (free waited : List Bool) → AreFreeSo h free → AreTold h waited → (names : Vec (Option ℕ)) (dates : Vec ℕ) →
         AreForgotten h w free names → AreDatedNow h w waited dates → StackIsCopied p h.world fills (Err why) w →
-        Does (desk_of h) (At name (call.CloneList (list.Stack s) g)) (reply.Refused why)
+        Does (state_of h) (At name (call.CloneList (list.Stack s) g)) (reply.Refused why)
         (record h {
           world = w;
           lists = record h.lists { stacks = record { entries = stacks } };

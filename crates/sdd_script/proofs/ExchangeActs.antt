@@ -1,5 +1,5 @@
 -- What each action that takes an owner out of a cell, or puts one into it, leaves in hand: it is sound, and it is what the call means
-use Rattle.sdd_script.proofs.Words.{false, get_or-map, ◌≡◌, ◌≢◌, ℕ, ◌+◌, ◌^◌, ◌<◌, List, Option, Some, None, IsSome, is_some, map, length, slice_index_or, slice_set, refl, sym, ap, ◌∙◌, subst, IfSome, option_map, Vec, map-set, set-get_or, set-set, Tag, entry_at, CellContents, IsSharedBy, OwnerOrCell, with_cell, with_standing, without_cell, World, standing_at, index_of, PlaceName, GuardName, OwnerName, ItemName, CellName, Call, At, Reply, Val, AnyOwner, OwnerKind, AnyCell, CellOwner, NamedParticipant, NamedGuard, Environment, ScriptState, holding_at, slot_of, Meets, HasOpen, slot_put, IsCell, item_held, named_owner, Fills, FitsIn, given_back, owner_holding, cell_holding, cell_kind, cell_number, filling_holding, desk_of, held-named, Does, Here, attends, leaves, sits, stays-here, AtomicShared, CanCompare, CanCompareAt, CanPutBack, CannotGo, FitsCell, IsGiven, IsGivenBack, IsNameOf, IsShareFull, IsSharedCell, MatchOption, MayShare, arith, common_steps, held_as, named as named-as, owners_back, owners_put, owners_taken, put-fits, shared_once_more, slot_compared, swapped-leaves, taken-leaves}
+use Rattle.sdd_script.proofs.Words.{false, get_or-map, ◌≡◌, ◌≢◌, ℕ, ◌+◌, ◌^◌, ◌<◌, List, Option, Some, None, IsSome, is_some, map, length, slice_index_or, slice_set, refl, sym, ap, ◌∙◌, subst, IfSome, option_map, Vec, map-set, set-get_or, set-set, Tag, entry_at, CellContents, IsSharedBy, OwnerOrCell, with_cell, with_standing, without_cell, World, standing_at, index_of, PlaceName, GuardName, OwnerName, ItemName, CellName, Call, At, Reply, Val, AnyOwner, OwnerKind, AnyCell, CellOwner, NamedParticipant, NamedGuard, Environment, ScriptState, holding_at, slot_of, Meets, HasOpen, slot_put, IsCell, item_held, named_owner, Fills, FitsIn, given_back, owner_holding, cell_holding, cell_kind, cell_number, filling_holding, state_of, held-named, Does, Here, attends, leaves, sits, stays-here, AtomicShared, CanCompare, CanCompareAt, CanPutBack, CannotGo, FitsCell, IsGiven, IsGivenBack, IsNameOf, IsShareFull, IsSharedCell, MatchOption, MayShare, arith, common_steps, held_as, named as named-as, owners_back, owners_put, owners_taken, put-fits, shared_once_more, slot_compared, swapped-leaves, taken-leaves}
 use Rattle.sdd_participants.specs.declared.standing.Standing.TheVariants as standing
 use Rattle.sdd_script_text.specs.Actions as call
 use Rattle.sdd_script_text.specs.declared.answer.Reply.TheVariants as reply
@@ -8,7 +8,7 @@ use Rattle.sdd_script.proofs.CellActs.{is-cell, slot-of-put}
 
 -- it is no shared cell's
 pub not-shared : (h : Environment) (c : ℕ) → ((x : AtomicShared Val) → slice_index_or h.cells.entries.items c None ≢ Some (cell.Share x)) →
-    ¬ (IsSharedCell (desk_of h) c)
+    ¬ (IsSharedCell (state_of h) c)
 not-shared h c never is = (let entry = get_or-map (option_map cell_holding) h.cells.entries.items c None in grind (arith, never, is))
 
 -- where none was found, what is so then
@@ -55,12 +55,12 @@ pub copied-may : (w new : World Val) (other : ℕ) (held : CellContents) (o : Op
 copied-may w new other held o h = grind (arith, common_steps)
 
 pub slot-compared : (h : Environment) (i : Option ItemName) →
-    option_map (λ (j : ItemName). slice_index_or h.log.slots.items j.0 0) i ≡ slot_compared (desk_of h) i
+    option_map (λ (j : ItemName). slice_index_or h.log.slots.items j.0 0) i ≡ slot_compared (state_of h) i
 slot-compared h i = grind (arith, common_steps)
 
 module _ {h : Environment} (name : PlaceName) {a : NamedParticipant} (at : Here h name.0 a) where
   abbrev d : ScriptState
-  d = desk_of h
+  d = state_of h
 
   -- ---- a cell of either kind
   module _ (c : CellName) (x : AnyCell) (held : CellContents)
@@ -177,14 +177,14 @@ pub seen-as : (seen : CellContents) (o now : Option ℕ) (was : Tag) → seen �
     seen ≡ record { held = now; tag = was }
 seen-as seen o now was is same = subst (λ z. seen ≡ record { held = z; tag = was }) same is
 
--- what was to go into a cell is put back, and the desk is as it was
+-- what was to go into a cell is put back, and the state is as it was
 pub same-back : (h : Environment) (w : World Val) (owners : Vec (Option AnyOwner)) (kind : OwnerKind) (y : Option OwnerName)
     (between : List (Option OwnerOrCell))
-    (next : CellOwner) (f : Option OwnerOrCell) → w ≡ h.world → Fills (desk_of h).owners kind y between next → f ≡ filling_holding next →
+    (next : CellOwner) (f : Option OwnerOrCell) → w ≡ h.world → Fills (state_of h).owners kind y between next → f ≡ filling_holding next →
     map (option_map owner_holding) owners.items ≡ owners_back between y f →
-    desk_of (record h { world = w; owners = record { entries = owners } }) ≡ desk_of h
+    state_of (record h { world = w; owners = record { entries = owners } }) ≡ state_of h
 same-back h w owners kind y between next f world fills same back =
-    let told : map (option_map owner_holding) owners.items ≡ (desk_of h).owners =
-    back ∙ ap (λ z. owners_back z y f) fills.left ∙ ap (owners_back (owners_put (desk_of h).owners y) y) (same ∙ fills.holding)
-    ∙ back-same (desk_of h).owners y in
+    let told : map (option_map owner_holding) owners.items ≡ (state_of h).owners =
+    back ∙ ap (λ z. owners_back z y f) fills.left ∙ ap (owners_back (owners_put (state_of h).owners y) y) (same ∙ fills.holding)
+    ∙ back-same (state_of h).owners y in
     grind (arith, common_steps, world, told)

@@ -1,14 +1,14 @@
 -- What coming and going, and each action of a guard leaves in hand: it is sound, and it is what the call means
-use Rattle.sdd_script.proofs.Words.{◌≡◌, ◌≢◌, ℕ, Bool, if◌then◌else◌, List, [], ◌∷◌, ◌++◌, Option, Some, None, map, length, slice_index_or, slice_set, refl, sym, ap, ◌∙◌, subst, arith, IsTrue, ◌↔◌, IsPermutation, IsNonDecreasingBy, option_map, Vec, get_or-map, get_or_past, length-map, map-set, map_push, CanNest, is_open, Item, reader_of, reader_at, opened, closed, IsWhole, World, index_of, PlaceName, GuardName, ItemName, Register, At, NamedParticipant, NamedGuard, Environment, Val, holdings_of, ScriptState, OpenSince, BeginsLine, IsThere, opening_at, place_of, slot_at, in_world, Answers, HasOpen, names_in, attending, guarding, desk_of, IsTied, GuardsIn, slots_among, at-other, IsDatedWithin, Goes, Does, Here, attends, does, goes, place, place-is, sits, Contains, Epoch, IsVacant, Job, JobName, WaitsAt, at-end, at-pushed, closes, common_steps, dated-opened, ended, ends, epoch_of, home-opened, job_in, names-go, names-run, none as no_call, not-run-under, not-under, one_more, opened_since, places_among, reclaims, registered, registers, sound-closed, sound-ended, sound-opened, sound-registered, with_guard, with_newcomer, without_guard, without_participant, with_dates}
-use Rattle.sdd_rights.specs.Units as token
+use Rattle.sdd_script.proofs.Words.{◌≡◌, ◌≢◌, ℕ, Bool, if◌then◌else◌, List, [], ◌∷◌, ◌++◌, Option, Some, None, map, length, slice_index_or, slice_set, refl, sym, ap, ◌∙◌, subst, arith, IsTrue, ◌↔◌, IsPermutation, IsNonDecreasingBy, option_map, Vec, get_or-map, get_or_past, length-map, map-set, map_push, CanNest, is_open, Item, reader_of, reader_at, opened, closed, IsWhole, World, index_of, PlaceName, GuardName, ItemName, Register, At, NamedParticipant, NamedGuard, Environment, Val, holdings_of, ScriptState, OpenSince, BeginsLine, IsThere, opening_at, place_of, slot_at, in_world, Answers, HasOpen, names_in, open_since, guarding, state_of, IsTied, GuardsIn, slots_among, at-other, IsDatedWithin, Goes, Does, Here, attends, does, goes, place, place-is, sits, Contains, Epoch, IsVacant, Job, JobName, WaitsAt, at-end, at-pushed, closes, common_steps, dated-opened, ended, ends, epoch_of, home-opened, job_in, names-go, names-run, none as no_call, not-run-under, not-under, one_more, opened_since, places_among, reclaims, registered, registers, sound-closed, sound-ended, sound-opened, sound-registered, with_guard, with_newcomer, without_guard, without_participant, with_dates}
+use Rattle.sdd_rights.specs.Units as units
 use Rattle.sdd_participants.specs.EpochState as time
-use Rattle.sdd_space.specs.WorldStep.WorldStep.{opens}
+use Rattle.sdd_world_model.specs.WorldStep.WorldStep.{opens}
 use Rattle.sdd_world.specs.declared.world.Place.{Place}
 use Rattle.sdd_script_text.specs.Actions as call
 use Rattle.sdd_script_text.specs.declared.answer.Reply.TheVariants as reply
 use Rattle.sdd_script_model.proofs.Dates.{dated-same}
 use Rattle.sdd_script.proofs.StackActs.{AreDatedNow, AreTold}
-use Rattle.sdd_interpreter.proofs.Acts as stage
+use Rattle.sdd_interpreter.proofs.Acts as interpreter
 
 -- of what is spent nothing is in hand
 spent : {X : Type 0} (P : Option X → Type 0) → P None → (xs : List (Option X)) (k : ℕ) → ((j : ℕ) → P (slice_index_or xs j None)) → (j : ℕ) →
@@ -21,7 +21,7 @@ pub given : {X : Type 0} (P : Option X → Type 0) (xs : List (Option X)) (x : X
 given P xs x here all j = (let last = at-end xs (Some x) None in let rest = at-pushed xs (Some x) None j in grind (arith, all j))
 
 -- a guard is its participant's, where that is at the same place
-pub guards-on : (home : token.GhostName) (ps qs : List (Option OpenSince)) →
+pub guards-on : (home : units.GhostName) (ps qs : List (Option OpenSince)) →
     ((n k : ℕ) → option_map place (opening_at ps n) ≡ Some k → option_map place (opening_at qs n) ≡ Some k) →
     (o : Option NamedGuard) → GuardsIn home ps o → GuardsIn home qs o
 guards-on home ps qs on o own = grind (arith, common_steps)
@@ -32,30 +32,30 @@ module _ (h : Environment) (t : IsTied h) (whole : IsWhole h.world) where
       (pushed : places.items ≡ h.places.entries.items ++ Some (record { place = new; since = 0 }) ∷ [])
       (vacant : IsVacant h.world.time (index_of new)) (world : w ≡ registered h.world (index_of new)) where
     abbrev joined : ScriptState
-    joined = in_world (with_newcomer (desk_of h) (index_of new)) (registered h.world (index_of new))
+    joined = in_world (with_newcomer (state_of h) (index_of new)) (registered h.world (index_of new))
 
     goes-registered : Goes (record h { world = w; places = record { entries = places } }) joined
     goes-registered =
         let x : OpenSince = record { place = index_of new; since = 0 } in
-        let more : map attending places.items ≡ (desk_of h).places ++ Some x ∷ [] =
-        ap (map attending) pushed ∙ map_push attending h.places.entries.items (Some (record { place = new; since = 0 })) in
-        goes (cc (world, more)) (sound-registered (desk_of h) t.sound whole x.place vacant)
-        (λ g. guards-on h.world.home.readers (desk_of h).places joined.places (λ n k e. ap (option_map place) (at-pushed (desk_of h).places (Some x) None n
-        (λ z. (let past : None ≡ Some k = sym (ap (option_map place) (get_or_past (desk_of h).places n None (omega (arith, z)))) ∙ e in cc))) ∙ e)
+        let more : map open_since places.items ≡ (state_of h).places ++ Some x ∷ [] =
+        ap (map open_since) pushed ∙ map_push open_since h.places.entries.items (Some (record { place = new; since = 0 })) in
+        goes (cc (world, more)) (sound-registered (state_of h) t.sound whole x.place vacant)
+        (λ g. guards-on h.world.home.readers (state_of h).places joined.places (λ n k e. ap (option_map place) (at-pushed (state_of h).places (Some x) None n
+        (λ z. (let past : None ≡ Some k = sym (ap (option_map place) (get_or_past (state_of h).places n None (omega (arith, z)))) ∙ e in cc))) ∙ e)
         (slice_index_or h.guards.entries.items g None) (t.guards g))
 
     pub acts-registered : (name : PlaceName) → name.0 ≡ length h.places.entries.items →
-        Does (desk_of h) Register (reply.Place name) (record h { world = w; places = record { entries = places } })
-    acts-registered name named = does (desk_of h) Register (reply.Place name) goes-registered (record {
-      meets = (named ∙ sym (length-map h.places.entries.items attending), (index_of new, vacant, refl));
-      dated = dated-same (desk_of h) joined refl refl;
+        Does (state_of h) Register (reply.Place name) (record h { world = w; places = record { entries = places } })
+    acts-registered name named = does (state_of h) Register (reply.Place name) goes-registered (record {
+      meets = (named ∙ sym (length-map h.places.entries.items open_since), (index_of new, vacant, refl));
+      dated = dated-same (state_of h) joined refl refl;
       line = refl;
       calls = one_more h.world h.world _ (no_call h.world) (registers h.world (index_of new) vacant);
     })
 
 module _ {h : Environment} (name : PlaceName) {a : NamedParticipant} (at : Here h name.0 a) where
   abbrev d : ScriptState
-  d = desk_of h
+  d = state_of h
 
   abbrev n : ℕ
   n = name.0
@@ -67,7 +67,7 @@ module _ {h : Environment} (name : PlaceName) {a : NamedParticipant} (at : Here 
       (IsTrue (is_open (time.place_at h.world.time p)) → ⊥) → w ≡ ended h.world p →
       Does d (At name call.End) reply.Done (record h { world = w; places = record { entries = places } })
   acts-ended w places taken shut world =
-      let gone : map attending places.items ≡ slice_set d.places n None = ap (map attending) taken ∙ map-set attending h.places.entries.items n None in
+      let gone : map open_since places.items ≡ slice_set d.places n None = ap (map open_since) taken ∙ map-set open_since h.places.entries.items n None in
       let left : ScriptState = in_world (without_participant d n) (ended h.world p) in
       does d (At name call.End) reply.Done
       (goes (cc (world, gone)) (sound-ended d at.tied.sound at.whole n (record { place = p; since = a.since }) (sym at.there) shut)
@@ -90,7 +90,7 @@ module _ {h : Environment} (name : PlaceName) {a : NamedParticipant} (at : Here 
           apart same =
               let z : Some p ≡ Some (held.place) =
               ap (option_map place) at.there ∙ sym (ap (λ m. option_map place (opening_at d.places m)) same) ∙ own.own in
-              let one : held.place ≡ p = cc in shut (stage.open-here at g held e one)
+              let one : held.place ≡ p = cc in shut (interpreter.open-here at g held e one)
 
   pub acts-closed : (g : GuardName) (w : World Val) (guards : Vec (Option NamedGuard)) (held : NamedGuard) → HasOpen d n g.0 →
       slice_index_or h.guards.entries.items g.0 None ≡ Some held → guards.items ≡ slice_set h.guards.entries.items g.0 None → w ≡ closed h.world p →
@@ -102,7 +102,7 @@ module _ {h : Environment} (name : PlaceName) {a : NamedParticipant} (at : Here 
       (goes (cc (world, gone))
       (sound-closed d at.tied.sound at.whole g.0 p (record { place = held.place; since = held.since })
       (get_or-map guarding h.guards.entries.items g.0 None ∙ ap guarding mine)
-      (stage.guard-is at g.0 held valid mine) (sits at))
+      (interpreter.guard-is at g.0 held valid mine) (sits at))
       (λ k. rw taken (spent (GuardsIn h.world.home.readers d.places) tt h.guards.entries.items g.0 at.tied.guards k)))
       (record {
         meets = (valid, rw (place-is at) refl);
@@ -124,7 +124,7 @@ module _ {h : Environment} (name : PlaceName) {a : NamedParticipant} (at : Here 
   -- an opening, which found these slots
   module _ (w : World Val) (places : Vec (Option NamedParticipant)) (guards : Vec (Option NamedGuard)) (dates : Vec ℕ) (held : NamedGuard)
       (slots : List ℕ) (are : slots ≡ slots_among (reclaims h.world p))
-      (entries : map attending places.items ≡ noted (is_open (time.place_at h.world.time p)))
+      (entries : map open_since places.items ≡ noted (is_open (time.place_at h.world.time p)))
       (pushed : guards.items ≡ h.guards.entries.items ++ Some held ∷ []) (own : held.place ≡ p)
       (reader : reader_of held.guard ≡ reader_at h.world p) (since : held.since ≡ h.log.moment) (participant : held.participant ≡ n)
       (world : w ≡ opened holdings_of h.world p) (line : BeginsLine d) (waited : List Bool) (told : AreTold h waited)
@@ -132,13 +132,13 @@ module _ {h : Environment} (name : PlaceName) {a : NamedParticipant} (at : Here 
     abbrev pub after_opening : Environment
     after_opening = record (with_dates h dates) { world = w; places = record { entries = places }; guards = record { entries = guards } }
 
-    abbrev opened_desk : ScriptState
-    opened_desk = record (in_world (with_guard d n p) (opened holdings_of h.world p)) { dates = dates.items }
+    abbrev opened_state : ScriptState
+    opened_state = record (in_world (with_guard d n p) (opened holdings_of h.world p)) { dates = dates.items }
 
-    within : IsDatedWithin d opened_desk
+    within : IsDatedWithin d opened_state
     within = grind (arith, common_steps)
 
-    opens-to : Goes after_opening opened_desk
+    opens-to : Goes after_opening opened_state
     opens-to =
         let entry : guarding (Some held) ≡ Some now = cc (own, since) in
         let more_guards : map guarding guards.items ≡ d.guards ++ Some now ∷ [] =
@@ -162,7 +162,7 @@ module _ {h : Environment} (name : PlaceName) {a : NamedParticipant} (at : Here 
         (ran : List JobName) → IsPermutation (map (job_in h.log.deferred.items) (places_among (reclaims h.world p))) ran →
         IsNonDecreasingBy (λ (j : JobName). j.0) ran →
         IsTied after_opening
-        × Answers d (At name call.Open) (record { reply = reply.Guard g epoch; reclaimed = sorted; ran = ran }) (desk_of after_opening)
+        × Answers d (At name call.Open) (record { reply = reply.Guard g epoch; reclaimed = sorted; ran = ran }) (state_of after_opening)
     answers-opened sorted g epoch moved up nests given_name now_is ran jobs_moved jobs_up =
         let all = names-go d at.tied.sound at.whole p slots (names_in h.log.names.items slots) sorted are refl moved up in
         let all_at : (i : ItemName) → Contains sorted i ↔ (IsThere d i.0 × Contains (reclaims d.world (place_of d n)) (Item (slot_at d i.0))) =
@@ -172,7 +172,7 @@ module _ {h : Environment} (name : PlaceName) {a : NamedParticipant} (at : Here 
         rw (place-is at) run.1 in (
           opens-to.tied,
           subst (Answers d (At name call.Open) (record { reply = reply.Guard g epoch; reclaimed = sorted; ran = ran }))
-              (sym opens-to.desk) (record {
+              (sym opens-to.state) (record {
                 acts = record {
                   meets = (
                     attends at,
@@ -206,6 +206,6 @@ module _ {h : Environment} (name : PlaceName) {a : NamedParticipant} (at : Here 
 -- whether it is an outermost opening or not, it is noted so
 pub noted-is : {h : Environment} (name : PlaceName) {a : NamedParticipant} (at : Here h name.0 a) (nested : Bool) (new : List (Option OpenSince)) →
     nested ≡ is_open (time.place_at h.world.time (index_of a.place)) →
-    new ≡ (if nested then (desk_of h).places else opened_since (desk_of h).places name.0 h.log.moment) →
+    new ≡ (if nested then (state_of h).places else opened_since (state_of h).places name.0 h.log.moment) →
     new ≡ noted name at (is_open (time.place_at h.world.time (index_of a.place)))
 noted-is {h} name {a} at nested new is e = grind (arith, common_steps)

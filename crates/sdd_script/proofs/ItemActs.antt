@@ -1,5 +1,5 @@
 -- What the making of an item leaves in hand, and what an item shows: it is sound, and it is what the call means
-use Rattle.sdd_script.proofs.Words.{Refused, ◌≡◌, ℕ, List, [], ◌∷◌, ◌++◌, Option, Some, None, is_some, map, length, slice_index_or, slice_set, refl, sym, ap, ◌∙◌, subst, option_map, Vec, length-map, map-set, map_push, IsEmptyAt, nulled, World, value_at, index_of, PlaceName, GuardName, OwnerName, ItemName, At, Value, Of, Body, Val, body_of, link_of, OwnerKind, AnyOwner, NamedParticipant, Environment, ScriptState, holding_at, slot_at, slot_of, in_world, with_owner, Acts, Meets, HasOpen, IsThereToPut, CanPointTo, told_of, BecomesBody, owner_holding, desk_of, making, holding_first, Does, Here, attends, leaves, sits, still, IsPutIn, Makes, RefusesItem, arith, common_steps, link_home, made-leaves, made_as, named as named-as, owners_left, put_in, standing_first}
+use Rattle.sdd_script.proofs.Words.{Refused, ◌≡◌, ℕ, List, [], ◌∷◌, ◌++◌, Option, Some, None, is_some, map, length, slice_index_or, slice_set, refl, sym, ap, ◌∙◌, subst, option_map, Vec, length-map, map-set, map_push, IsEmptyAt, nulled, World, value_at, index_of, PlaceName, GuardName, OwnerName, ItemName, At, Value, Of, Body, Val, body_of, link_of, OwnerKind, AnyOwner, NamedParticipant, Environment, ScriptState, holding_at, slot_at, slot_of, in_world, with_owner, Acts, Meets, HasOpen, IsThereToPut, CanPointTo, told_of, BecomesBody, owner_holding, state_of, making, holding_first, Does, Here, attends, leaves, sits, still, IsPutIn, Makes, RefusesItem, arith, common_steps, link_home, made-leaves, made_as, named as named-as, owners_left, put_in, standing_first}
 use Rattle.sdd_script_text.specs.Actions as call
 use Rattle.sdd_script_text.specs.declared.call.Value.TheVariants.{Number}
 use Rattle.sdd_script_text.specs.declared.answer.Reply.TheVariants as reply
@@ -8,7 +8,7 @@ use Rattle.sdd_script_model.specs.ScriptState.{with_item}
 
 module _ {h : Environment} (name : PlaceName) {a : NamedParticipant} (at : Here h name.0 a) where
   abbrev d : ScriptState
-  d = desk_of h
+  d = state_of h
 
   abbrev n : ℕ
   n = name.0

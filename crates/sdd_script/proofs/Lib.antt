@@ -1,9 +1,8 @@
 pub mod Words
 pub mod ScheduleLines
-pub mod ScheduleTexts
 pub mod ScheduleTaken
 pub mod ItemActs
-pub mod Making
+pub mod MadeItems
 pub mod RawActs
 pub mod CollectorActs
 pub mod CellActs
@@ -15,7 +14,7 @@ pub mod CopyActs
 pub mod BagActs
 pub mod GuardActs
 pub mod Ranks
-pub mod Ending
-pub mod ContainerEnding
+pub mod ScriptEnd
+pub mod ContainerEnd
 pub mod ContainerActs
 pub mod EntryActs

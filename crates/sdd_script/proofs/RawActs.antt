@@ -1,6 +1,6 @@
 -- What each action on an item in its place, or on a raw one, leaves in hand: it is sound, and it is what the call means
-use Rattle.sdd_script.proofs.Words.{◌≡◌, ◌≢◌, ℕ, Bool, true, false, List, Option, Some, None, is_some, map, slice_index_or, slice_set, refl, sym, ap, ◌∙◌, arith, option_map, Vec, map-set, Refused, GuardOpen, OwnerOrCell, World, value_at, index_of, PlaceName, GuardName, OwnerName, ItemName, At, Reply, Body, Val, body_of, ScriptState, IsThere, holding_at, slot_at, slot_of, Acts, Meets, HasOpen, IsOwnerName, told_of, AnyOwner, Sole, Share, NamedParticipant, Environment, owner_holding, desk_of, Does, Here, attends, leaves, place-is, sits, still, CanPointAt, Drops, IsRaw, MayInPlace, OwnsNumber, Puts, RefusedInPlace, RefusesDrop, after_drop, common_steps, drop-leaves, named as named-as, put-leaves, with_dates}
-use Rattle.sdd_space.specs.OwnerOrCell as holding
+use Rattle.sdd_script.proofs.Words.{◌≡◌, ◌≢◌, ℕ, Bool, true, false, List, Option, Some, None, is_some, map, slice_index_or, slice_set, refl, sym, ap, ◌∙◌, arith, option_map, Vec, map-set, Refused, GuardOpen, OwnerOrCell, World, value_at, index_of, PlaceName, GuardName, OwnerName, ItemName, At, Reply, Body, Val, body_of, ScriptState, IsThere, holding_at, slot_at, slot_of, Acts, Meets, HasOpen, IsOwnerName, told_of, AnyOwner, Sole, Share, NamedParticipant, Environment, owner_holding, state_of, Does, Here, attends, leaves, place-is, sits, still, CanPointAt, Drops, IsRaw, MayInPlace, OwnsNumber, Puts, RefusedInPlace, RefusesDrop, after_drop, common_steps, drop-leaves, named as named-as, put-leaves, with_dates}
+use Rattle.sdd_world_model.specs.OwnerOrCell as holding
 use Rattle.sdd_space.specs.Owned as owned
 use Rattle.sdd_space.specs.Shared as shared
 use Rattle.sdd_script_text.specs.Actions as call
@@ -9,14 +9,14 @@ use Rattle.sdd_script_model.specs.declared.val.Body.TheVariants as body
 use Rattle.sdd_script.proofs.StackActs.{AreDatedNow, AreTold, dated-within}
 
 -- an item that is there whenever it began to wait
-pub there-from : (h : Environment) (i : ℕ) → CanPointAt h.world h.log.slots.items h.log.names.items h.log.dates.items i 0 → IsThere (desk_of h) i
+pub there-from : (h : Environment) (i : ℕ) → CanPointAt h.world h.log.slots.items h.log.names.items h.log.dates.items i 0 → IsThere (state_of h) i
 there-from h i can = record { last = can.last; taken = can.taken }
 
--- where the world and what names of owners stand for are as before, so is the desk
-pub same-desk : (h : Environment) (w : World Val) (owners : Vec (Option AnyOwner)) → w ≡ h.world
-    → map (option_map owner_holding) owners.items ≡ (desk_of h).owners →
-    desk_of (record h { world = w; owners = record { entries = owners } }) ≡ desk_of h
-same-desk h w owners world same = grind (arith, common_steps)
+-- where the world and what names of owners stand for are as before, so is the state
+pub same-state : (h : Environment) (w : World Val) (owners : Vec (Option AnyOwner)) → w ≡ h.world
+    → map (option_map owner_holding) owners.items ≡ (state_of h).owners →
+    state_of (record h { world = w; owners = record { entries = owners } }) ≡ state_of h
+same-state h w owners world same = grind (arith, common_steps)
 
 -- the slot of an owner's item
 its-slot : (x : AnyOwner) → (k : ℕ) × (slot_of (Some (owner_holding x)) ≡ Some k)
@@ -33,7 +33,7 @@ same-value h x j k v e f shown = let both : Some j ≡ Some k = sym e ∙ f in l
 
 module _ {h : Environment} (name : PlaceName) {a : NamedParticipant} (at : Here h name.0 a) where
   abbrev d : ScriptState
-  d = desk_of h
+  d = state_of h
 
   abbrev p : ℕ
   p = index_of a.place

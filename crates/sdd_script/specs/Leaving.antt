@@ -2,16 +2,16 @@
 use Rattle.std.specs.Prelude.{ℕ, ◌+◌, ◌<◌, ◌≡◌, ◌↔◌, Bool, IsTrue, List, [], ◌∷◌, None, Option, Some, length, slice_index_or, slice_set}
 use Rattle.sdd_participants.specs.EpochState as time
 use Rattle.sdd_participants.specs.declared.standing.Standing.TheVariants.{Owned, Shared}
-use Rattle.sdd_standings.specs.Slots.{IsSharedBy}
+use Rattle.sdd_world_model.specs.Slots.{IsSharedBy}
 use Rattle.sdd_space.specs.Owned as owned
 use Rattle.sdd_space.specs.Shared as shared
-use Rattle.sdd_space.specs.World.{World, AnyGuardOpen, standing_at}
-use Rattle.sdd_space.specs.WorldChanges.{owner_given, retired}
+use Rattle.sdd_world_model.specs.World.{World, AnyGuardOpen, standing_at}
+use Rattle.sdd_world_model.specs.WorldChanges.{owner_given, retired}
 use Rattle.sdd_world.specs.Closing.{AllGo}
 use Rattle.sdd_script_model.specs.ScriptState.{ScriptState}
 use Rattle.sdd_script_model.specs.Sound.{IsSound}
 use Rattle.sdd_script_model.specs.Val.{Val, holdings_of}
-use Rattle.sdd_interpreter.specs.Interpreter.{desk_of}
+use Rattle.sdd_interpreter.specs.Interpreter.{state_of}
 use Rattle.sdd_interpreter.specs.declared.holding.AnyOwner.{AnyOwner}
 use Rattle.sdd_interpreter.specs.declared.holding.AnyOwner.TheVariants.{Share, Sole}
 use Rattle.sdd_interpreter.specs.declared.interpreter.Environment.{Environment}
@@ -46,9 +46,9 @@ GivesUp w p (Share x) new =
     (owners : ℕ) × IsSharedBy owners (standing_at w (shared.slot_of x)) × ((last : Bool) × (IsTrue last ↔ (owners ≡ 1)))
     × (new ≡ owner_given w p (shared.slot_of x) (Some (Shared owners)))
 
--- the desk in such a line, where one participant alone is there, at place p, with one guard
-abbrev pub desk_under : ScriptState → (p moment since : ℕ) → List ℕ → ScriptState
-desk_under d p moment since dates =
+-- the state in such a line, where one participant alone is there, at place p, with one guard
+abbrev pub state_under : ScriptState → (p moment since : ℕ) → List ℕ → ScriptState
+state_under d p moment since dates =
     record d {
       moment = moment;
       places = Some (record { place = p; since = since }) ∷ [];
@@ -61,7 +61,7 @@ pub record IsEnding (h : Environment) (p : ℕ) : Type 0 where
   pub moment : ℕ
   pub since : ℕ
   pub dates : List ℕ
-  pub sound : IsSound (desk_under (desk_of h) p moment since dates)
+  pub sound : IsSound (state_under (state_of h) p moment since dates)
 
 -- something is given up at place p
 pub record GoesOn (old new : Environment) (p : ℕ) : Type 0 where

@@ -1,7 +1,7 @@
 //! Scripts: calls on a world, and what they answer; and schedules, which are steps of a machine.
 #![tactic(auto)]
 
-mod commands;
+mod acts;
 mod line;
 pub mod player;
 pub mod runner;

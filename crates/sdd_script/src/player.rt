@@ -10,8 +10,7 @@ ghost use Rattle.sdd_script.specs.Play.{AreAnswers, Prints};
 use crate::runner::run;
 use sdd_core::{Limits, Refused};
 use sdd_script_text::{
-    Call, Ended, ReadEnd, Script, Sink, Source, parse_all, print_all, print_fault, read_to_end,
-    write_all,
+    Ended, ReadEnd, Script, Sink, Source, parse_all, print_all, print_fault, read_to_end, write_all,
 };
 use std::alloc::Global;
 
@@ -63,21 +62,10 @@ fn print_of(alloc: Global, limits: Limits, text: &[u8]) -> Result<(Vec<u8>, Ende
 {
     match parse_all(alloc, text)? {
         Script::Calls(calls) => {
-            let printed = print_of_calls(alloc, limits, calls.as_slice())?;
-            Ok((printed, Ended::Played))
+            let (answers, scene) = run(alloc, limits, calls.as_slice())?;
+            scene.close();
+            Ok((print_all(alloc, answers.as_slice())?, Ended::Played))
         }
         Script::Fault(line) => Ok((print_fault(alloc, line)?, Ended::NotACall(line))),
     }
-}
-
-/// The lines that answer calls on a new world.
-fn print_of_calls(alloc: Global, limits: Limits, calls: &[Call]) -> Result<Vec<u8>, Refused>
-    requires { AreInRange limits }
-    ensures prints { IfOk result (λ printed.
-        (answers : List Answer) × AreAnswers limits calls.now answers × (printed.items ≡ text_of_all answers)) }
-    ensures err { IfErr result (λ refused. refused ≡ Refused.NoMemory) }
-{
-    let (answers, scene) = run(alloc, limits, calls)?;
-    scene.close();
-    print_all(alloc, answers.as_slice())
 }

@@ -3,7 +3,7 @@ ghost use Rattle.std.specs.Prelude.{◌≡◌, ◌⊎◌, IfOk, MatchResult};
 ghost use Rattle.sdd_core.specs.Limits.{AreInRange};
 ghost use Rattle.sdd_script_model.specs.Script.{IsRun};
 
-use crate::commands::leaving::close;
+use crate::acts::leaving::close;
 use crate::line::step;
 use crate::scene::Scene;
 use sdd_core::{Limits, Refused};
@@ -21,22 +21,22 @@ pub fn run(alloc: Global, limits: Limits, calls: &[Call]) -> Result<(Vec<Answer>
     ensures limits { MatchResult result (λ _. AreInRange limits)
         (λ refused. ((refused ≡ Refused.BadLimits) × ¬ (AreInRange limits)) ⊎ ((refused ≡ Refused.NoMemory) × AreInRange limits)) }
 {
-    let mut stage = Interpreter::new(alloc, limits)?;
+    let mut interpreter = Interpreter::new(alloc, limits)?;
     let mut answers = match Vec::with_capacity(alloc, calls.len()) {
         Ok(answers) => answers,
         Err(_) => {
-            close(stage);
+            close(interpreter);
             return Err(Refused::NoMemory);
         }
     };
     for call in calls {
-        match step(&mut stage, call) {
+        match step(&mut interpreter, call) {
             Ok(answer) => answers.push_reserved(answer),
             Err(refused) => {
-                close(stage);
+                close(interpreter);
                 return Err(refused);
             }
         }
     }
-    Ok((answers, Scene::of(stage)))
+    Ok((answers, Scene::of(interpreter)))
 }

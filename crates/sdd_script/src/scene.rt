@@ -1,7 +1,7 @@
 //! What a script leaves behind.
 ghost use Rattle.std.specs.Prelude.{◌≡◌, ◌+◌};
 
-use crate::commands::leaving::close;
+use crate::acts::leaving::close;
 use sdd_interpreter::Interpreter;
 use sdd_participants::Tally;
 use sdd_script_model::Val;
@@ -12,7 +12,7 @@ use std::marker::Model;
 ///
 /// A scene must be spent by `close`.
 pub struct Scene {
-    stage: Interpreter,
+    interpreter: Interpreter,
 }
 
 impl Model for Scene {
@@ -25,21 +25,21 @@ impl Model for Scene {
 
     ghost coded = { Prim.hlevel (codes, (entry.the_row body.the_row).coded) };
 
-    ghost view = { λ scene. scene.stage };
+    ghost view = { λ scene. scene.interpreter };
 }
 
 impl Scene {
-    pub(crate) fn of(stage: Interpreter) -> Scene
-        ensures { result ≡ stage }
+    pub(crate) fn of(interpreter: Interpreter) -> Scene
+        ensures { result ≡ interpreter }
     {
-        Scene { stage }
+        Scene { interpreter }
     }
 
     /// The world.
     pub fn world(&self) -> &World<Val>
         ensures { result.now ≡ self.now.world }
     {
-        self.stage.world()
+        self.interpreter.world()
     }
 
     /// Ends the scene: every guard is closed, every owner, collector and cell spent, every item given up that is out as raw, and all that waits is
@@ -52,7 +52,7 @@ impl Scene {
         ensures in_place { result.in_place ≡ self.world.tally.in_place }
         ensures balance { result.reclaimed + result.in_place ≡ result.made }
     {
-        let Scene { stage } = self;
-        close(stage)
+        let Scene { interpreter } = self;
+        close(interpreter)
     }
 }

@@ -1,9 +1,9 @@
--- An entry comes directly behind an item, and what the script's desk is then
+-- An entry comes directly behind an item, and what the script's state is then
 use Rattle.sdd_script_model.proofs.Words.{◌≡◌, ◌≢◌, ◌⊎◌, ◌+◌, ◌≤◌, inl, inr, eq-eqb, ℕ, zero, suc, Bool, true, false, List, [], ◌∷◌, Option, Some, None, slice_set, refl, sym, ap, ◌∙◌, subst, arith, ◌==◌, if◌then◌else◌, cases_eq, set_comm, Tag, Second, Both, Entries, entry_at, CellContents, Claim, IsLedger, owner_of, owner_held, right_to, one, changes_cell, OwnerOrCell, World, IsPlaceOf, value_at, held_in, with_cell, IsWhole, spliced, EndsWith, IsAmong, AreLinked, Entry, IsList, first_slot, linked_in, IsLetGo, QueueCells, linked-ends, list-ends, tag_in, list-apart, KeepsGone, gone-then, gone-written, let-go-kept, other-tag, among-spliced, IsStored, AreNumbers, Begins, HasLists, HoldsEntry, IsListed, IsLoose, IsNumber, ScriptState, IsListCell, IsSecondCell, IsThere, holding_at, in_world, shared_cell, shared_slot, slot_at, without_owner, IsSound, contained, named, named_among, Val, body_of, holdings_of, link_of, slot_of, IsFresh, IsLinkedBehind, entry_made, mark_tag, says_deleted, common_steps, IsLink, IsLooseEntry, linked-behind, made-list}
 use Rattle.sdd_core.specs.declared.tag.Tag.TheVariants.{None as no_tag}
 use Rattle.sdd_script_model.proofs.Lemmas.{IsMidway, LeavesSound, at_home-spent, finishes, link-apart-from, own-midway, owned-apart, owner-spent, some-holding, dated-same, at-other, null, same-once, AreOwn, StaysGone, StaysLoose, among-link, apart-item, apart-own, as-before, has-changed, has-kept, held-by, link-apart, links-apart, loose-as, loose-on, same-list, among-or, list-beside, third, IsReserved, reserved-was, there-apart, starts}
-use Rattle.sdd_script_model.proofs.BehindGoing.{among-behind, numbers-ends, numbers-spliced, spliced-was}
-use Rattle.sdd_script_model.proofs.Going.{shared-slot}
+use Rattle.sdd_script_model.proofs.DeletedBehind.{among-behind, numbers-ends, numbers-spliced, spliced-was}
+use Rattle.sdd_script_model.proofs.CallSound.{shared-slot}
 use Rattle.sdd_script_model.proofs.StackChains.{IsBetween, between, between-as, goes-on, midway}
 
 -- ---- an item is an entry of a queue or a stack, or it is not

@@ -1,11 +1,11 @@
--- What is always true of a desk is true after a bag begins, and after one is closed
+-- What is always true of a state is true after a bag begins, and after one is closed
 use Rattle.sdd_script_model.proofs.Words.{◌≡◌, ◌≢◌, ◌+◌, ◌≤◌, inl, inr, ℕ, List, [], ◌∷◌, ◌++◌, Option, Some, None, IsSome, is_some, true, length, slice_index_or, refl, sym, ap, ◌∙◌, subst, arith, ◌%◌, cases_eq, append-nil, IsEmptyAt, entry_at, is_waiting, Claim, right_to, one, closes_cell, makes_cell, spends_cell, World, IsPlaceOf, standing_at, value_at, cell_closed, held_in, nulled, without_cell, IsWhole, ledger-laws, IsAmong, Apart, Entry, first_slot, spilled-cells, spilled-values, let_go_first, ClosesBag, EmptiesStorages, AreShelves, AreBags, IsStored, StandsOn, holds_nothing, HasLists, NumberBag, ScriptState, IsListCell, IsSecondCell, bag_at, bag_length, in_world, name_at, without_bag, IsCalled, IsSound, contained, named, Val, holdings_of, link_of, storage_in, values_given, BeginsBag, with_bag, common_steps}
 use Rattle.sdd_core.specs.declared.tag.Tag.TheVariants.{None as no_tag}
 use Rattle.sdd_script_model.proofs.Lemmas.{keeps-live, IsMidway, LeavesSound, among-apart, link-apart-from, list-apart-from, list-right, moves, second-apart-from, second-right, leaves-so, same-line, dated-same, at-end, at-other, at-pushed, layered-less, null, same-once, apart-item, apart-own, has-stored, link-apart, links-apart, among-or, KeepsSlots, KeepsStored, slots-cell_closed, slots-same, slots-then, stocked-as, IsReserved, bags-still, off-held, stored-on, starts, inside as inside-list}
 use Rattle.sdd_script_model.proofs.BagChains.{IsInHand, bag-given, bag-less, begins-in_hand, goes-many, has-apart, let_go_many, many-bare, many-other, many-values, many-waits, own_of, removes-one, shelves-behind, stack_of}
-use Rattle.sdd_script_model.proofs.BagGoing.{join-others, others-were, split}
+use Rattle.sdd_script_model.proofs.BagNumbersSound.{join-others, others-were, split}
 use Rattle.sdd_script_model.proofs.StackChains.{IsBetween, between-as, goes-on}
-use Rattle.sdd_script_model.proofs.StackGoing.{IsDatedWithin, dated-all}
+use Rattle.sdd_script_model.proofs.StackSound.{IsDatedWithin, dated-all}
 use Rattle.sdd_bag.specs.Bag as bag_specs
 use Rattle.sdd_lists.specs.Lists as lists_specs
 

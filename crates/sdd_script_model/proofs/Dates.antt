@@ -1,7 +1,7 @@
--- When an item began to wait, after each step of a desk
+-- When an item began to wait, after each step of a state
 use Rattle.sdd_script_model.proofs.Words.{entry_at, with_entry, IsFirst, Limits, without_cell, spilled, held_in, out-inside, out-waits-not, IsStart, IsSharedBy, IsTrue, nat_tests, ◌↔◌, ◌≡◌, ◌≢◌, ℕ, ◌<◌, ◌≤◌, Bool, true, false, if◌then◌else◌, List, Option, Some, None, length, slice_index_or, slice_set, inl, inr, refl, sym, ap, ◌∙◌, arith, Standing, Shared, is_waiting, World, standing_at, owner_given, cell_closed, is_out, Val, ScriptState, IsDated, date_at, cases_eq, common_steps, slice_index}
 use Rattle.sdd_script_model.proofs.Entry.{set-either, at-blank}
-use Rattle.sdd_script_model.proofs.Gone.{given-other}
+use Rattle.sdd_script_model.proofs.ReclaimedSlots.{given-other}
 
 -- ---- other slots
 

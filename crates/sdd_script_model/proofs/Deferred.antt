@@ -1,10 +1,10 @@
 -- The names of the jobs that wait, after each call; and which of them an opening runs
 use Rattle.sdd_script_model.proofs.Words.{IsPermutation, IsNonDecreasingBy, IsStrictlyIncreasing, Contains-get_or, get_or-le-sum_by, due_next, nobody, owner_given, cell_closed, given_all, opened, is_of_job, jobs_with, IsPlaceOf, runs-once, how, before, keeps-owner_given, keeps-given_all, JobName, ScriptState, WaitsAt, job_in, places_among, length-all_reclaimed, listed-aged, keeps-cell_closed, ◌≡◌, ℕ, ◌+◌, ◌<◌, ◌≤◌, ◌==◌, ◌↔◌, List, Option, Some, None, IsSome, is_some, map, length, count_by, slice_index_or, slice_set, inl, inr, refl, sym, ap, ◌∙◌, arith, All, Contains, Entries, IsEmptyAt, entry_at, with_entry, LimboEntry, Job, Standing, reclaims, IsWhole, OwnerOrCell, World, place_at, standing_at, Val, holdings_of, AreDeferred, IsSound, common_steps, one_where, place_waiting}
-use Rattle.sdd_space.specs.Jobs.{RunsJobsOnce}
+use Rattle.sdd_world_model.specs.Jobs.{RunsJobsOnce}
 use Rattle.std.proofs.lemmas.List.Concat.{flat_map_single}
 use Rattle.sdd_script_model.proofs.Entry.{inside, not-free}
-use Rattle.sdd_script_model.proofs.Gone.{names-told, once-bound, times_in, comes-once, chosen-are}
-use Rattle.sdd_space.specs.WorldChanges as steps
+use Rattle.sdd_script_model.proofs.ReclaimedSlots.{names-told, once-bound, times_in, comes-once, chosen-are}
+use Rattle.sdd_world_model.specs.WorldChanges as steps
 
 -- ---- what changes no job
 

@@ -1,16 +1,16 @@
 -- Each opening of a run names exactly what is due by the lines before it
 use Rattle.sdd_script_model.proofs.Words.{replicate, sum_by, option_map, zero, Limits, Item, Job, Tally, jobs_with, once_if, ItemName, JobName, Answer, Reply, Call, At, Line, is_waiting_in, opens, AreCalls, LineStep, NamesWhatGoes, NamesWhatRuns, Runs, none as no_call, one_more, IsStart, slot_at, IsNew, KeepsUp, times_with, housed-none, NamesDue, NamesWhatIsDue, EachNamesWhatIsDue, LimboEntry, ◌≡◌, ℕ, suc, false, List, [], ◌∷◌, Option, Some, None, is_some, map, count_by, slice_index_or, refl, sym, ap, ◌∙◌, subst, arith, false≢true, nat_tests, EpochState, Standing, is_waiting, World, IsWhole, Val, holdings_of, ScriptState, OpenSince, opening_at, later}
-use Rattle.sdd_space.proofs.Waning.{Whole-called}
+use Rattle.sdd_world_model.proofs.ReclaimBound.{Whole-called}
 use Rattle.sdd_script_model.proofs.Lemmas.{at-blank}
-use Rattle.sdd_script_model.proofs.Entering.{due-is, tells-opens}
+use Rattle.sdd_script_model.proofs.GuardOpenLines.{due-is, tells-opens}
 use Rattle.sdd_script_model.proofs.History.{home, Tells}
-use Rattle.sdd_script_model.proofs.Leaving.{tells-closes}
-use Rattle.sdd_script_model.proofs.Telling.{line, not-some, tells-calm, tells-comes, tells-goes}
-use Rattle.sdd_script_model.proofs.Turns.{Turn, turn}
+use Rattle.sdd_script_model.proofs.GuardCloseLines.{tells-closes}
+use Rattle.sdd_script_model.proofs.StateByLines.{line, not-some, tells-calm, tells-comes, tells-goes}
+use Rattle.sdd_script_model.proofs.LineKinds.{Turn, turn}
 use Rattle.sdd_participants.specs.EpochState as time
 use Rattle.sdd_script_text.specs.declared.answer.Reply.TheVariants as reply
 use Rattle.sdd_script_text.specs.Actions as call
-use Rattle.sdd_script_model.proofs.Turns as turns
+use Rattle.sdd_script_model.proofs.LineKinds as turns
 
 -- ---- before the first line
 

@@ -1,13 +1,13 @@
 -- What a call of a world leaves as before: one record, by cases over calls, for one call after another
 use Rattle.sdd_script_model.proofs.Words.{◌≡◌, ℕ, ◌+◌, Bool, true, false, List, [], ◌∷◌, Option, Some, None, IsSome, is_some, refl, sym, ap, ◌∙◌, subst, IsTrue, get_or-map, false≢true, length-map, length-set, without, nobody, is_open, with_entry, without_entry, Waiting, Participant, Standing, Private as privately, LimboEntry, Item, Job, is_waiting, collected, is_for, waiting_for, without_collector, IsAlone, Claim, Moves, stirs, accelerates, changes_pointers, makes, shares, retires, releases, collects, drops, puts_out_raw, takes_back_raw, edits, makes_cell, changes_cell, spends_cell, closes_cell, closes_collector, World, place_at, standing_at, value_at, accelerated, all_reclaimed, dropped_out, freed, reclaimed, retired, stirred, taken_out, vacated, waiting_value, IsWhole, WorldStep, IsEmptyAt, IsFirst, made_as, Gives, Gives-owner_given, Gives-dropped, Gives-cell_closed, Gives-collector_closed, safe-call, out-some, AreCalls, none as no_call, one_more, Val, holdings_of, body_of, link_of, owner_in, All, map, arith, nat_lt, chosen_of, chosen_among, Sheds, alone-out, All-append, All-head, All-tail, filter_passes, sheds-owner_given, sheds-cell_closed, sheds-dropped, sheds-collector_closed}
-use Rattle.sdd_space.specs.Ledger.Moves.{registers, ends, opens, closes, defers}
-use Rattle.sdd_script_model.proofs.Attending.{KeepsGuards, keeps-time, keeps-place, keeps-gives}
+use Rattle.sdd_world_model.specs.Ledger.Moves.{registers, ends, opens, closes, defers}
+use Rattle.sdd_script_model.proofs.ParticipantsMatch.{KeepsGuards, keeps-time, keeps-place, keeps-gives}
 use Rattle.sdd_script_model.proofs.Dates.{first-waits-not, waited}
 use Rattle.sdd_script_model.proofs.Deferred.{jobs-given, jobs-closed, jobs-given_all}
 use Rattle.sdd_script_model.proofs.JobDates.{KeepsUnder, under-call}
-use Rattle.sdd_script_model.proofs.Kept.{KeepsSafe, BeginsOut}
+use Rattle.sdd_script_model.proofs.KeptUnderGuards.{KeepsSafe, BeginsOut}
 use Rattle.sdd_script_model.proofs.Links.{HoldsLess, less-same, less-shed, less-then, less-edited}
-use Rattle.sdd_script_model.proofs.Stocked.{KeepsSlots, slots-same, slots-then, slots-set, slots-given, slots-cell_closed, slots-dropped, slots-all, waits-not, begins-out, there-out}
+use Rattle.sdd_script_model.proofs.SlotsHaveNames.{KeepsSlots, slots-same, slots-then, slots-set, slots-given, slots-cell_closed, slots-dropped, slots-all, waits-not, begins-out, there-out}
 use Rattle.sdd_participants.specs.EpochState as time
 use Rattle.sdd_participants.specs.declared.standing.Standing.TheVariants as standing
 

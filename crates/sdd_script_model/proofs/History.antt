@@ -2,7 +2,7 @@
 use Rattle.sdd_script_model.proofs.Words.{◌&&◌, not, list_all, option_map, zero, is_ended, NobodyEnded, Entries, PlaceState, Job, Line, adopts, caller, changes, count_shown, has_ended, is_waiting_in, last_found, leaves_none_ended, open_guards, opens, start_of, ◌||◌, Start, begins, ◌≡◌, ◌⊎◌, ℕ, suc, ◌+◌, ◌<◌, ◌≤◌, ◌==◌, Bool, true, false, List, [], ◌∷◌, Option, Some, None, IsSome, is_some, length, slice_index_or, inl, inr, refl, sym, ap, ◌∙◌, subst, false≢true, LimboEntry, Item, is_waiting, World, IsPlaceOf, place_at, phase_at, IsWhole, Val, ScriptState, OpenSince, opening_at}
 use Rattle.sdd_script_model.specs.Due.{closes, ends}
 use Rattle.sdd_script_model.proofs.Lemmas.{inside}
-use Rattle.sdd_script_model.proofs.Awaiting.{AwaitsAt}
+use Rattle.sdd_script_model.proofs.WaitsAt.{AwaitsAt}
 
 -- ---- places
 
@@ -83,7 +83,7 @@ module _ (past : List Line) (line : Line) (x : LimboEntry) where
       start_of (line ∷ past) x ≡ start_of past x
   start-kept e f = rw (e, f) refl
 
--- ---- what the lines say of a desk
+-- ---- what the lines say of a state
 
 -- who holds what waits at a place: who is there, or has ended there
 abbrev pub HoldsAt : List Line → ScriptState → (n q : ℕ) → Type 0

@@ -1,13 +1,13 @@
--- When a job was deferred, after each step of a desk; and that what runs was deferred before any guard was opened that is open
+-- When a job was deferred, after each step of a state; and that what runs was deferred before any guard was opened that is open
 use Rattle.sdd_script_model.proofs.Words.{◌≡◌, ◌≢◌, ℕ, ◌<◌, Some, None, IsSome, length, inl, inr, sym, ap, ◌∙◌, subst, arith, Contains, IsTrue, cases_eq, length-set, length-replicate, Limits, Entries, IsEmptyAt, entry_at, is_open, Job, World, IsPlaceOf, place_at, deferred, opened, reclaims, IsWhole, WorldStep, defers, Val, holdings_of, ScriptState, OpenSince, BeginsLine, IsStart, job_date_at, opening_at, ParticipantsMatch, in_world, List, JobsHaveDates, KeepsRecentItems, WasDeferredUnder, IsSound, common_steps, slice_index}
-use Rattle.sdd_space.specs.UnderGuards.CallsUnder.{none, more_calls}
-use Rattle.sdd_space.proofs.UnderJobs.{keeps-jobs-under-guards}
-use Rattle.sdd_script_model.proofs.Attending.{entry-before}
+use Rattle.sdd_world_model.specs.UnderGuards.CallsUnder.{none, more_calls}
+use Rattle.sdd_world_model.proofs.JobsUnderGuards.{keeps-jobs-under-guards}
+use Rattle.sdd_script_model.proofs.ParticipantsMatch.{entry-before}
 use Rattle.sdd_script_model.proofs.Deferred.{runs-taken, table-long, taken-before}
 use Rattle.sdd_script_model.proofs.Entry.{at-other, at-blank}
-use Rattle.sdd_script_model.proofs.Kept.{WereOpen}
-use Rattle.sdd_script_model.specs.ScriptState as desk
-use Rattle.sdd_script_model.proofs.Kept as kept
+use Rattle.sdd_script_model.proofs.KeptUnderGuards.{WereOpen}
+use Rattle.sdd_script_model.specs.ScriptState as state
+use Rattle.sdd_script_model.proofs.KeptUnderGuards as kept
 
 -- it is so after a call that leaves the guard open
 pub under-call : (v w : World Val) (p k : ℕ) → WasDeferredUnder v p k → WorldStep holdings_of v w → IsTrue (is_open (place_at w p)) → WasDeferredUnder w p k
@@ -39,7 +39,7 @@ module _ (d new : ScriptState) (jobs : JobsHaveDates d) (dates : new.job_dates �
 -- a job is deferred, in place k of the table, in this line
 module _ (d : ScriptState) (jobs : JobsHaveDates d) (whole : IsWhole d.world) (p k : ℕ) (live : IsPlaceOf d.world p) (free : IsEmptyAt d.world.jobs k) where
   abbrev with_one : ScriptState
-  with_one = in_world (desk.with_job d k) (deferred d.world p k)
+  with_one = in_world (state.with_job d k) (deferred d.world p k)
 
   date-other : (m : ℕ) → m ≢ k → job_date_at with_one m ≡ job_date_at d m
   date-other m apart = at-other d.job_dates k m d.moment 0 apart
@@ -66,7 +66,7 @@ module _ (d : ScriptState) (jobs : JobsHaveDates d) (whole : IsWhole d.world) (p
 module _ (d : ScriptState) (jobs : JobsHaveDates d) (a : ParticipantsMatch d) (items : KeepsRecentItems d) (whole : IsWhole d.world) (earlier : BeginsLine d)
     (n : ℕ) (x : OpenSince) (there : opening_at d.places n ≡ Some x) (dates : List ℕ) where
   abbrev with_guard : ScriptState
-  with_guard = record (in_world (desk.with_guard d n x.place) (opened holdings_of d.world x.place)) { dates = dates }
+  with_guard = record (in_world (state.with_guard d n x.place) (opened holdings_of d.world x.place)) { dates = dates }
 
   live : IsPlaceOf d.world x.place
   live = a.inside n x there

@@ -1,8 +1,8 @@
 -- In the middle of a line, a queue's and a stack's cells and items are apart from a bag's
 use Rattle.sdd_script_model.proofs.Words.{◌≡◌, ℕ, List, [], ◌∷◌, inl, sym, ap, subst, arith, Tag, Claim, World, held_in, Val, link_of, IsAmong, Entry, IsList, left as left_of, IsStored, ScriptState, IsListCell, IsSecondCell}
-use Rattle.sdd_script_model.proofs.Chains.{IsMidway}
+use Rattle.sdd_script_model.proofs.CallChains.{IsMidway}
 use Rattle.sdd_script_model.proofs.StackedCells.{list-part, stacked-right}
-use Rattle.sdd_script_model.proofs.Storing.{IsReserved, off-among, off-other}
+use Rattle.sdd_script_model.proofs.BagStorages.{IsReserved, off-among, off-other}
 
 -- what is left of a list is of it
 pub left-among : (s : ℕ) (es : List (Entry Val)) → IsAmong s (left_of es) → IsAmong s es

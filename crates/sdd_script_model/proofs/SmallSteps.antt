@@ -2,7 +2,7 @@
 use Rattle.sdd_script_model.proofs.Words.{◌≡◌, ℕ, Bool, true, false, List, [], ◌∷◌, Option, Some, None, refl, if◌then◌else◌, entry_at, without_entry, EpochState, due_next, is_open, Standing, LimboEntry, Item, Job, is_out, OwnerOrCell, owned, shared, atomic_owned, atomic_shared, atomic_raw, World, place_at, standing_at, ran, retired, owner_given, with_standing, cell_closed, freed, given_all, held_in, spilled, taken_out, waiting_value, reclaimed, all_reclaimed, opened, keeps-owner_given, Val, holdings_of, given, changed, caught_up}
 use Rattle.sdd_participants.specs.EpochState as time
 use Rattle.sdd_participants.specs.declared.standing.Standing.TheVariants as standing
-use Rattle.sdd_space.specs.WorldChanges as steps
+use Rattle.sdd_world_model.specs.WorldChanges as steps
 
 -- What is kept where an owner is given up, and where a cell is freed, is kept where all of a value is given up, and where something is reclaimed.
 module _ (P : World Val → Type 0) (p : ℕ)

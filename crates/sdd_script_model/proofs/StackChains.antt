@@ -2,7 +2,7 @@
 use Rattle.sdd_script_model.proofs.Words.{◌≡◌, ◌≢◌, ◌+◌, inl, inr, ℕ, List, [], ◌∷◌, Bool, true, false, Option, Some, None, eq-eqb, slice_index_or, refl, sym, ap, ◌∙◌, subst, arith, ◌==◌, if◌then◌else◌, set_comm, Tag, Second, Entries, entry_at, CellContents, Standing, Claim, owner_of, one, owner_held, IsLedger, Moves, changes_cell, retires, releases, World, IsPlaceOf, standing_at, value_at, held_in, owner_given, spilled, with_cell, IsWhole, ledger-laws, Entry, IsList, emptied, first_slot, is_deleted, is_deleting, left, let_go_first, linked_in, removed, trimmed, retagged, bare, behind, retagged-list, apart-first, AreSpare, IsStored, AreNumbers, Begins, HasLists, IsNumber, ScriptState, IsListCell, IsSecondCell, contained, Val, body_of, holdings_of, link_of, stays-of, common_steps, Both, IsSound, in_world, named}
 use Rattle.sdd_core.specs.declared.tag.Tag.TheVariants.{None as no_tag}
 use Rattle.sdd_script_model.proofs.Lemmas.{keeps-live, IsMidway, among-apart, link-apart-from, list-apart-from, list-right, own-midway, owned-apart, at-other, Frames, IsQuiet, frames-on, quiet-less, null, same-once, link-apart, BagsStay, IsReserved, Spares, off-among, off-link, reserved-was, spare-on, stays-on, has-let_go, has-put_in, LeavesSound, finishes, starts, dated-same}
-use Rattle.sdd_script_model.proofs.Chains.{tagged}
+use Rattle.sdd_script_model.proofs.CallChains.{tagged}
 use Rattle.sdd_script_model.proofs.ListChanges.{has-retagged}
 
 -- the link of an item changes, and holds the same

@@ -1,6 +1,6 @@
 -- The cells that queues and stacks have names for: how their rights are counted, and that they are the script's own
 use Rattle.sdd_script_model.proofs.Words.{◌≡◌, ◌≢◌, ℕ, ◌+◌, ◌≤◌, List, [], ◌∷◌, ◌++◌, Option, Some, None, slice_set, inl, inr, refl, sym, ap, ◌∙◌, arith, Claim, owner_of, right_to, one, IsLedger, OwnerOrCell, World, ledger-laws, one_where, Val, holdings_of, ScriptState, IsListCell, IsSecondCell, holding_at, shared_cell, named, contained, stacked, common_steps, ◌==◌, is_right_to, once-where, has_right}
-use Rattle.sdd_script_model.proofs.Counting.{entry-less, rights-more, some-holding}
+use Rattle.sdd_script_model.proofs.NameCounts.{entry-less, rights-more, some-holding}
 use Rattle.sdd_script_model.proofs.Entry.{at-other}
 use Rattle.sdd_script_model.proofs.Links.{same-once}
 use Rattle.sdd_script_model.proofs.Listed.{AreOwn}

@@ -52,7 +52,7 @@ module _ (w : World Val) (c s : ℕ) where
         let none = none-taken (is_of_slot s) (is_for w c) (same-slot false is) w.time.places in
         absurd (omega (arith, none, counted-there (is_of_slot s) (waiting_for w c) (Item s) there (eq-eqb s s refl)))
 
--- ---- the slots of a desk in which something waits for the collector
+-- ---- the slots of a state in which something waits for the collector
 
 module _ (d : ScriptState) (stocked : SlotsHaveNames d) (whole : IsWhole d.world) (c : ℕ) where
   abbrev pub slots_for : List ℕ

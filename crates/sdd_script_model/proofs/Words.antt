@@ -15,7 +15,7 @@ pub use Rattle.std.specs.List.{AllByRecursion, AllZip, cons_option, filter, filt
 pub use Rattle.std.specs.List.Sorted.{IsNonDecreasing, IsNonDecreasingBy, IsPermutation, IsStrictlyIncreasing}
 pub use Rattle.std.specs.Option.{option_map}
 pub use Rattle.std.specs.Prelude.{All, Contains, Err, IfOk, IfSome, IsSomeAnd, IsTrue, MatchBool, MatchResult, Ok, Result, codes, drop, if◌then◌else◌, max, not, replicate, slice_get, sum_by, ◌%◌, ◌&&◌, ◌*◌, ◌==◌, ◌^◌, ◌||◌, ◌↔◌}
-pub use Rattle.sdd_bag.proofs.Standing.{keeps-shelves, trimmed-plain}
+pub use Rattle.sdd_bag.proofs.EntryStandings.{keeps-shelves, trimmed-plain}
 pub use Rattle.sdd_bag.specs.Bag.{HasSameCells, IsBag, IsOfCells, PopsBehind, PopsInside, PushesBehind, PushesInside, overflow_of, primary_of, values_of}
 pub use Rattle.sdd_bag.specs.Closing.{ClosesBag, EmptiesStorages, values_given}
 pub use Rattle.sdd_bag.specs.Overflow.{AddsStorage, AreElsewhere, AreShelves, LiesOn, OverflowParts, RefusesStorage, RemovesStorage, RemovesStorages}
@@ -29,17 +29,17 @@ pub use Rattle.sdd_core.specs.declared.refused.Refused.{Refused}
 pub use Rattle.sdd_core.specs.declared.refused.Refused.TheVariants.{GuardOpen, NoCell, NoJob, NoPlace, NoSlot, TooManyGuards, TooManyOwners}
 pub use Rattle.sdd_core.specs.declared.tag.Tag.{Tag}
 pub use Rattle.sdd_core.specs.declared.tag.Tag.TheVariants.{Both, Second}
-pub use Rattle.sdd_lists.proofs.Ending.{among-ends, among-last, apart-ends, appended-other, both, left-none, linked-ends, list-ends, put-values, trimmed-list}
-pub use Rattle.sdd_lists.proofs.Fronts.{names-some, shows-it, tag_in}
-pub use Rattle.sdd_lists.proofs.Leaving.{list-apart, list-without, spilled-cells, spilled-values}
-pub use Rattle.sdd_lists.proofs.LetGo.{KeepsGone, gone-appended, gone-first, gone-same, gone-then, gone-trimmed, gone-written, let-go-kept, other-free, other-tag, second-kept, trimmed-or}
-pub use Rattle.sdd_lists.proofs.Linking.{linked-behind, made-list, tail-cut, trimmed-around, trimmed-queue}
+pub use Rattle.sdd_lists.proofs.Ends.{among-ends, among-last, apart-ends, appended-other, both, left-none, linked-ends, list-ends, put-values, trimmed-list}
+pub use Rattle.sdd_lists.proofs.FirstEntries.{names-some, shows-it, tag_in}
+pub use Rattle.sdd_lists.proofs.QueuePops.{list-apart, list-without, spilled-cells, spilled-values}
+pub use Rattle.sdd_lists.proofs.GoneEntries.{KeepsGone, gone-appended, gone-first, gone-same, gone-then, gone-trimmed, gone-written, let-go-kept, other-free, other-tag, second-kept, trimmed-or}
+pub use Rattle.sdd_lists.proofs.LinkedEntries.{linked-behind, made-list, tail-cut, trimmed-around, trimmed-queue}
 pub use Rattle.sdd_lists.proofs.Lists.{apart, bare, behind, linked-set, list-same}
-pub use Rattle.sdd_lists.proofs.Marking.{retagged-list}
-pub use Rattle.sdd_lists.proofs.Popping.{apart-first, stays-of}
-pub use Rattle.sdd_lists.proofs.Pushing.{go-other, list-made, pushed, trim-other, trim-values}
+pub use Rattle.sdd_lists.proofs.MarkedEntries.{retagged-list}
+pub use Rattle.sdd_lists.proofs.PoppedLists.{apart-first, stays-of}
+pub use Rattle.sdd_lists.proofs.PushedLists.{go-other, list-made, pushed, trim-other, trim-values}
 pub use Rattle.sdd_lists.proofs.Spliced.{among-spliced}
-pub use Rattle.sdd_lists.proofs.Walking.{linked-left}
+pub use Rattle.sdd_lists.proofs.WalkPositions.{linked-left}
 pub use Rattle.sdd_lists.specs.Behind.{IsFresh, IsLinkedBehind, entry_made, mark_tag, spliced}
 pub use Rattle.sdd_lists.specs.Ends.{End, EndsWith, IsAmong, appended, end_of, is_spent, last_value, put_at, through_last}
 pub use Rattle.sdd_lists.specs.Entries.{value_of}
@@ -53,7 +53,7 @@ pub use Rattle.sdd_lists.specs.Walk.{IsWalkOf, ShowsInOrder, shown_of, steps_lef
 pub use Rattle.sdd_lists.specs.declared.queue.Queue.{Queue}
 pub use Rattle.sdd_lists.specs.declared.stack.Stack.{Stack}
 pub use Rattle.sdd_lists.specs.declared.unpopped.Unpopped.TheVariants.{Kept}
-pub use Rattle.sdd_participants.proofs.Adopting.{keeps-closed}
+pub use Rattle.sdd_participants.proofs.Adoptions.{keeps-closed}
 pub use Rattle.sdd_participants.specs.Collecting.{chosen_among, chosen_of, is_private_to, without}
 pub use Rattle.sdd_participants.specs.EpochState.{CanNest, EpochState, IsLive, IsVacant, NobodyEnded, due_next, is_open, last_count, lives, nobody, passes, phase_at, rested, with_place}
 pub use Rattle.sdd_participants.specs.PlaceStates.{is_ended}
@@ -111,39 +111,39 @@ pub use Rattle.sdd_script_text.specs.declared.name.OwnerName.{OwnerName}
 pub use Rattle.sdd_script_text.specs.declared.name.PlaceName.{PlaceName}
 pub use Rattle.sdd_script_text.specs.declared.name.QueueName.{QueueName}
 pub use Rattle.sdd_script_text.specs.declared.name.StackName.{StackName}
-pub use Rattle.sdd_space.proofs.Accounts.{accounted-as, accounted-with_cell, accounted-with_value, in_cell-out, in_value-out, outside-out, sum-out}
-pub use Rattle.sdd_space.proofs.Entries.{differs, once-bound, once-waits, one-place, opens-changed}
-pub use Rattle.sdd_space.proofs.Housed.{IsTaken, each-place, ended-lives, housed-none, live-is, live-taken, nothing-waits, registered-apart, registered-keeps, registered-live, registered-lives}
-pub use Rattle.sdd_space.proofs.Jobs.{length-all_reclaimed, runs-once}
-pub use Rattle.sdd_space.proofs.Ledger.{ledger-laws}
-pub use Rattle.sdd_space.proofs.Listed.{listed-aged, listed-awaiting, listed-place, listed-without, none-left, none-taken, rest-contains}
-pub use Rattle.sdd_space.proofs.Nesting.{guards-closed, guards-registered, none-if, one-if, still-live}
-pub use Rattle.sdd_space.proofs.Opening.{IsChange, Nests, all_awaiting-waiting, before, how, in_before, keeps-cell_closed, keeps-given_all, keeps-owner_given, opened-goes, opened-other, still-waits}
-pub use Rattle.sdd_space.proofs.Own.{Gives, Gives-all_reclaimed, Gives-cell_closed, Gives-collector_closed, Gives-dropped, Gives-owner_given, Gives-range, Gives-retired, all_awaiting-found}
-pub use Rattle.sdd_space.proofs.Rights.{held-cell_changed, held-with_value, once-where}
-pub use Rattle.sdd_space.proofs.Safe.{opens-keeps, safe-call, safe-not-due}
-pub use Rattle.sdd_space.proofs.Sheds.{Sheds, sheds-cell_closed, sheds-collector_closed, sheds-dropped, sheds-opened, sheds-owner_given}
-pub use Rattle.sdd_space.proofs.Standings.{alone-out, out-inside, out-some, out-waits-not, owner-given}
-pub use Rattle.sdd_space.proofs.Whole.{all_awaiting-guards, count-cons, filled-there, one_where, some-waits, times-aged, times_among}
+pub use Rattle.sdd_world_model.proofs.OwnerCounts.{accounted-as, accounted-with_cell, accounted-with_value, in_cell-out, in_value-out, outside-out, sum-out}
+pub use Rattle.sdd_world_model.proofs.WaitingEntries.{differs, once-bound, once-waits, one-place, opens-changed}
+pub use Rattle.sdd_world_model.proofs.PlacesMatchStates.{IsTaken, each-place, ended-lives, housed-none, live-is, live-taken, nothing-waits, registered-apart, registered-keeps, registered-live, registered-lives}
+pub use Rattle.sdd_world_model.proofs.Jobs.{length-all_reclaimed, runs-once}
+pub use Rattle.sdd_world_model.proofs.Ledger.{ledger-laws}
+pub use Rattle.sdd_world_model.proofs.TimesListed.{listed-aged, listed-awaiting, listed-place, listed-without, none-left, none-taken, rest-contains}
+pub use Rattle.sdd_world_model.proofs.Nesting.{guards-closed, guards-registered, none-if, one-if, still-live}
+pub use Rattle.sdd_world_model.proofs.GuardOpened.{IsChange, Nests, all_awaiting-waiting, before, how, in_before, keeps-cell_closed, keeps-given_all, keeps-owner_given, opened-goes, opened-other, still-waits}
+pub use Rattle.sdd_world_model.proofs.ParticipantChanges.{Gives, Gives-all_reclaimed, Gives-cell_closed, Gives-collector_closed, Gives-dropped, Gives-owner_given, Gives-range, Gives-retired, all_awaiting-found}
+pub use Rattle.sdd_world_model.proofs.CellRights.{held-cell_changed, held-with_value, once-where}
+pub use Rattle.sdd_world_model.proofs.Safe.{opens-keeps, safe-call, safe-not-due}
+pub use Rattle.sdd_world_model.proofs.SameOrGone.{Sheds, sheds-cell_closed, sheds-collector_closed, sheds-dropped, sheds-opened, sheds-owner_given}
+pub use Rattle.sdd_world_model.proofs.Standings.{alone-out, out-inside, out-some, out-waits-not, owner-given}
+pub use Rattle.sdd_world_model.proofs.WorldInvariant.{all_awaiting-guards, count-cons, filled-there, one_where, some-waits, times-aged, times_among}
 pub use Rattle.sdd_space.specs.CallerId.{CallerId, IsExact, reader_at}
-pub use Rattle.sdd_space.specs.Collecting.{collected, collector_closed, is_for, owner_collected, waiting_for, without_collector}
+pub use Rattle.sdd_world_model.specs.Collecting.{collected, collector_closed, is_for, owner_collected, waiting_for, without_collector}
 pub use Rattle.sdd_space.specs.Guard.{ReaderId, reader_of}
-pub use Rattle.sdd_space.specs.InPlace.{IsAlone, MayInPlace, RefusedInPlace}
-pub use Rattle.sdd_space.specs.Ledger.{Claim, IsLedger, Keeps, Moves, Sets, Tells, claims, inside, is_right_to, nothing, one, owner_held, owner_of, right_to, times_kept}
-pub use Rattle.sdd_space.specs.Ledger.Moves.{accelerates, changes_cell, changes_pointers, closes_cell, closes_collector, collects, drops, edits, makes, makes_cell, puts_out_raw, releases, retires, shares, spends_cell, stirs, takes_back_raw}
-pub use Rattle.sdd_space.specs.Out.{IsNullCell, is_out}
-pub use Rattle.sdd_space.specs.OwnerCounts.{IsAccounted, holds_slot, is_owner_of, owner_count, times_held}
-pub use Rattle.sdd_space.specs.OwnerOrCell.{AreOf, IsOf, OwnerOrCell, SpaceId, atomic_owned, atomic_raw, atomic_shared, owned, shared}
-pub use Rattle.sdd_space.specs.ParticipantChanges.{all_awaiting, opened_at}
+pub use Rattle.sdd_world_model.specs.InPlace.{IsAlone, MayInPlace, RefusedInPlace}
+pub use Rattle.sdd_world_model.specs.Ledger.{Claim, IsLedger, Keeps, Moves, Sets, Tells, claims, inside, is_right_to, nothing, one, owner_held, owner_of, right_to, times_kept}
+pub use Rattle.sdd_world_model.specs.Ledger.Moves.{accelerates, changes_cell, changes_pointers, closes_cell, closes_collector, collects, drops, edits, makes, makes_cell, puts_out_raw, releases, retires, shares, spends_cell, stirs, takes_back_raw}
+pub use Rattle.sdd_world_model.specs.Out.{IsNullCell, is_out}
+pub use Rattle.sdd_world_model.specs.OwnerCounts.{IsAccounted, holds_slot, is_owner_of, owner_count, times_held}
+pub use Rattle.sdd_world_model.specs.OwnerOrCell.{AreOf, IsOf, OwnerOrCell, SpaceId, atomic_owned, atomic_raw, atomic_shared, owned, shared}
+pub use Rattle.sdd_world_model.specs.ParticipantChanges.{all_awaiting, opened_at}
 pub use Rattle.sdd_space.specs.Ptr.{PtrIsShown, cell_seen, shown_by, slot_named}
 pub use Rattle.sdd_space.specs.Shared.{IsOfSlots, holding_of, slots_home}
-pub use Rattle.sdd_space.specs.UnderGuards.{CannotGo, IsSafe}
-pub use Rattle.sdd_space.specs.World.{AnyGuardOpen, IsNew, IsPlaceOf, World, place_at, standing_at, value_at}
-pub use Rattle.sdd_space.specs.WorldChanges.{accelerated, all_reclaimed, caught_up, cell_closed, changed, closed, deferred, dropped, dropped_out, ended, freed, given, given_all, held_in, made_as, nulled, opened, owner_given, pointing, ran, reclaimed, reclaims, registered, retired, spilled, stirred, taken_out, vacated, waiting_value, with_cell, with_standing, with_value, without_cell}
-pub use Rattle.sdd_space.specs.WorldInvariant.{IsWhole, KeepsUp, is_of_job, is_of_slot, jobs_with, once_if, times_with}
-pub use Rattle.sdd_space.specs.WorldStep.{IsFirst, WorldStep}
-pub use Rattle.sdd_space.specs.WorldStep.WorldStep.{closes, defers, ends, registers}
+pub use Rattle.sdd_world_model.specs.UnderGuards.{CannotGo, IsSafe}
+pub use Rattle.sdd_world_model.specs.World.{AnyGuardOpen, IsNew, IsPlaceOf, World, place_at, standing_at, value_at}
+pub use Rattle.sdd_world_model.specs.WorldChanges.{accelerated, all_reclaimed, caught_up, cell_closed, changed, closed, deferred, dropped, dropped_out, ended, freed, given, given_all, held_in, made_as, nulled, opened, owner_given, pointing, ran, reclaimed, reclaims, registered, retired, spilled, stirred, taken_out, vacated, waiting_value, with_cell, with_standing, with_value, without_cell}
+pub use Rattle.sdd_world_model.specs.WorldInvariant.{IsWhole, KeepsUp, is_of_job, is_of_slot, jobs_with, once_if, times_with}
+pub use Rattle.sdd_world_model.specs.WorldStep.{IsFirst, WorldStep}
+pub use Rattle.sdd_world_model.specs.WorldStep.WorldStep.{closes, defers, ends, registers}
 pub use Rattle.sdd_space.specs.declared.atomic_shared.AtomicShared.{AtomicShared}
 pub use Rattle.sdd_space.specs.declared.private_collector.PrivateCollector.{PrivateCollector}
 pub use Rattle.sdd_space.specs.declared.ptr.Ptr.{Ptr}
-pub use Rattle.sdd_standings.specs.Slots.{IsSharedBy, is_waiting}
+pub use Rattle.sdd_world_model.specs.Slots.{IsSharedBy, is_waiting}

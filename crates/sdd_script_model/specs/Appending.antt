@@ -3,8 +3,8 @@ use Rattle.std.specs.Prelude.{ℕ, ◌≡◌, ◌≢◌, Bool, true, false, None
 use Rattle.sdd_core.specs.declared.tag.Tag.TheVariants.{None as no_tag}
 use Rattle.sdd_participants.specs.Slab.{entry_at}
 use Rattle.sdd_participants.specs.declared.standing.CellContents.{CellContents}
-use Rattle.sdd_space.specs.World.{World, value_at}
-use Rattle.sdd_space.specs.WorldChanges.{held_in}
+use Rattle.sdd_world_model.specs.World.{World, value_at}
+use Rattle.sdd_world_model.specs.WorldChanges.{held_in}
 use Rattle.sdd_lists.specs.Behind.{mark_tag}
 use Rattle.sdd_lists.specs.Lists.{linked_in}
 use Rattle.sdd_lists.specs.Marks.{says_deleted}

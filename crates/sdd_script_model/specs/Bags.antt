@@ -1,9 +1,9 @@
 -- The bags of a script, and their storages in its world
 use Rattle.std.specs.Prelude.{ℕ, ◌≡◌, ◌⊎◌, ◌+◌, ◌==◌, Bool, false, List, [], ◌∷◌, Option, None, Some, count_by}
-use Rattle.sdd_space.specs.Ledger.{Claim, owner_of, right_to}
+use Rattle.sdd_world_model.specs.Ledger.{Claim, owner_of, right_to}
 use Rattle.sdd_participants.specs.Slab.{entry_at}
-use Rattle.sdd_space.specs.World.{World, value_at}
-use Rattle.sdd_space.specs.WorldChanges.{held_in}
+use Rattle.sdd_world_model.specs.World.{World, value_at}
+use Rattle.sdd_world_model.specs.WorldChanges.{held_in}
 use Rattle.sdd_lists.specs.Ends.{IsAmong}
 use Rattle.sdd_lists.specs.Lists.{Entry}
 use Rattle.sdd_lists.specs.Stack.{cell_in}

@@ -1,11 +1,11 @@
 -- That an owner is given to a collector
 use Rattle.std.specs.Prelude.{ℕ, ◌≡◌, ◌↔◌, IsTrue, Some}
 use Rattle.sdd_participants.specs.declared.standing.Standing.TheVariants.{Owned, Shared}
-use Rattle.sdd_standings.specs.Slots.{IsSharedBy}
-use Rattle.sdd_space.specs.Collecting.{collected, owner_collected}
-use Rattle.sdd_space.specs.OwnerOrCell.{OwnerOrCell}
-use Rattle.sdd_space.specs.OwnerOrCell as holding
-use Rattle.sdd_space.specs.World.{World, standing_at}
+use Rattle.sdd_world_model.specs.Slots.{IsSharedBy}
+use Rattle.sdd_world_model.specs.Collecting.{collected, owner_collected}
+use Rattle.sdd_world_model.specs.OwnerOrCell.{OwnerOrCell}
+use Rattle.sdd_world_model.specs.OwnerOrCell as holding
+use Rattle.sdd_world_model.specs.World.{World, standing_at}
 use Rattle.sdd_script_text.specs.declared.answer.Reply.{Reply}
 use Rattle.sdd_script_text.specs.declared.answer.Reply.TheVariants as reply
 use Rattle.sdd_script_model.specs.Val.{Val}

@@ -31,5 +31,6 @@ TellsNumber other v = ⊥
 
 -- of the container of this name the newest entry that isn't deleted has this number
 abbrev pub HasNewest : ScriptState → ListName → ℕ → Type 0
-HasNewest d (Queue q) m = (cells : QueueCells) × (es : List (Entry Val)) × (second : Option ℕ) × IsNamedQueue d q.0 cells es second × HasNumber (last_value es) m
+HasNewest d (Queue q) m = (cells : QueueCells) × (es : List (Entry Val)) × (second : Option ℕ) × IsNamedQueue d q.0 cells es second
+    × HasNumber (last_value es) m
 HasNewest d (Stack s) m = (c : ℕ) × (es : List (Entry Val)) × IsStack d s.0 c es × HasNumber (first_value (left es)) m

@@ -4,8 +4,8 @@ use Rattle.sdd_core.specs.declared.refused.Refused.{Refused}
 use Rattle.sdd_core.specs.declared.refused.Refused.TheVariants.{NoCell}
 use Rattle.sdd_core.specs.declared.tag.Tag.TheVariants.{None as no_tag}
 use Rattle.sdd_participants.specs.Slab.{IsEmptyAt, IsFull}
-use Rattle.sdd_space.specs.World.{World, standing_at}
-use Rattle.sdd_space.specs.WorldChanges.{nulled}
+use Rattle.sdd_world_model.specs.World.{World, standing_at}
+use Rattle.sdd_world_model.specs.WorldChanges.{nulled}
 use Rattle.sdd_lists.specs.Lists.{Entry}
 use Rattle.sdd_lists.specs.Queue.{HasOneAtMost, QueueCells, queue_closed}
 use Rattle.sdd_lists.specs.QueueFilling.{FillsQueue}

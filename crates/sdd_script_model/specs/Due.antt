@@ -6,8 +6,8 @@ use Rattle.sdd_participants.specs.PlaceStates.{is_ended}
 use Rattle.sdd_participants.specs.Slab.{entry_at}
 use Rattle.sdd_participants.specs.declared.waiting.LimboEntry.{LimboEntry}
 use Rattle.sdd_participants.specs.declared.waiting.LimboEntry.TheVariants.{Item, Job}
-use Rattle.sdd_standings.specs.Slots.{is_waiting}
-use Rattle.sdd_space.specs.World.{World, standing_at}
+use Rattle.sdd_world_model.specs.Slots.{is_waiting}
+use Rattle.sdd_world_model.specs.World.{World, standing_at}
 use Rattle.sdd_script_text.specs.declared.name.ItemName.{ItemName}
 use Rattle.sdd_script_text.specs.declared.name.JobName.{JobName}
 use Rattle.sdd_script_text.specs.declared.call.Call.{Call}
@@ -19,7 +19,7 @@ use Rattle.sdd_script_text.specs.declared.answer.Reply.TheVariants as reply
 use Rattle.sdd_script_model.specs.Val.{Val}
 use Rattle.sdd_script_model.specs.ScriptState.{ScriptState, IsThere, WaitsAt, slot_at}
 
--- a line: its call and answer, and the desk that it finds and leaves
+-- a line: its call and answer, and the state that it finds and leaves
 pub record Line : Type 0 where
   pub before : ScriptState
   pub call : Call

@@ -1,15 +1,15 @@
 -- Of a new item how it stands, and of what waits which items and jobs
 use Rattle.std.specs.Prelude.{ℕ, List, [], ◌∷◌, filter}
 use Rattle.std.specs.List.{flat_map, range_with_len}
-use Rattle.sdd_rights.specs.Units as token
+use Rattle.sdd_rights.specs.Units as units
 use Rattle.sdd_participants.specs.declared.standing.Standing.{Standing}
 use Rattle.sdd_participants.specs.declared.standing.Standing.TheVariants as standing
 use Rattle.sdd_participants.specs.Collecting.{is_private_to}
 use Rattle.sdd_participants.specs.declared.waiting.LimboEntry.{LimboEntry}
 use Rattle.sdd_participants.specs.declared.waiting.LimboEntry.TheVariants.{Item, Job}
-use Rattle.sdd_space.specs.OwnerOrCell.{OwnerOrCell}
-use Rattle.sdd_space.specs.OwnerOrCell as holding
-use Rattle.sdd_space.specs.World.{World, standing_at}
+use Rattle.sdd_world_model.specs.OwnerOrCell.{OwnerOrCell}
+use Rattle.sdd_world_model.specs.OwnerOrCell as holding
+use Rattle.sdd_world_model.specs.World.{World, standing_at}
 use Rattle.sdd_script_model.specs.declared.owner_kind.OwnerKind.{OwnerKind}
 use Rattle.sdd_script_model.specs.declared.owner_kind.OwnerKind.TheVariants as ownership
 use Rattle.sdd_script_model.specs.Val.{Val}
@@ -19,7 +19,7 @@ abbrev pub standing_first : OwnerKind → Standing
 standing_first ownership.Sole = standing.Owned
 standing_first ownership.Shared = standing.Shared 1
 
-abbrev pub holding_first : OwnerKind → (slot : ℕ) → token.GhostName → OwnerOrCell
+abbrev pub holding_first : OwnerKind → (slot : ℕ) → units.GhostName → OwnerOrCell
 holding_first ownership.Sole k home = holding.owned k home
 holding_first ownership.Shared k home = holding.shared k home
 

@@ -1,12 +1,12 @@
 -- That a number is changed, or an item dropped, in its place, and an item that is out as raw
 use Rattle.std.specs.Prelude.{ℕ, ◌≡◌, ◌-◌, ◌<◌, Some, true, false}
 use Rattle.sdd_participants.specs.declared.standing.Standing.TheVariants.{Owned, Raw, Shared}
-use Rattle.sdd_standings.specs.Slots.{IsSharedBy}
-use Rattle.sdd_space.specs.OwnerOrCell.{OwnerOrCell}
-use Rattle.sdd_space.specs.OwnerOrCell as holding
-use Rattle.sdd_space.specs.InPlace.{IsAlone}
-use Rattle.sdd_space.specs.World.{World, AnyGuardOpen, standing_at, value_at}
-use Rattle.sdd_space.specs.WorldChanges.{dropped, with_standing, with_value}
+use Rattle.sdd_world_model.specs.Slots.{IsSharedBy}
+use Rattle.sdd_world_model.specs.OwnerOrCell.{OwnerOrCell}
+use Rattle.sdd_world_model.specs.OwnerOrCell as holding
+use Rattle.sdd_world_model.specs.InPlace.{IsAlone}
+use Rattle.sdd_world_model.specs.World.{World, AnyGuardOpen, standing_at, value_at}
+use Rattle.sdd_world_model.specs.WorldChanges.{dropped, with_standing, with_value}
 use Rattle.sdd_script_text.specs.declared.answer.Reply.{Reply}
 use Rattle.sdd_script_text.specs.declared.answer.Reply.TheVariants as reply
 use Rattle.sdd_script_model.specs.declared.val.Body.TheVariants.{Number}

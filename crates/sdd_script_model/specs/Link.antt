@@ -4,8 +4,8 @@ use Rattle.sdd_core.specs.declared.tag.Tag.{Tag}
 use Rattle.sdd_core.specs.declared.tag.Tag.TheVariants.{None as no_tag, First, Second}
 use Rattle.sdd_participants.specs.declared.standing.CellContents.{CellContents}
 use Rattle.sdd_participants.specs.Slab.{entry_at}
-use Rattle.sdd_space.specs.World.{World, value_at}
-use Rattle.sdd_space.specs.WorldChanges.{with_cell}
+use Rattle.sdd_world_model.specs.World.{World, value_at}
+use Rattle.sdd_world_model.specs.WorldChanges.{with_cell}
 use Rattle.sdd_lists.specs.Lists.{Entry, IsList, may_delete}
 use Rattle.sdd_lists.specs.Marks.{says_clear, says_marked}
 use Rattle.sdd_script_model.specs.declared.link_change.LinkChange.{LinkChange}

@@ -3,8 +3,8 @@ use Rattle.std.specs.Prelude.{ℕ, ◌≡◌, ◌≢◌, ◌⊎◌, List, [], �
 use Rattle.sdd_core.specs.declared.tag.Tag.{Tag}
 use Rattle.sdd_core.specs.declared.tag.Tag.TheVariants.{None as no_tag, Both}
 use Rattle.sdd_participants.specs.Slab.{entry_at}
-use Rattle.sdd_space.specs.World.{World, value_at}
-use Rattle.sdd_space.specs.WorldChanges.{held_in}
+use Rattle.sdd_world_model.specs.World.{World, value_at}
+use Rattle.sdd_world_model.specs.WorldChanges.{held_in}
 use Rattle.sdd_lists.specs.Ends.{IsAmong}
 use Rattle.sdd_lists.specs.Lists.{Entry, IsList}
 use Rattle.sdd_lists.specs.Queue.{IsSecond}

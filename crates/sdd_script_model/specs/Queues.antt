@@ -3,9 +3,9 @@ use Rattle.std.specs.Prelude.{ℕ, ◌≡◌, ◌<◌, ◌+◌, ◌^◌, ◌∷�
 use Rattle.sdd_core.specs.declared.tag.Tag.TheVariants.{None as no_tag}
 use Rattle.sdd_participants.specs.Slab.{IsEmptyAt}
 use Rattle.sdd_participants.specs.declared.standing.Standing.TheVariants.{Shared as shared_by}
-use Rattle.sdd_standings.specs.Slots.{IsSharedBy}
-use Rattle.sdd_space.specs.World.{World, standing_at}
-use Rattle.sdd_space.specs.WorldChanges.{nulled, with_standing}
+use Rattle.sdd_world_model.specs.Slots.{IsSharedBy}
+use Rattle.sdd_world_model.specs.World.{World, standing_at}
+use Rattle.sdd_world_model.specs.WorldChanges.{nulled, with_standing}
 use Rattle.sdd_lists.specs.Lists.{Entry, left, removed, trimmed}
 use Rattle.sdd_lists.specs.Queue.{IsEnqueued, IsQueue, QueueCells, cell_emptied, cell_left, held_left}
 use Rattle.sdd_script_model.specs.declared.val.Body.TheVariants.{Number}

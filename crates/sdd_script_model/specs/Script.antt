@@ -10,17 +10,17 @@ use Rattle.sdd_participants.specs.EpochState.{IsCrowded, IsVacant, CanNest, has_
 use Rattle.sdd_participants.specs.Slab.{IsEmptyAt, IsFull}
 use Rattle.sdd_participants.specs.declared.standing.CellContents.{CellContents}
 use Rattle.sdd_participants.specs.declared.standing.Standing.TheVariants.{Owned, Raw, Shared}
-use Rattle.sdd_standings.specs.Slots.{IsSharedBy, is_waiting}
+use Rattle.sdd_world_model.specs.Slots.{IsSharedBy, is_waiting}
 use Rattle.sdd_core.specs.declared.limits.Limits.{Limits}
-use Rattle.sdd_space.specs.OwnerOrCell.{OwnerOrCell, owned, shared, atomic_owned, atomic_shared, atomic_raw}
-use Rattle.sdd_space.specs.World.{World, AnyGuardOpen, place_at, standing_at}
-use Rattle.sdd_space.specs.Collecting.{collector_closed, waiting_for}
-use Rattle.sdd_standings.specs.Cells.{null_pointer}
-use Rattle.sdd_space.specs.InPlace.{MayInPlace, RefusedInPlace}
-use Rattle.sdd_space.specs.WorldChanges.{registered, ended, retired, opened, closed, stirred, accelerated, deferred, reclaims, owner_given, with_standing, without_cell, cell_closed, nulled, pointing}
-use Rattle.sdd_space.specs.WorldChanges as steps
-use Rattle.sdd_space.specs.WorldStep.{WorldStep}
-use Rattle.sdd_space.specs.ReclaimBound.{GoesInTime}
+use Rattle.sdd_world_model.specs.OwnerOrCell.{OwnerOrCell, owned, shared, atomic_owned, atomic_shared, atomic_raw}
+use Rattle.sdd_world_model.specs.World.{World, AnyGuardOpen, place_at, standing_at}
+use Rattle.sdd_world_model.specs.Collecting.{collector_closed, waiting_for}
+use Rattle.sdd_world_model.specs.Cells.{null_pointer}
+use Rattle.sdd_world_model.specs.InPlace.{MayInPlace, RefusedInPlace}
+use Rattle.sdd_world_model.specs.WorldChanges.{registered, ended, retired, opened, closed, stirred, accelerated, deferred, reclaims, owner_given, with_standing, without_cell, cell_closed, nulled, pointing}
+use Rattle.sdd_world_model.specs.WorldChanges as steps
+use Rattle.sdd_world_model.specs.WorldStep.{WorldStep}
+use Rattle.sdd_world_model.specs.ReclaimBound.{GoesInTime}
 use Rattle.sdd_script_text.specs.declared.name.ItemName.{ItemName}
 use Rattle.sdd_script_text.specs.declared.name.JobName.{JobName}
 use Rattle.sdd_script_text.specs.declared.name.OwnerName.{OwnerName}
@@ -55,7 +55,7 @@ use Rattle.sdd_script_model.specs.Shown.{RepliesValue, IsCell, item_held, item_i
 use Rattle.sdd_script_model.specs.Collecting.{Collects}
 use Rattle.sdd_script_model.specs.InPlace.{OwnsNumber, Puts, Drops, RefusesDrop, IsRaw}
 use Rattle.sdd_script_model.specs.ScriptState.{ScriptState, OpenSince, IsStart, IsDated, IsThere, WaitsAt, Leaves, bag_at, opening_at, holding_at, slot_at, date_at, job_date_at, place_of, since_of, slot_of, sole_slot, shared_slot, shared_cell, collector_of, in_world, with_owner, without_owner, with_collector, without_collector, with_item, with_job, with_queue, without_queue, with_stack, without_stack, with_newcomer, without_participant, with_guard, without_guard, later}
-use Rattle.sdd_script_model.specs.ScriptState as desk
+use Rattle.sdd_script_model.specs.ScriptState as state
 use Rattle.sdd_script_model.specs.Due.{Line, NamesWhatIsDue}
 
 -- ---- what is there, and of the right kind
@@ -84,7 +84,7 @@ IsShared d o = IsSome (shared_slot (holding_at d.owners o))
 
 -- the name is that of a cell, of either kind or of one
 abbrev pub IsCellName : ScriptState → ℕ → Type 0
-IsCellName d c = IsSome (desk.cell_of (holding_at d.cells c))
+IsCellName d c = IsSome (state.cell_of (holding_at d.cells c))
 
 abbrev pub IsSharedCell : ScriptState → ℕ → Type 0
 IsSharedCell d c = IsSome (shared_cell (holding_at d.cells c))
@@ -112,7 +112,7 @@ IsBagName d b = IsSome (bag_at d.bags b)
 
 -- what goes into a cell of this kind is none, or there and of its kind
 abbrev pub FitsCell : ScriptState → Option OwnerOrCell → Option OwnerName → Type 0
-FitsCell d cell None = IsSome (desk.cell_of cell)
+FitsCell d cell None = IsSome (state.cell_of cell)
 FitsCell d None (Some o) = ⊥
 FitsCell d (Some (owned k home)) (Some o) = ⊥
 FitsCell d (Some (shared k home)) (Some o) = ⊥
@@ -335,7 +335,7 @@ IsDrainedOf d p (list.Stack s) new =
 abbrev pub HasCrowdedFirst : ScriptState → ListName → Type 0
 HasCrowdedFirst d l = (c : ℕ) × (es : List (Entry Val)) × IsContainer d l c es × IsOwnedEnough d.world es
 
--- an action of participant n, at p, may be replied to so, and leave the desk new
+-- an action of participant n, at p, may be replied to so, and leave the state new
 abbrev pub Does : ScriptState → (n p : ℕ) → Action → Reply → ScriptState → Type 0
 Does d n p call.Open (reply.Guard g epoch) new =
     CanNest d.world.time p × (g.0 ≡ length d.guards) × (epoch ≡ epoch_of new.world.time.count)
@@ -493,7 +493,7 @@ Does d n p (call.CloseQueue q) reply.Done new =
 Does d n p (call.CloseStack s) reply.Done new =
     (c : ℕ) × (es : List (Entry Val)) × IsStack d s.0 c es × Leaves (in_world (without_stack d s.0) (stack_closed d.world p c es)) new
 Does d n p (call.CloseCell c) reply.Done new =
-    (k : ℕ) × (desk.cell_of (holding_at d.cells c.0) ≡ Some k)
+    (k : ℕ) × (state.cell_of (holding_at d.cells c.0) ≡ Some k)
     × Leaves (record d { world = cell_closed d.world p k; cells = slice_set d.cells c.0 None }) new
 -- a free cell is taken, whichever
 Does d n p call.Collector (reply.Collector k) new =
@@ -510,7 +510,7 @@ Does d n p (call.CloseCollector k) (reply.Refused GuardOpen) new = AnyGuardOpen 
 -- no other reply is given
 Does d n p action other new = ⊥
 
--- a call may be answered so, and leave the desk new
+-- a call may be answered so, and leave the state new
 abbrev pub Meets : ScriptState → Call → Reply → ScriptState → Type 0
 -- the newcomer's place is vacant, whichever
 Meets d Register (reply.Place name) new =
@@ -556,7 +556,7 @@ pub data AreCalls : World Val → World Val → Type 0 where
   none : (w : World Val) → AreCalls w w
   one_more : (u v w : World Val) → AreCalls u v → WorldStep holdings_of v w → AreCalls u w
 
--- a call is replied to so, and leaves the desk new
+-- a call is replied to so, and leaves the state new
 pub record Acts (old : ScriptState) (call : Call) (given : Reply) (new : ScriptState) : Type 0 where
   pub meets : Meets old call given new
   pub dated : IsDated old new
@@ -570,7 +570,7 @@ pub record Answers (old : ScriptState) (call : Call) (answer : Answer) (new : Sc
   pub goes : NamesWhatGoes old call answer.reply answer.reclaimed
   pub runs : NamesWhatRuns old call answer.reply answer.ran
 
--- one line: the call, its answer, and the desk left behind
+-- one line: the call, its answer, and the state left behind
 abbrev pub LineStep : ScriptState → Call → Answer → ScriptState → Type 0
 LineStep old call answer new = Answers (later old) call answer new
 

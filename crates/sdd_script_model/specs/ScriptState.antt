@@ -2,9 +2,9 @@
 use Rattle.std.specs.Prelude.{ℕ, ◌+◌, ◌*◌, ◌^◌, ◌<◌, ◌≤◌, ◌≡◌, ◌⊎◌, List, [], ◌∷◌, ◌++◌, Option, None, Some, IsSome, length, replicate, slice_index, slice_index_or, slice_set, if◌then◌else◌}
 use Rattle.sdd_participants.specs.EpochState.{is_open}
 use Rattle.sdd_participants.specs.Slab.{entry_at}
-use Rattle.sdd_standings.specs.Slots.{is_waiting}
-use Rattle.sdd_space.specs.OwnerOrCell.{OwnerOrCell, owned, shared, atomic_owned, atomic_shared, atomic_raw}
-use Rattle.sdd_space.specs.World.{World, IsNew, place_at, standing_at}
+use Rattle.sdd_world_model.specs.Slots.{is_waiting}
+use Rattle.sdd_world_model.specs.OwnerOrCell.{OwnerOrCell, owned, shared, atomic_owned, atomic_shared, atomic_raw}
+use Rattle.sdd_world_model.specs.World.{World, IsNew, place_at, standing_at}
 use Rattle.sdd_core.specs.declared.limits.Limits.{Limits}
 use Rattle.sdd_bag.specs.Bag.{BagParts}
 use Rattle.sdd_script_model.specs.declared.val.Body.{Body}

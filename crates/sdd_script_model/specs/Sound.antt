@@ -1,15 +1,15 @@
--- What is always true of a desk
+-- What is always true of a state
 use Rattle.std.specs.Prelude.{ℕ, ◌+◌, ◌*◌, ◌^◌, ◌<◌, ◌≤◌, ◌≡◌, ◌⊎◌, ◌==◌, Bool, false, IsTrue, IsSome, List, Option, None, Some, count_by, length, slice_index}
 use Rattle.sdd_participants.specs.EpochState.{is_open, phase_at}
 use Rattle.sdd_participants.specs.Slab.{Entries, IsEmptyAt, entry_at}
-use Rattle.sdd_standings.specs.Slots.{is_waiting}
-use Rattle.sdd_space.specs.OwnerOrCell.{OwnerOrCell, IsOf}
-use Rattle.sdd_space.specs.World.{World, IsPlaceOf, place_at, standing_at, value_at}
-use Rattle.sdd_space.specs.WorldChanges.{deferred}
-use Rattle.sdd_space.specs.WorldInvariant.{IsWhole}
-use Rattle.sdd_space.specs.Ledger.{Claim, owner_of, right_to, is_right_to, IsLedger}
-use Rattle.sdd_space.specs.OwnerCounts.{is_owner_of, times_held}
-use Rattle.sdd_space.specs.UnderGuards.{CallsUnder, IsSafe}
+use Rattle.sdd_world_model.specs.Slots.{is_waiting}
+use Rattle.sdd_world_model.specs.OwnerOrCell.{OwnerOrCell, IsOf}
+use Rattle.sdd_world_model.specs.World.{World, IsPlaceOf, place_at, standing_at, value_at}
+use Rattle.sdd_world_model.specs.WorldChanges.{deferred}
+use Rattle.sdd_world_model.specs.WorldInvariant.{IsWhole}
+use Rattle.sdd_world_model.specs.Ledger.{Claim, owner_of, right_to, is_right_to, IsLedger}
+use Rattle.sdd_world_model.specs.OwnerCounts.{is_owner_of, times_held}
+use Rattle.sdd_world_model.specs.UnderGuards.{CallsUnder, IsSafe}
 use Rattle.sdd_script_model.specs.Bags.{AreBags, AreSpare, IsStored, bagged}
 use Rattle.sdd_script_model.specs.Listed.{HasLists}
 use Rattle.sdd_script_model.specs.Shown.{number_in}

@@ -4,9 +4,9 @@ use Rattle.sdd_core.specs.declared.refused.Refused.{Refused}
 use Rattle.sdd_core.specs.declared.refused.Refused.TheVariants.{NoSlot, NoCell}
 use Rattle.sdd_core.specs.declared.tag.Tag.TheVariants.{None as no_tag}
 use Rattle.sdd_participants.specs.Slab.{IsEmptyAt, IsFull}
-use Rattle.sdd_standings.specs.Slots.{IsSharedBy}
-use Rattle.sdd_space.specs.World.{World, standing_at}
-use Rattle.sdd_space.specs.WorldChanges.{nulled, without_cell}
+use Rattle.sdd_world_model.specs.Slots.{IsSharedBy}
+use Rattle.sdd_world_model.specs.World.{World, standing_at}
+use Rattle.sdd_world_model.specs.WorldChanges.{nulled, without_cell}
 use Rattle.sdd_lists.specs.StackCloning.{IsAppended}
 use Rattle.sdd_lists.specs.Lists.{Entry, IsPushed, emptied, left, popped, trimmed}
 use Rattle.sdd_script_model.specs.declared.val.Body.TheVariants.{Number}

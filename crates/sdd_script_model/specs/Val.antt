@@ -1,9 +1,9 @@
 -- What the value of a script's item is
 use Rattle.std.specs.Prelude.{ℕ, ◌≡◌, List, [], ◌∷◌, ◌++◌, None, Option, Some}
-use Rattle.sdd_rights.specs.Units as token
+use Rattle.sdd_rights.specs.Units as units
 use Rattle.sdd_space.specs.Owned as owned
 use Rattle.sdd_space.specs.Shared as shared
-use Rattle.sdd_space.specs.OwnerOrCell.{OwnerOrCell}
+use Rattle.sdd_world_model.specs.OwnerOrCell.{OwnerOrCell}
 use Rattle.sdd_bag.specs.Storages as storages
 use Rattle.sdd_bag.specs.Storages.{StorageName}
 use Rattle.sdd_lists.specs.Entries as entries
@@ -20,7 +20,7 @@ body_of v = entries.value_of v
 abbrev pub link_of : Val → ℕ
 link_of v = entries.link_of v
 
-abbrev pub link_home : Val → token.GhostName
+abbrev pub link_home : Val → units.GhostName
 link_home v = entries.link_home_of v
 
 -- what a body holds: the owner that it is, or a storage's cell

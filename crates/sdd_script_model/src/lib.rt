@@ -1,4 +1,4 @@
-//! What scripts mean: the desk that a script works at, what each line does to it and answers, and what is always true of it.
+//! What scripts mean: the state that a script works at, what each line does to it and answers, and what is always true of it.
 //!
 //! No world runs here. The crate `sdd_script` runs scripts, and shows that its answers are those that are meant.
 #![tactic(auto)]

@@ -1,6 +1,6 @@
 ghost use Rattle.std.specs.Prelude.{◌≡◌, MatchResult, None, Some, option_copied};
 ghost use Rattle.sdd_bag.specs.Storages.{holdings_of};
-ghost use Rattle.sdd_space.specs.OwnerOrCell.{SpaceId, AreOf};
+ghost use Rattle.sdd_world_model.specs.OwnerOrCell.{SpaceId, AreOf};
 ghost use Rattle.sdd_script_model.specs.Val.{owner_in, storage_in};
 
 use sdd_bag::{Shelf, Storage};

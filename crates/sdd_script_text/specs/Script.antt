@@ -27,7 +27,8 @@ pub record AreLines {A : Type 0} (text_of : A → List ℕ) (Fits : A → Type 0
   pub numbers : AllByRecursion Fits xs
   pub few : length xs ≤ most_calls
 
--- line n, counted from 1, is the first that is the text of none: the lines before it are the texts of some, and it is that of none, or they are as many as may be
+-- line n, counted from 1, is the first that is the text of none: the lines before it are the texts of some, and it is that of none, or they are as many as
+-- may be
 pub record IsFirstOther {A : Type 0} (text_of : A → List ℕ) (Fits : A → Type 0) (text : List ℕ) (n : ℕ) : Type 0 where
   pub before : List A
   pub line : List ℕ

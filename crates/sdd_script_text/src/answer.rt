@@ -187,7 +187,8 @@ fn write_three<W: fmt::Write, A: Display + Copy, B: Display + Copy, C: Display +
     second: B,
     third: C,
 ) -> fmt::Result
-    ensures { DisplaysOnOk W.write_str_gives f.old result (A.output first ++? Some (codes " ") ++? B.output second ++? Some (codes " ") ++? C.output third) f.new }
+    ensures { DisplaysOnOk W.write_str_gives f.old result (A.output first ++? Some (codes " ") ++? B.output second ++? Some
+        (codes " ") ++? C.output third) f.new }
 {
     write!(f, "{first} {second} {third}")
 }

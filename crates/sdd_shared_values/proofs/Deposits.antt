@@ -20,7 +20,7 @@ at_number hs i j e = ap (λ (k : ℕ). units_at k hs) e
 -- what goes out: one unit of the deposit, of which there is more
 pub record Draws (γ i : ℕ) (ls : List FractionContent) (l : FractionContent) (rest : List FractionContent) : Type 0 where
   pub goes : Leaves ls l rest
-  pub book : l.book ≡ γ
+  pub gamma : l.gamma ≡ γ
   pub number : l.number ≡ i
   pub free : l.lent ≡ None
   pub deposits : AreDeposits γ rest
@@ -39,7 +39,7 @@ draws γ i units (h ∷ hs) are some more = dite (ℕ_discrete h.number i)
       refl,
       record {
         goes = inr (inl (h', record { free = are.1; some = some; fewer = omega arith; same = refl; stays = refl }, refl));
-        book = are.0;
+        gamma = are.0;
         number = e;
         free = are.1;
         deposits = (are.0, are.1, omega arith, are.3, are.4);
@@ -53,7 +53,7 @@ draws γ i units (h ∷ hs) are some more = dite (ℕ_discrete h.number i)
       t.2,
       record {
         goes = inr (inr (t.1, d.goes, refl));
-        book = d.book;
+        gamma = d.gamma;
         number = d.number;
         free = d.free;
         deposits = (are.0, are.1, are.2, d.others h.number ne ∙ are.3, d.deposits);
@@ -73,7 +73,7 @@ draws_all γ i (h ∷ hs) are some = dite (ℕ_discrete h.number i)
       omega arith,
       record {
         goes = inl (refl, refl);
-        book = are.0;
+        gamma = are.0;
         number = e;
         free = are.1;
         deposits = are.4;
@@ -87,7 +87,7 @@ draws_all γ i (h ∷ hs) are some = dite (ℕ_discrete h.number i)
       omega arith,
       record {
         goes = inr (inr (t.1, d.goes, refl));
-        book = d.book;
+        gamma = d.gamma;
         number = d.number;
         free = d.free;
         deposits = (are.0, are.1, are.2, d.others h.number ne ∙ are.3, d.deposits);
@@ -103,23 +103,23 @@ pub record Brings (γ : ℕ) (ls : List FractionContent) (l : FractionContent) (
   pub others : (j : ℕ) → j ≢ l.number → units_at j more ≡ units_at j ls
 
 -- units come to the deposit of their number, or are the first of it
-pub brings : (γ : ℕ) (ls : List FractionContent) (l : FractionContent) → AreDeposits γ ls → l.book ≡ γ → l.lent ≡ None → 0 < l.units
+pub brings : (γ : ℕ) (ls : List FractionContent) (l : FractionContent) → AreDeposits γ ls → l.gamma ≡ γ → l.lent ≡ None → 0 < l.units
     → (more : List FractionContent) × Brings γ ls l more
-brings γ [] l are book free some = let o = of_same l.number l refl in (
+brings γ [] l are gamma free some = let o = of_same l.number l refl in (
   l ∷ [],
-  record { comes = refl; deposits = (book, free, some, refl, tt); sum = omega arith; others = λ j ne. let a = of_other j l (λ x. ne (sym x)) in omega arith },
+  record { comes = refl; deposits = (gamma, free, some, refl, tt); sum = omega arith; others = λ j ne. let a = of_other j l (λ x. ne (sym x)) in omega arith },
 )
-brings γ (h ∷ hs) l are book free some = dite (ℕ_discrete h.number l.number)
+brings γ (h ∷ hs) l are gamma free some = dite (ℕ_discrete h.number l.number)
     (λ e. let h' : FractionContent = record h { units = h.units + l.units } in let o = of_same l.number h e in let o' = of_same l.number h' e in (
       h' ∷ hs,
       record {
-        comes = inr (inl (h', record { book = book ∙ sym are.0; number = sym e; free = are.1; others = free; sum = refl }, refl));
+        comes = inr (inl (h', record { gamma = gamma ∙ sym are.0; number = sym e; free = are.1; others = free; sum = refl }, refl));
         deposits = (are.0, are.1, omega arith, are.3, are.4);
         sum = omega arith;
         others = λ j ne. let a = of_other j h (λ x. ne (sym x ∙ e)) in let b = of_other j h' (λ x. ne (sym x ∙ e)) in omega arith;
       },
     ))
-    (λ ne. let o = of_other l.number h ne in let t = brings γ hs l are.4 book free some in let b = t.1 in let bs = b.sum in (
+    (λ ne. let o = of_other l.number h ne in let t = brings γ hs l are.4 gamma free some in let b = t.1 in let bs = b.sum in (
       h ∷ t.0,
       record {
         comes = inr (inr (t.0, b.comes, refl));

@@ -1,4 +1,4 @@
--- The rules of a shelf's places: each can be had at any time, and all of them twice. Assumes `Logic`.
+-- The rules of the places of shared values: each can be had at any time, and all of them twice. Assumes `Logic`.
 use Rattle.std.proofs.Common.{◌≡◌, ℕ, zero, suc, ◌+◌, ◌*◌, ◌<◌, [], ◌∷◌, refl, arith}
 use seplogic.Ra.Ura.{Ura}
 use base.Logic.{SProp, ent, sep}
@@ -10,7 +10,7 @@ use denote.Memory.{mem}
 use denote.Index.{place, place_is}
 use denote.RawPtr.{Ptr, block_ptr, block_of, count_of}
 use denote.Steps.{nothing}
-use Rattle.sdd_shared_values.specs.SharedValues.{rule, rules, Spans, shelf_owns}
+use Rattle.sdd_shared_values.specs.SharedValues.{rule, rules, Spans, values_owns}
 
 module _ {M : Type 1} {𝓤 : Ura M} (𝓛 : Logic 𝓤) (R : RattleType) (FitsIn : R.Denot → Type 0) where
   abbrev Pr : Type 2
@@ -55,8 +55,8 @@ module _ {M : Type 1} {𝓤 : Ura M} (𝓛 : Logic 𝓤) (R : RattleType) (FitsI
     rule_at n o k near = qed 𝓛 (‵ (all n 0 o) ∷ []) ∵ use1 𝓛 (‵ (one k (place size o k))) (rule_in n 0 o k k near (omega arith)) $
         rewrite ! 0 (λ (m : ℕ). ‵ (one k m)) (place_is size o k) refl $ done !
 
-  pub shelf_twice : (p : Ptr) (γ n : ℕ) → ⟦ shelf_owns R FitsIn p γ n ⟧ ⊢ ⟦ shelf_owns R FitsIn p γ n ⟧ ∗ ⟦ shelf_owns R FitsIn p γ n ⟧
-  shelf_twice p γ n = let every : Fml = rules R (block_of p) γ FitsIn n 0 (count_of p) in qed 𝓛 (‵ (shelf_owns R FitsIn p γ n) ∷ []) ∵ fsplit ! $
+  pub values_twice : (p : Ptr) (γ n : ℕ) → ⟦ values_owns R FitsIn p γ n ⟧ ⊢ ⟦ values_owns R FitsIn p γ n ⟧ ∗ ⟦ values_owns R FitsIn p γ n ⟧
+  values_twice p γ n = let every : Fml = rules R (block_of p) γ FitsIn n 0 (count_of p) in qed 𝓛 (‵ (values_owns R FitsIn p γ n) ∷ []) ∵ fsplit ! $
       fpick ! (λ fit. drop ! $
       use1 𝓛 (‵ every ⊛ ‵ every) (rules_twice (block_of p) γ n 0 (count_of p)) $ split ! $
       nothing ! $ fpack ! (Spans R p n) (λ _. ftrue) fit $ move ! (0 ∷ 1 ∷ []) $ fjoin ! $

@@ -9,7 +9,7 @@ use denote.RattleType.{RattleType}
 use denote.RawPtr.{Ptr}
 use Rattle.atomic_table.specs.Table.{State, Me, Act, Valid, homes_after, carried_after}
 use Rattle.atomic_table.specs.Seated.{fact, seen, TableId, age, inner, seal}
-use Rattle.sdd_shared_values.specs.ValueFractions.{FractionContent, purse}
+use Rattle.sdd_shared_values.specs.ValueFractions.{FractionContent, holdings}
 use Rattle.sdd_shared_values.specs.declared.value_fraction.ValueFraction.{ValueFraction}
 
 abbrev pub Mine : Type 0 → Type 0
@@ -26,13 +26,13 @@ pub record IsPart (whole part rest : FractionContent) : Type 0 where
 
 -- the two are of one number, so they agree
 pub record IsJoined (whole part both : FractionContent) : Type 0 where
-  pub book : part.book ≡ whole.book
+  pub gamma : part.gamma ≡ whole.gamma
   pub number : part.number ≡ whole.number
   pub free : whole.lent ≡ None
   pub others : part.lent ≡ None
   pub sum : both ≡ record whole { units = whole.units + part.units }
 
--- of these lots one goes out, or a part of one
+-- of these contents one goes out, or a part of one
 abbrev pub Leaves : List FractionContent → FractionContent → List FractionContent → Type 0
 Leaves [] l rest = ⊥
 Leaves (h ∷ hs) l rest = ((l ≡ h) × (rest ≡ hs)) ⊎ ((h' : FractionContent) × IsPart h l h' × (rest ≡ h' ∷ hs))
@@ -47,7 +47,7 @@ Comes (h ∷ hs) l more = (more ≡ l ∷ h ∷ hs) ⊎ ((h' : FractionContent) 
 -- ---- what a bank owns
 module _ {V : Type 0} (c : V → Gv) (z : TableId) (id : ℕ) (ours : V → Type 0) (banked : V → List FractionContent) where
   abbrev pub kept : V → Fml
-  kept v = fsep (fact (ours v)) (fsep (seen c z.views_name id three_quarters v) (purse (banked v)))
+  kept v = fsep (fact (ours v)) (fsep (seen c z.views_name id three_quarters v) (holdings (banked v)))
 
   abbrev pub vault : Fml
   vault = fex V kept
@@ -74,20 +74,20 @@ module _ {V : Type 0} where
   module _ (Holds : State ValueFraction V → Type 0) (Goes : List FractionContent → FractionContent → List FractionContent → Type 0) (Ours : V → Type 0)
       (banked : V → List FractionContent) where
     -- a deal of the seat id with the bank, which has the view b: both have new views and the seat an act, which keep the rule; by the bank's two views
-    -- the lot goes, which is one that is offered; and `Then` holds of it and of the seat after
+    -- the content goes, which is one that is offered; and `Then` holds of it and of the seat after
     pub record Deal (s : State ValueFraction V) (b : V) (id : ℕ) (me : Me ValueFraction V) (bd : ℕ) (Offered : FractionContent → Type 0)
         (Then : FractionContent → Me ValueFraction V → Type 0)
         : Type 0 where
       pub view : V
       pub bank : V
-      pub lot : FractionContent
+      pub content : FractionContent
       pub act : Act ValueFraction
       pub valid : Valid s.homes me.1 act
       pub holds : Holds (dealt s id me.1 view bd bank act)
       pub ours : Ours bank
-      pub goes : Goes (banked b) lot (banked bank)
-      pub offered : Offered lot
-      pub then : Then lot (view, carried_after me.1 act)
+      pub goes : Goes (banked b) content (banked bank)
+      pub offered : Offered content
+      pub then : Then content (view, carried_after me.1 act)
 
     -- whatever the table is, and the bank's view
     abbrev pub AllowsDeal : ℕ → ℕ → Me ValueFraction V → ℕ → (FractionContent → Type 0) → (FractionContent → Me ValueFraction V → Type 0) → Type 0

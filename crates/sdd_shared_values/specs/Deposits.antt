@@ -11,7 +11,7 @@ abbrev pub units_at : ℕ → List FractionContent → ℕ
 units_at i [] = 0
 units_at i (h ∷ hs) = of_number i h + units_at i hs
 
--- each deposit is of the book and isn't lent, and no number has two
+-- each deposit is of the ghost map and isn't lent, and no number has two
 abbrev pub AreDeposits : ℕ → List FractionContent → Type 0
 AreDeposits γ [] = Unit {0}
-AreDeposits γ (h ∷ hs) = (h.book ≡ γ) × (h.lent ≡ None) × (0 < h.units) × (units_at h.number hs ≡ 0) × AreDeposits γ hs
+AreDeposits γ (h ∷ hs) = (h.gamma ≡ γ) × (h.lent ≡ None) × (0 < h.units) × (units_at h.number hs ≡ 0) × AreDeposits γ hs

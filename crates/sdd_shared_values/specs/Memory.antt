@@ -1,4 +1,4 @@
--- The memory of a plot, and of the shelf that is founded on it
+-- The memory of a plot, and of the values that is founded on it
 use Rattle.std.specs.Prelude.{◌≡◌, ℕ}
 use denote.RawPtr.{Ptr}
 use Rattle.sdd_values.specs.declared.uninit_block.Freeable.{Freeable}
@@ -15,12 +15,12 @@ pub record Frees {T A : Type 0} (ptr : Ptr) (count : ℕ) (alloc : A) (hold : Fr
 abbrev pub IsHoldOf : {T A : Type 0} → VacantValues T → A → Freeable T A → Type 0
 IsHoldOf plot alloc hold = Frees plot.ptr plot.size alloc hold
 
--- the right to free the memory of the shelf
-abbrev pub IsHoldOfShelf : {T F A : Type 0} → SharedValues T F → A → Freeable T A → Type 0
-IsHoldOfShelf shelf alloc hold = Frees shelf.ptr shelf.size alloc hold
+-- the right to free the memory of the values
+abbrev pub IsHoldOfValues : {T F A : Type 0} → SharedValues T F → A → Freeable T A → Type 0
+IsHoldOfValues values alloc hold = Frees values.ptr values.size alloc hold
 
--- the shelf's places are those of the plot
-pub record IsOn {T F : Type 0} (plot : VacantValues T) (shelf : SharedValues T F) : Type 0 where
-  pub place : shelf.ptr ≡ plot.ptr
-  pub book : shelf.book ≡ plot.book
-  pub size : shelf.size ≡ plot.size
+-- the values's places are those of the plot
+pub record IsOn {T F : Type 0} (plot : VacantValues T) (values : SharedValues T F) : Type 0 where
+  pub place : values.ptr ≡ plot.ptr
+  pub gamma : values.gamma ≡ plot.gamma
+  pub size : values.size ≡ plot.size

@@ -1,5 +1,5 @@
--- What a plot owns: each place and a unit of it. What a shelf owns: the rule of each of its places, in an invariant. And what its calls ask and tell of the
--- stakes that a seat carries.
+-- What a plot owns: each place and a unit of it. What shared values own: the rule of each of their places, in an invariant. And what their calls ask and
+-- tell of the fractions that a seat carries.
 use Rattle.std.specs.Prelude.{◌≡◌, ◌+◌, ◌-◌, ◌*◌, ◌^◌, ◌<◌, ℕ, zero, suc, Option, None, Some, List, [], ◌∷◌, ◌++◌, take, drop}
 use mathlib.Core.Option.{some}
 use lib.ListN.{get_elem?}
@@ -17,7 +17,7 @@ use Rattle.atomic_table.specs.Seated.{fact}
 pub use Rattle.sdd_rights.specs.ReadFraction.{IsValueCode}
 use Rattle.sdd_values.specs.Block.{IsFreeFor}
 use Rattle.sdd_shared_values.specs.ValueFractions.{FractionContent, part}
-use Rattle.sdd_shared_values.specs.CarriedFractions.{lots, with_lots}
+use Rattle.sdd_shared_values.specs.CarriedFractions.{contents, with_contents}
 use Rattle.sdd_shared_values.specs.declared.value_fraction.ValueFraction.{ValueFraction}
 
 -- ---- what units show
@@ -47,7 +47,8 @@ module _ (R : RattleType) (p : Ptr) (γ i : ℕ) where
 
   -- Only a value that fits lies in the place.
   module _ (FitsIn : R.Denot → Type 0) where
-    -- the place keeps one unit of its number. It is out of use while a value is moved; vacant; or full: then the value is shared for the round, and comes back
+    -- the place keeps one unit of its number. It is out of use while a value is moved; vacant; or full: then the value is shared for the lifetime, and comes
+    -- back
     -- after it
     abbrev pub state : Option (Option (ℕ × R.Denot)) → Fml
     state None = fex ℕ (λ a. part γ i a (gnum 0) 1)
@@ -81,16 +82,16 @@ plot_owns R p γ n = fsep (fact (Spans R p n)) (plots R (block_of p) γ n 0 (cou
 abbrev pub clearing_owns : (R : RattleType) → Ptr → ℕ → Fml
 clearing_owns R p n = fsep (fact (Spans R p n)) (room_for (raw (ty_array (lone R.mir) n)) p)
 
-abbrev pub shelf_owns : (R : RattleType) → (R.Denot → Type 0) → Ptr → ℕ → ℕ → Fml
-shelf_owns R FitsIn p γ n = fsep (fact (Spans R p n)) (rules R (block_of p) γ FitsIn n 0 (count_of p))
+abbrev pub values_owns : (R : RattleType) → (R.Denot → Type 0) → Ptr → ℕ → ℕ → Fml
+values_owns R FitsIn p γ n = fsep (fact (Spans R p n)) (rules R (block_of p) γ FitsIn n 0 (count_of p))
 
-abbrev pub shelf_shares : (R : RattleType) → (R.Denot → Type 0) → Ptr → ℕ → ℕ → Lft → Fml
-shelf_shares R FitsIn p γ n = said (shelf_owns R FitsIn p γ n)
+abbrev pub values_shares : (R : RattleType) → (R.Denot → Type 0) → Ptr → ℕ → ℕ → Lft → Fml
+values_shares R FitsIn p γ n = said (values_owns R FitsIn p γ n)
 
--- ---- lots
--- k units of the number i of the book γ, which aren't lent
-abbrev pub lot : ℕ → ℕ → ℕ → Gv → ℕ → FractionContent
-lot γ i a g k = record { book = γ; number = i; round = a; shown = g; units = k; lent = None }
+-- ---- contents
+-- k units of the number i of the ghost map γ, which aren't lent
+abbrev pub content : ℕ → ℕ → ℕ → Gv → ℕ → FractionContent
+content γ i a g k = record { gamma = γ; number = i; lifetime = a; shown = g; units = k; lent = None }
 
 -- all units but the place's own
 abbrev pub most : ℕ
@@ -98,25 +99,25 @@ most = 2 ^ 63 - 1
 
 -- it has all units of the number i but the place's own, and isn't lent
 abbrev pub HasAllUnits : ℕ → ℕ → FractionContent → Type 0
-HasAllUnits γ i h = h ≡ lot γ i h.round h.shown most
+HasAllUnits γ i h = h ≡ content γ i h.lifetime h.shown most
 
 -- ---- a look
--- one of these stakes is in a full place's number, and may be lent to the tenure t, or is
+-- one of these fractions is in a full place's number, and may be lent to the section t, or is
 pub record CanShow (γ i t : ℕ) (hs : List FractionContent) : Type 0 where
   pub place : ℕ
   pub one : FractionContent
   pub there : get_elem? hs place ≡ some one
-  pub of_book : one.book ≡ γ
+  pub of_gamma : one.gamma ≡ γ
   pub of_number : one.number ≡ i
   pub full : IsValueCode one.shown
   pub free : IsFreeFor t one.lent
 
--- one of these stakes is in the number, and what it shows is g
+-- one of these fractions is in the number, and what it shows is g
 pub record HasFractionShowing (γ i : ℕ) (g : Gv) (hs : List FractionContent) : Type 0 where
   pub place : ℕ
   pub one : FractionContent
   pub there : get_elem? hs place ≡ some one
-  pub of_book : one.book ≡ γ
+  pub of_gamma : one.gamma ≡ γ
   pub of_number : one.number ≡ i
   pub shows : one.shown ≡ g
 
@@ -128,18 +129,18 @@ units_in (h ∷ hs) = h.units + units_in hs
 -- each is of the number i, and agrees on this
 abbrev pub AllOf : ℕ → ℕ → ℕ → Gv → List FractionContent → Type 0
 AllOf γ i a g [] = Unit {0}
-AllOf γ i a g (h ∷ hs) = (h ≡ lot γ i a g h.units) × (0 < h.units) × AllOf γ i a g hs
+AllOf γ i a g (h ∷ hs) = (h ≡ content γ i a g h.units) × (0 < h.units) × AllOf γ i a g hs
 
--- the n stakes that were taken last have all units of the number i but the place's own, and agree on this
+-- the n fractions that were taken last have all units of the number i but the place's own, and agree on this
 abbrev pub AreWhole : ℕ → ℕ → ℕ → Gv → ℕ → List FractionContent → Type 0
 AreWhole γ i a g n hs = AllOf γ i a g (take n hs) × (units_in (take n hs) ≡ most)
 
 -- each is of the number i, and isn't lent
 abbrev pub AreUnlentFractions : ℕ → ℕ → List FractionContent → Type 0
 AreUnlentFractions γ i [] = Unit {0}
-AreUnlentFractions γ i (h ∷ hs) = (h ≡ lot γ i h.round h.shown h.units) × (0 < h.units) × AreUnlentFractions γ i hs
+AreUnlentFractions γ i (h ∷ hs) = (h ≡ content γ i h.lifetime h.shown h.units) × (0 < h.units) × AreUnlentFractions γ i hs
 
--- the n stakes that were taken last have all units of the number i but the place's own, none of them is lent, and what the newest shows is so
+-- the n fractions that were taken last have all units of the number i but the place's own, none of them is lent, and what the newest shows is so
 pub record HasWhole (γ i n : ℕ) (IsSo : Gv → Type 0) (hs : List FractionContent) : Type 0 where
   pub newest : FractionContent
   pub others : List FractionContent
@@ -151,19 +152,19 @@ pub record HasWhole (γ i n : ℕ) (IsSo : Gv → Type 0) (hs : List FractionCon
 -- they agree on something else now
 abbrev pub turned : ℕ → Gv → List FractionContent → List FractionContent
 turned a g [] = []
-turned a g (h ∷ hs) = record h { round = a; shown = g } ∷ turned a g hs
+turned a g (h ∷ hs) = record h { lifetime = a; shown = g } ∷ turned a g hs
 
 abbrev pub top_turned : ℕ → Gv → ℕ → List FractionContent → List FractionContent
 top_turned a g n hs = turned a g (take n hs) ++ drop n hs
 
--- what a seat carries, once the n stakes that were taken last agree on the round a and show g
+-- what a seat carries, once the n fractions that were taken last agree on the lifetime a and show g
 abbrev pub all_turned : ℕ → Gv → ℕ → List (ℕ × ValueFraction) → List (ℕ × ValueFraction)
-all_turned a g n xs = with_lots xs (top_turned a g n (lots xs))
+all_turned a g n xs = with_contents xs (top_turned a g n (contents xs))
 
--- ---- stakes in no table's slots
+-- ---- fractions in no table's slots
 -- these are of the n numbers from i on, in order: of each, all units but the place's own, which show that it is vacant and aren't lent
 abbrev pub AreVacant : ℕ → ℕ → ℕ → List FractionContent → Type 0
 AreVacant γ i zero [] = Unit {0}
 AreVacant γ i zero (h ∷ hs) = ⊥
 AreVacant γ i (suc n) [] = ⊥
-AreVacant γ i (suc n) (h ∷ hs) = (h ≡ lot γ i h.round vacant most) × AreVacant γ (suc i) n hs
+AreVacant γ i (suc n) (h ∷ hs) = (h ≡ content γ i h.lifetime vacant most) × AreVacant γ (suc i) n hs

@@ -72,7 +72,7 @@ impl<V, K, P: TableRule<ValueFraction, V, K>, B: Treasury<V>> Bank<V, K, P, B> {
         requires allowed { AllowsDeal (P.holds self.now.key) Leaves B.ours B.banked table.now.table_id.slots seat.old.id seat.old.me self.now.id
             (λ _. Unit {0}) (M.then number seat.old.me) }
         ensures seat { (seat.new.table_id ≡ seat.old.table_id) × (seat.new.id ≡ seat.old.id) }
-        ensures then { M.then number seat.old.me result.lot seat.new.me }
+        ensures then { M.then number seat.old.me result.content seat.new.me }
     {
         let _ = table;
         let _ = number;

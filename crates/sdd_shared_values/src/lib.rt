@@ -1,5 +1,5 @@
-//! Stakes: parts of the right to a value, which lie in the slots of an `atomic_table` and are lent to tenures. A value's owner has a unit of its own, a
-//! grip, and looks at the value by that alone.
+//! Fractions: parts of the right to a value, which lie in the slots of an `atomic_table` and are lent to sections. A value's owner has a unit of its own, a
+//! read fraction, and looks at the value by that alone.
 #![tactic(auto)]
 
 mod bank;

@@ -1,4 +1,4 @@
-//! Room for values, before the table is there that the stakes in them will lie in.
+//! Room for values, before the table is there that the fractions in them will lie in.
 ghost use Rattle.std.specs.Prelude.{◌≡◌, ℕ, IfOk};
 ghost use Rattle.sdd_shared_values.specs.SharedValues.{plot_owns, AreVacant};
 ghost use Rattle.std_alloc.specs.Vec.Ownership.{FitsInBlock};
@@ -13,28 +13,28 @@ use sdd_values::{Freeable, UninitBlock};
 use std::alloc::{AllocError, Allocator};
 use std::marker::{Model, PhantomData};
 
-/// Room for values, side by side, each with a number of one book. All places are vacant, and nobody else knows them.
+/// Room for values, side by side, each with a number of one ghost map. All places are vacant, and nobody else knows them.
 pub struct VacantValues<T> {
     pub(crate) ptr: *mut T,
-    pub ghost book: { ℕ },
+    pub ghost gamma: { ℕ },
     pub ghost size: { ℕ },
 }
 
 impl<T> Model for VacantValues<T> {
-    ghost also_owns = { λ p. plot_owns T.row p.ptr p.book p.size };
+    ghost also_owns = { λ p. plot_owns T.row p.ptr p.gamma p.size };
 }
 
 impl<T> VacantValues<T> {
     ghost use Rattle.sdd_shared_values.specs.Memory.{IsHoldOf, IsOn};
 
-    /// That many vacant places, with the stakes in them and the right to free their memory. The number of a place is where it stands.
+    /// That many vacant places, with the fractions in them and the right to free their memory. The number of a place is where it stands.
     pub fn new<A: Allocator>(
         alloc: &A,
         size: usize,
     ) -> Result<(VacantValues<T>, FractionList, Freeable<T, A>), AllocError>
         requires fits { FitsInBlock T.row size }
         ensures size { IfOk result (λ made. made.0.size ≡ size) }
-        ensures stock { IfOk result (λ made. AreVacant made.0.book 0 size made.1.lots) }
+        ensures fraction_list { IfOk result (λ made. AreVacant made.0.gamma 0 size made.1.contents) }
         ensures hold { IfOk result (λ made. IsHoldOf made.0 alloc.now made.2) }
     {
         let room = UninitBlock::new(alloc, size)?;
@@ -47,7 +47,7 @@ impl<T> VacantValues<T> {
     ) -> (VacantValues<T>, FractionList, Freeable<T, A>)
         requires fits { FitsInBlock T.row room.len }
         ensures size { result.0.size ≡ room.len }
-        ensures stock { AreVacant result.0.book 0 room.len result.1.lots }
+        ensures fraction_list { AreVacant result.0.gamma 0 room.len result.1.contents }
         ensures hold { IsHoldOf result.0 room.alloc result.2 }
     {
         let UninitBlock { ptr, len, by } = room;
@@ -58,14 +58,14 @@ impl<T> VacantValues<T> {
         )
     }
 
-    /// Which book its places are of.
-    pub fn title(&self) -> ValuesName
-        ensures { result.book ≡ self.now.book }
+    /// Which ghost map its places are of.
+    pub fn values_name(&self) -> ValuesName
+        ensures { result.gamma ≡ self.now.gamma }
     {
         ValuesName { of: PhantomData }
     }
 
-    /// The shelf of these places, whose stakes lie in this table.
+    /// The values of these places, whose fractions lie in this table.
     pub fn found<F: ValueInvariant<T>, V, K, P: TableRule<ValueFraction, V, K>>(
         self,
         table: &Shared<ValueFraction, V, K, P>,
@@ -81,12 +81,12 @@ impl<T> VacantValues<T> {
         }
     }
 
-    /// Gives the memory back, by the stakes in all places.
-    pub fn close<A: Allocator>(self, alloc: &A, stock: FractionList, hold: Freeable<T, A>)
+    /// Gives the memory back, by the fractions in all places.
+    pub fn close<A: Allocator>(self, alloc: &A, fraction_list: FractionList, hold: Freeable<T, A>)
         requires hold { IsHoldOf self alloc.now hold }
-        requires stock { AreVacant self.book 0 self.size stock.lots }
+        requires fraction_list { AreVacant self.gamma 0 self.size fraction_list.contents }
     {
-        stock.discard();
+        fraction_list.discard();
         self.clear().free(alloc, hold);
     }
 

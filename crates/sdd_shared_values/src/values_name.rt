@@ -1,4 +1,4 @@
-//! Which book the places of a plot and its shelf are of, for clauses.
+//! Which ghost map the places of a plot and its values are of, for clauses.
 ghost use Rattle.std.specs.Prelude.{ℕ};
 ghost use base.Fml.{ftrue};
 
@@ -6,10 +6,10 @@ use std::marker::{Model, PhantomData};
 
 const _: () = prove!(size_of::<ValuesName>() == 0);
 
-/// The book of a plot and its shelf, as a value without bytes that owns nothing.
+/// The ghost map of a plot and its values, as a value without bytes that owns nothing.
 pub struct ValuesName {
     pub(crate) of: PhantomData<u64>,
-    pub ghost book: { ℕ },
+    pub ghost gamma: { ℕ },
 }
 
 impl Model for ValuesName {

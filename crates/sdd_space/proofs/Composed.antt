@@ -1,9 +1,9 @@
 -- Values made of values: each part gives up what it holds, one after another.
 use Rattle.std.proofs.Common.{◌≡◌, ℕ, List, [], ◌∷◌, ◌++◌, refl, sym, ap, ◌∙◌, subst}
-use Rattle.sdd_space.specs.OwnerOrCell.{SpaceId, OwnerOrCell, AreOf}
+use Rattle.sdd_world_model.specs.OwnerOrCell.{SpaceId, OwnerOrCell, AreOf}
 use Rattle.sdd_space.specs.CallerId.{CallerId, IsExact}
-use Rattle.sdd_space.specs.World.{World}
-use Rattle.sdd_space.specs.WorldChanges.{given, given_all}
+use Rattle.sdd_world_model.specs.World.{World}
+use Rattle.sdd_world_model.specs.WorldChanges.{given, given_all}
 
 pub first-of : (home : SpaceId) (hs js : List OwnerOrCell) → AreOf home (hs ++ js) → AreOf home hs
 first-of home [] js are = tt
@@ -17,7 +17,7 @@ pub given-both : {T : Type 0} (w : World T) (p : ℕ) (hs js : List OwnerOrCell)
 given-both w p [] js = refl
 given-both w p (h ∷ hs) js = given-both (given w p h) p hs js
 
--- after the first parts the giver has the same seat
+-- after the first parts the giver has the same caller
 pub rest-home : (s t : CallerId) (hs js : List OwnerOrCell) → t ≡ s → AreOf s.home (hs ++ js) → AreOf t.home js
 rest-home s t hs js same are = subst (λ (x : CallerId). AreOf x.home js) (sym same) (rest-of s.home hs js are)
 

@@ -2,8 +2,8 @@
 use Rattle.std.specs.Prelude.{ℕ, ◌<◌, Bool, true, false, IsTrue, List, length, slice_index_or}
 use Rattle.sdd_participants.specs.EpochState.{lives}
 use Rattle.sdd_participants.specs.declared.participant.Participant.{Participant}
-use Rattle.sdd_space.specs.World.{World}
-use Rattle.sdd_space.specs.OwnerOrCell.{SpaceId}
+use Rattle.sdd_world_model.specs.World.{World}
+use Rattle.sdd_world_model.specs.OwnerOrCell.{SpaceId}
 use Rattle.sdd_space.specs.Guard.{ReaderId}
 
 pub record CallerId : Type 0 where
@@ -41,8 +41,8 @@ abbrev pub reader_at : {T : Type 0} → World T → ℕ → ReaderId
 reader_at w place = record { home = w.home.readers; number = place }
 
 -- a place of a world, on this loan: nobody else can change the world meanwhile
-abbrev pub seat_on : {T : Type 0} → World T → ℕ → ℕ → CallerId
-seat_on w place loan = record {
+abbrev pub caller_on : {T : Type 0} → World T → ℕ → ℕ → CallerId
+caller_on w place loan = record {
   place = place;
   places = length w.time.places;
   lives = lives w.time;
@@ -56,5 +56,5 @@ seat_on w place loan = record {
 }
 
 -- the same for what is given up to a place, where it may be of a participant that has ended
-abbrev pub seat_for : {T : Type 0} → World T → ℕ → ℕ → CallerId
-seat_for w place loan = record (seat_on w place loan) { live = true }
+abbrev pub caller_for : {T : Type 0} → World T → ℕ → ℕ → CallerId
+caller_for w place loan = record (caller_on w place loan) { live = true }

@@ -1,6 +1,6 @@
 -- What a collector names
 use Rattle.std.specs.Prelude.{ℕ}
-use Rattle.sdd_rights.specs.Units as token
+use Rattle.sdd_rights.specs.Units as units
 use Rattle.sdd_rights.specs.Right.{raw_number_of, raw_home_of}
 use Rattle.sdd_space.specs.declared.private_collector.PrivateCollector.{PrivateCollector}
 
@@ -9,5 +9,5 @@ module _ {T : Type 0} where
   abbrev pub collector_of : PrivateCollector T → ℕ
   collector_of c = raw_number_of c.right
 
-  abbrev pub cells_home : PrivateCollector T → token.GhostName
+  abbrev pub cells_home : PrivateCollector T → units.GhostName
   cells_home c = raw_home_of c.right

@@ -14,7 +14,7 @@ module _ {T : Type 0} where
 
   -- the value that it was made with; null shows none
   abbrev pub shown_by : Ptr T → Option T
-  shown_by p = p.sight.now
+  shown_by p = p.nullable.now
 
   abbrev pub tag_of : Ptr T → Tag
   tag_of p = p.tag

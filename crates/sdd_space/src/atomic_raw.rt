@@ -1,15 +1,15 @@
 ghost use Rattle.std.specs.Prelude.{◌≡◌, ◌≢◌, ◌↔◌, IfErr, IfOk, IsOk, IsTrue, MatchResult, None, Some, if◌then◌else◌, true};
-ghost use Rattle.sdd_space.specs.Asked.{WasAsked};
-ghost use Rattle.sdd_space.specs.World.{World, pointer_at};
+ghost use Rattle.sdd_world_model.specs.Asked.{WasAsked};
+ghost use Rattle.sdd_world_model.specs.World.{World, pointer_at};
 ghost use Rattle.sdd_space.specs.CallerId.{IsSeated, IsExact};
 ghost use Rattle.sdd_space.specs.Refusals.{IsContended, IsRefusedBy};
 ghost use Rattle.sdd_space.specs.Undisturbed.{Undisturbed};
 ghost use Rattle.sdd_space.specs.RawPtr as raw;
 ghost use Rattle.sdd_space.specs.Guard.{reader_of};
-ghost use Rattle.sdd_space.specs.Out.{IsNullCell};
-ghost use Rattle.sdd_space.specs.WorldChanges.{pointing, with_pointer, without_cell};
+ghost use Rattle.sdd_world_model.specs.Out.{IsNullCell};
+ghost use Rattle.sdd_world_model.specs.WorldChanges.{pointing, with_pointer, without_cell};
 ghost use Rattle.sdd_space.specs.RawCell.{cell_of, cells_home};
-ghost use Rattle.sdd_standings.specs.Cells.{null_pointer};
+ghost use Rattle.sdd_world_model.specs.Cells.{null_pointer};
 ghost use Rattle.sdd_participants.specs.declared.standing.RawCellContents.{RawCellContents};
 ghost use Rattle.sdd_participants.specs.Slab.{IsEmptyAt, IsFull};
 
@@ -54,11 +54,11 @@ impl<T: Item<T>> AtomicRaw<T> {
     ///
     /// `NoCell` where no cell is free; `Contended`, in a domain alone, where as many exchanges were lost as its limits allow.
     pub fn new<S: RawCells<T>>(ptr: RawPtr<T>, s: &mut S) -> Result<AtomicRaw<T>, Refused>
-        requires seated { IsSeated (S.seat s.old) }
-        ensures undisturbed { Undisturbed S.seat S.own S.known S.shows s.old s.new }
-        ensures home { IfOk result (λ cell. cells_home cell ≡ (S.seat s.old).home.cells) }
-        ensures back { IfErr result (IsRefusedBy (S.seat s.old) Refused.NoCell) }
-        ensures exact { IsExact (S.seat s.old) → MatchResult result
+        requires seated { IsSeated (S.caller s.old) }
+        ensures undisturbed { Undisturbed S.caller S.own S.known S.shows s.old s.new }
+        ensures home { IfOk result (λ cell. cells_home cell ≡ (S.caller s.old).home.cells) }
+        ensures back { IfErr result (IsRefusedBy (S.caller s.old) Refused.NoCell) }
+        ensures exact { IsExact (S.caller s.old) → MatchResult result
             (λ cell. IsEmptyAt (S.world s.old).cells (cell_of cell) × (S.world s.new ≡ pointing (S.world s.old) (cell_of cell) (raw.pointer_of ptr)))
             (λ e. IsFull (S.world s.old).cells × (e ≡ Refused.NoCell) × (S.world s.new ≡ S.world s.old)) }
     {
@@ -69,11 +69,11 @@ impl<T: Item<T>> AtomicRaw<T> {
     ///
     /// `NoCell` where no cell is free; `Contended`, in a domain alone, where as many exchanges were lost as its limits allow.
     pub fn null<S: RawCells<T>>(s: &mut S) -> Result<AtomicRaw<T>, Refused>
-        requires seated { IsSeated (S.seat s.old) }
-        ensures undisturbed { Undisturbed S.seat S.own S.known S.shows s.old s.new }
-        ensures home { IfOk result (λ cell. cells_home cell ≡ (S.seat s.old).home.cells) }
-        ensures back { IfErr result (IsRefusedBy (S.seat s.old) Refused.NoCell) }
-        ensures exact { IsExact (S.seat s.old) → MatchResult result
+        requires seated { IsSeated (S.caller s.old) }
+        ensures undisturbed { Undisturbed S.caller S.own S.known S.shows s.old s.new }
+        ensures home { IfOk result (λ cell. cells_home cell ≡ (S.caller s.old).home.cells) }
+        ensures back { IfErr result (IsRefusedBy (S.caller s.old) Refused.NoCell) }
+        ensures exact { IsExact (S.caller s.old) → MatchResult result
             (λ cell. IsEmptyAt (S.world s.old).cells (cell_of cell) × (S.world s.new ≡ pointing (S.world s.old) (cell_of cell) null_pointer))
             (λ e. IsFull (S.world s.old).cells × (e ≡ Refused.NoCell) × (S.world s.new ≡ S.world s.old)) }
     {
@@ -82,10 +82,10 @@ impl<T: Item<T>> AtomicRaw<T> {
 
     /// The cell's pointer is null, whatever its tag is.
     pub fn is_null<S: RawCells<T>>(&self, s: &mut S) -> bool
-        requires seated { IsSeated (S.seat s.old) }
-        requires home { cells_home self.now ≡ (S.seat s.old).home.cells }
-        ensures undisturbed { Undisturbed S.seat S.own S.known S.shows s.old s.new }
-        ensures exact { IsExact (S.seat s.old) → (S.world s.new ≡ S.world s.old) ×
+        requires seated { IsSeated (S.caller s.old) }
+        requires home { cells_home self.now ≡ (S.caller s.old).home.cells }
+        ensures undisturbed { Undisturbed S.caller S.own S.known S.shows s.old s.new }
+        ensures exact { IsExact (S.caller s.old) → (S.world s.new ≡ S.world s.old) ×
             ((pointer : RawCellContents) × (pointer_at (S.world s.old) (cell_of self.now) ≡ Some pointer) × (IsTrue result ↔ (pointer.named ≡ None))) }
     {
         s.pointer(&self.right).named.is_none()
@@ -93,10 +93,10 @@ impl<T: Item<T>> AtomicRaw<T> {
 
     /// The tag of the cell's pointer.
     pub fn tag<S: RawCells<T>>(&self, s: &mut S) -> Tag
-        requires seated { IsSeated (S.seat s.old) }
-        requires home { cells_home self.now ≡ (S.seat s.old).home.cells }
-        ensures undisturbed { Undisturbed S.seat S.own S.known S.shows s.old s.new }
-        ensures exact { IsExact (S.seat s.old) → (S.world s.new ≡ S.world s.old) ×
+        requires seated { IsSeated (S.caller s.old) }
+        requires home { cells_home self.now ≡ (S.caller s.old).home.cells }
+        ensures undisturbed { Undisturbed S.caller S.own S.known S.shows s.old s.new }
+        ensures exact { IsExact (S.caller s.old) → (S.world s.new ≡ S.world s.old) ×
             ((pointer : RawCellContents) × (pointer_at (S.world s.old) (cell_of self.now) ≡ Some pointer) × (result ≡ pointer.tag)) }
     {
         s.pointer(&self.right).tag
@@ -104,11 +104,11 @@ impl<T: Item<T>> AtomicRaw<T> {
 
     /// The cell's pointer.
     pub fn load<S: RawCells<T>>(&self, guard: &Guard, s: &mut S) -> RawPtr<T>
-        requires seated { IsSeated (S.seat s.old) }
-        requires home { cells_home self.now ≡ (S.seat s.old).home.cells }
-        requires reader { reader_of guard.now ≡ (S.seat s.old).reader }
-        ensures undisturbed { Undisturbed S.seat S.own S.known S.shows s.old s.new }
-        ensures exact { IsExact (S.seat s.old) →
+        requires seated { IsSeated (S.caller s.old) }
+        requires home { cells_home self.now ≡ (S.caller s.old).home.cells }
+        requires reader { reader_of guard.now ≡ (S.caller s.old).reader }
+        ensures undisturbed { Undisturbed S.caller S.own S.known S.shows s.old s.new }
+        ensures exact { IsExact (S.caller s.old) →
             (pointer_at (S.world s.old) (cell_of self.now) ≡ Some (raw.pointer_of result)) × (S.world s.new ≡ S.world s.old) }
     {
         let _ = guard;
@@ -117,21 +117,21 @@ impl<T: Item<T>> AtomicRaw<T> {
 
     /// The cell has this pointer.
     pub fn store<S: RawCells<T>>(&self, ptr: RawPtr<T>, s: &mut S)
-        requires seated { IsSeated (S.seat s.old) }
-        requires home { cells_home self.now ≡ (S.seat s.old).home.cells }
-        ensures undisturbed { Undisturbed S.seat S.own S.known S.shows s.old s.new }
-        ensures exact { IsExact (S.seat s.old) → S.world s.new ≡ with_pointer (S.world s.old) (cell_of self.now) (raw.pointer_of ptr) }
+        requires seated { IsSeated (S.caller s.old) }
+        requires home { cells_home self.now ≡ (S.caller s.old).home.cells }
+        ensures undisturbed { Undisturbed S.caller S.own S.known S.shows s.old s.new }
+        ensures exact { IsExact (S.caller s.old) → S.world s.new ≡ with_pointer (S.world s.old) (cell_of self.now) (raw.pointer_of ptr) }
     {
         let _ = s.swap_raw(&self.right, ptr.pointer());
     }
 
     /// The cell has this pointer. The one before comes back.
     pub fn swap<S: RawCells<T>>(&self, ptr: RawPtr<T>, guard: &Guard, s: &mut S) -> RawPtr<T>
-        requires seated { IsSeated (S.seat s.old) }
-        requires home { cells_home self.now ≡ (S.seat s.old).home.cells }
-        requires reader { reader_of guard.now ≡ (S.seat s.old).reader }
-        ensures undisturbed { Undisturbed S.seat S.own S.known S.shows s.old s.new }
-        ensures exact { IsExact (S.seat s.old) →
+        requires seated { IsSeated (S.caller s.old) }
+        requires home { cells_home self.now ≡ (S.caller s.old).home.cells }
+        requires reader { reader_of guard.now ≡ (S.caller s.old).reader }
+        ensures undisturbed { Undisturbed S.caller S.own S.known S.shows s.old s.new }
+        ensures exact { IsExact (S.caller s.old) →
             (pointer_at (S.world s.old) (cell_of self.now) ≡ Some (raw.pointer_of result)) ×
             (S.world s.new ≡ with_pointer (S.world s.old) (cell_of self.now) (raw.pointer_of ptr)) }
     {
@@ -148,14 +148,14 @@ impl<T: Item<T>> AtomicRaw<T> {
         condition: F,
         s: &mut S,
     ) -> Result<bool, Refused>
-        requires seated { IsSeated (S.seat s.old) }
-        requires home { cells_home self.now ≡ (S.seat s.old).home.cells }
+        requires seated { IsSeated (S.caller s.old) }
+        requires home { cells_home self.now ≡ (S.caller s.old).home.cells }
         requires callable { F.IsAlwaysCallable condition }
-        ensures undisturbed { Undisturbed S.seat S.own S.known S.shows s.old s.new }
-        ensures back { IfErr result (IsContended (S.seat s.old)) }
+        ensures undisturbed { Undisturbed S.caller S.own S.known S.shows s.old s.new }
+        ensures back { IfErr result (IsContended (S.caller s.old)) }
         ensures asked { IfOk result (λ changed. (ptr : RawPtr T) ×
             WasAsked (λ p x q. F.step p x true q) (λ p x r. F.post p x r) condition ptr changed) }
-        ensures exact { IsExact (S.seat s.old) → IsOk result × IfOk result (λ changed. (ptr : RawPtr T) ×
+        ensures exact { IsExact (S.caller s.old) → IsOk result × IfOk result (λ changed. (ptr : RawPtr T) ×
             (pointer_at (S.world s.old) (cell_of self.now) ≡ Some (raw.pointer_of ptr)) × F.post condition ptr changed ×
             (S.world s.new ≡ (if changed
             then with_pointer (S.world s.old) (cell_of self.now) (record (raw.pointer_of ptr) { tag = tag }) else S.world s.old))) }
@@ -173,16 +173,16 @@ impl<T: Item<T>> AtomicRaw<T> {
         guard: &Guard,
         s: &mut S,
     ) -> Result<Result<RawPtr<T>, RawPtr<T>>, Refused>
-        requires seated { IsSeated (S.seat s.old) }
-        requires home { cells_home self.now ≡ (S.seat s.old).home.cells }
+        requires seated { IsSeated (S.caller s.old) }
+        requires home { cells_home self.now ≡ (S.caller s.old).home.cells }
         requires callable { F.IsAlwaysCallable f }
-        requires reader { reader_of guard.now ≡ (S.seat s.old).reader }
-        ensures undisturbed { Undisturbed S.seat S.own S.known S.shows s.old s.new }
-        ensures back { IfErr result (IsContended (S.seat s.old)) }
+        requires reader { reader_of guard.now ≡ (S.caller s.old).reader }
+        ensures undisturbed { Undisturbed S.caller S.own S.known S.shows s.old s.new }
+        ensures back { IfErr result (IsContended (S.caller s.old)) }
         ensures asked { IfOk result (λ updated. MatchResult updated
             (λ was. (next : RawPtr T) × WasAsked (λ p x q. (r : RawPtr T) × F.step p x (Some r) q) (λ p x r. F.post p x r) f was (Some next))
             (λ now. WasAsked (λ p x q. (r : RawPtr T) × F.step p x (Some r) q) (λ p x r. F.post p x r) f now None)) }
-        ensures exact { IsExact (S.seat s.old) → IsOk result × IfOk result (λ updated. MatchResult updated
+        ensures exact { IsExact (S.caller s.old) → IsOk result × IfOk result (λ updated. MatchResult updated
             (λ was. (next : RawPtr T) × (pointer_at (S.world s.old) (cell_of self.now) ≡ Some (raw.pointer_of was)) × F.post f was (Some next) ×
             (S.world s.new ≡ with_pointer (S.world s.old) (cell_of self.now) (raw.pointer_of next)))
             (λ now. (pointer_at (S.world s.old) (cell_of self.now) ≡ Some (raw.pointer_of now)) × F.post f now None × (S.world s.new ≡ S.world s.old))) }
@@ -199,13 +199,13 @@ impl<T: Item<T>> AtomicRaw<T> {
         guard: &Guard,
         s: &mut S,
     ) -> Result<RawPtr<T>, RawPtr<T>>
-        requires seated { IsSeated (S.seat s.old) }
-        requires home { cells_home self.now ≡ (S.seat s.old).home.cells }
-        requires reader { reader_of guard.now ≡ (S.seat s.old).reader }
-        ensures undisturbed { Undisturbed S.seat S.own S.known S.shows s.old s.new }
+        requires seated { IsSeated (S.caller s.old) }
+        requires home { cells_home self.now ≡ (S.caller s.old).home.cells }
+        requires reader { reader_of guard.now ≡ (S.caller s.old).reader }
+        ensures undisturbed { Undisturbed S.caller S.own S.known S.shows s.old s.new }
         ensures old { IfOk result (λ ptr. ptr ≡ current) }
         ensures differs { IfErr result (λ ptr. raw.pointer_of ptr ≢ raw.pointer_of current) }
-        ensures exact { IsExact (S.seat s.old) → MatchResult result
+        ensures exact { IsExact (S.caller s.old) → MatchResult result
             (λ _. (pointer_at (S.world s.old) (cell_of self.now) ≡ Some (raw.pointer_of current)) ×
             (S.world s.new ≡ with_pointer (S.world s.old) (cell_of self.now) (raw.pointer_of new)))
             (λ ptr. (pointer_at (S.world s.old) (cell_of self.now) ≡ Some (raw.pointer_of ptr)) × (raw.pointer_of ptr ≢ raw.pointer_of current) ×
@@ -220,10 +220,10 @@ impl<T: Item<T>> AtomicRaw<T> {
 
     /// Frees the cell. What it points to is as before.
     pub fn close<S: RawCells<T>>(self, s: &mut S)
-        requires seated { IsSeated (S.seat s.old) }
-        requires home { cells_home self ≡ (S.seat s.old).home.cells }
-        ensures undisturbed { Undisturbed S.seat S.own S.known S.shows s.old s.new }
-        ensures exact { IsExact (S.seat s.old) → IsNullCell (S.world s.old) (cell_of self) ×
+        requires seated { IsSeated (S.caller s.old) }
+        requires home { cells_home self ≡ (S.caller s.old).home.cells }
+        ensures undisturbed { Undisturbed S.caller S.own S.known S.shows s.old s.new }
+        ensures exact { IsExact (S.caller s.old) → IsNullCell (S.world s.old) (cell_of self) ×
             (S.world s.new ≡ without_cell (S.world s.old) (cell_of self)) }
     {
         s.close_raw_cell(self.into_right());

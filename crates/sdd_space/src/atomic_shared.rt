@@ -1,17 +1,17 @@
 ghost use Rattle.std.specs.Prelude.{ℕ, ◌≡◌, ◌≢◌, ◌+◌, ◌^◌, ◌<◌, ◌⊎◌, ◌↔◌, IfErr, IfOk, IfSome, IsOk, IsSome, IsTrue, MatchOption, MatchResult, None, Some, if◌then◌else◌, option_map, true};
 ghost use Rattle.sdd_rights.specs.Right.{kind_of};
-ghost use Rattle.sdd_standings.specs.Slots.{IsSharedBy};
-ghost use Rattle.sdd_space.specs.Asked.{WasAsked};
-ghost use Rattle.sdd_space.specs.OwnerOrCell.{AreOf};
-ghost use Rattle.sdd_space.specs.World.{World, standing_at};
+ghost use Rattle.sdd_world_model.specs.Slots.{IsSharedBy};
+ghost use Rattle.sdd_world_model.specs.Asked.{WasAsked};
+ghost use Rattle.sdd_world_model.specs.OwnerOrCell.{AreOf};
+ghost use Rattle.sdd_world_model.specs.World.{World, standing_at};
 ghost use Rattle.sdd_space.specs.CallerId.{IsSeated, IsExact};
 ghost use Rattle.sdd_space.specs.Refusals.{IsContended, IsRefusedBy};
 ghost use Rattle.sdd_space.specs.Undisturbed.{Undisturbed, Unmoved};
-ghost use Rattle.sdd_space.specs.ParticipantChanges.{HasContentsGivenUp};
+ghost use Rattle.sdd_world_model.specs.ParticipantChanges.{HasContentsGivenUp};
 ghost use Rattle.sdd_space.specs.Ptr.{PtrIsShown, cell_seen, slot_named, shown_by, tag_of};
 ghost use Rattle.sdd_space.specs.RawPtr as raw;
 ghost use Rattle.sdd_space.specs.Guard.{reader_of};
-ghost use Rattle.sdd_space.specs.WorldChanges.{made_shared, nulled, with_cell, without_cell, with_standing, cell_closed};
+ghost use Rattle.sdd_world_model.specs.WorldChanges.{made_shared, nulled, with_cell, without_cell, with_standing, cell_closed};
 ghost use Rattle.sdd_space.specs.Shared.{right_of, slot_of, slots_home, cell_right, cell_of, cells_home, cell_with, IsOfSlots};
 ghost use Rattle.sdd_core.specs.declared.tag.Tag.TheVariants.{None as no_tag};
 ghost use Rattle.sdd_participants.specs.Slab.{IsEmptyAt, IsFull, entry_at};
@@ -73,14 +73,14 @@ impl<T: Item<T>> AtomicShared<T> {
     /// `NoSlot` where no slot is free, else `NoCell` where no cell is; `Contended`, in a domain alone, where as many exchanges were lost as its limits
     /// allow. The value comes back.
     pub fn new<S: Cells<T>>(value: T, s: &mut S) -> Result<AtomicShared<T>, (T, Refused)>
-        requires seated { IsSeated (S.seat s.old) }
-        requires home { AreOf (S.seat s.old).home (T.holds value) }
-        ensures undisturbed { Undisturbed S.seat S.own S.known S.shows s.old s.new }
-        ensures home { IfOk result (λ cell. cells_home cell ≡ (S.seat s.old).home.cells) }
-        ensures shown { IsExact (S.seat s.old) → IfOk result (λ cell. (slot : ℕ) × S.shows s.new slot value ×
+        requires seated { IsSeated (S.caller s.old) }
+        requires home { AreOf (S.caller s.old).home (T.holds value) }
+        ensures undisturbed { Undisturbed S.caller S.own S.known S.shows s.old s.new }
+        ensures home { IfOk result (λ cell. cells_home cell ≡ (S.caller s.old).home.cells) }
+        ensures shown { IsExact (S.caller s.old) → IfOk result (λ cell. (slot : ℕ) × S.shows s.new slot value ×
             (entry_at (S.world s.new).cells (cell_of cell) ≡ Some (record { held = Some slot; tag = no_tag }))) }
-        ensures back { IfErr result (λ e. (e.0 ≡ value) × ((e.1 ≡ Refused.NoSlot) ⊎ IsRefusedBy (S.seat s.old) Refused.NoCell e.1)) }
-        ensures exact { IsExact (S.seat s.old) → MatchResult result
+        ensures back { IfErr result (λ e. (e.0 ≡ value) × ((e.1 ≡ Refused.NoSlot) ⊎ IsRefusedBy (S.caller s.old) Refused.NoCell e.1)) }
+        ensures exact { IsExact (S.caller s.old) → MatchResult result
             (λ cell. (slot : ℕ) × IsEmptyAt (S.world s.old).standings slot × IsEmptyAt (S.world s.old).cells (cell_of cell) ×
             (S.world s.new ≡ with_cell (made_shared (S.world s.old) slot value) (cell_of cell) (record { held = Some slot; tag = no_tag })))
             (λ e. (IsFull (S.world s.old).standings × (e ≡ (value, Refused.NoSlot)) ⊎
@@ -96,12 +96,12 @@ impl<T: Item<T>> AtomicShared<T> {
         owner: Shared<T>,
         s: &mut S,
     ) -> Result<AtomicShared<T>, (Shared<T>, Refused)>
-        requires seated { IsSeated (S.seat s.old) }
-        requires home { slots_home owner ≡ (S.seat s.old).home.slots }
-        ensures undisturbed { Undisturbed S.seat S.own S.known S.shows s.old s.new }
-        ensures home { IfOk result (λ cell. cells_home cell ≡ (S.seat s.old).home.cells) }
-        ensures back { IfErr result (λ e. (right_of e.0 ≡ right_of owner) × IsRefusedBy (S.seat s.old) Refused.NoCell e.1) }
-        ensures exact { IsExact (S.seat s.old) → MatchResult result
+        requires seated { IsSeated (S.caller s.old) }
+        requires home { slots_home owner ≡ (S.caller s.old).home.slots }
+        ensures undisturbed { Undisturbed S.caller S.own S.known S.shows s.old s.new }
+        ensures home { IfOk result (λ cell. cells_home cell ≡ (S.caller s.old).home.cells) }
+        ensures back { IfErr result (λ e. (right_of e.0 ≡ right_of owner) × IsRefusedBy (S.caller s.old) Refused.NoCell e.1) }
+        ensures exact { IsExact (S.caller s.old) → MatchResult result
             (λ cell. IsEmptyAt (S.world s.old).cells (cell_of cell) ×
             (S.world s.new ≡ with_cell (S.world s.old) (cell_of cell) (cell_with (Some owner) no_tag)))
             (λ e. IsFull (S.world s.old).cells × (e.1 ≡ Refused.NoCell) × (S.world s.new ≡ S.world s.old)) }
@@ -119,11 +119,11 @@ impl<T: Item<T>> AtomicShared<T> {
     ///
     /// `NoCell` where no cell is free; `Contended`, in a domain alone, where as many exchanges were lost as its limits allow.
     pub fn null<S: Cells<T>>(s: &mut S) -> Result<AtomicShared<T>, Refused>
-        requires seated { IsSeated (S.seat s.old) }
-        ensures undisturbed { Undisturbed S.seat S.own S.known S.shows s.old s.new }
-        ensures home { IfOk result (λ cell. cells_home cell ≡ (S.seat s.old).home.cells) }
-        ensures back { IfErr result (IsRefusedBy (S.seat s.old) Refused.NoCell) }
-        ensures exact { IsExact (S.seat s.old) → MatchResult result
+        requires seated { IsSeated (S.caller s.old) }
+        ensures undisturbed { Undisturbed S.caller S.own S.known S.shows s.old s.new }
+        ensures home { IfOk result (λ cell. cells_home cell ≡ (S.caller s.old).home.cells) }
+        ensures back { IfErr result (IsRefusedBy (S.caller s.old) Refused.NoCell) }
+        ensures exact { IsExact (S.caller s.old) → MatchResult result
             (λ cell. IsEmptyAt (S.world s.old).cells (cell_of cell) × (S.world s.new ≡ nulled (S.world s.old) (cell_of cell)))
             (λ e. IsFull (S.world s.old).cells × (e ≡ Refused.NoCell) × (S.world s.new ≡ S.world s.old)) }
     {
@@ -138,10 +138,10 @@ impl<T: Item<T>> AtomicShared<T> {
 
     /// The cell holds nothing.
     pub fn is_null<S: Cells<T>>(&self, s: &mut S) -> bool
-        requires seated { IsSeated (S.seat s.old) }
-        requires home { cells_home self.now ≡ (S.seat s.old).home.cells }
-        ensures undisturbed { Undisturbed S.seat S.own S.known S.shows s.old s.new }
-        ensures exact { IsExact (S.seat s.old) → (S.world s.new ≡ S.world s.old) ×
+        requires seated { IsSeated (S.caller s.old) }
+        requires home { cells_home self.now ≡ (S.caller s.old).home.cells }
+        ensures undisturbed { Undisturbed S.caller S.own S.known S.shows s.old s.new }
+        ensures exact { IsExact (S.caller s.old) → (S.world s.new ≡ S.world s.old) ×
             ((cell : CellContents) × (entry_at (S.world s.old).cells (cell_of self.now) ≡ Some cell) × (IsTrue result ↔ (cell.held ≡ None))) }
     {
         s.cell(self.right()).held.is_none()
@@ -149,10 +149,10 @@ impl<T: Item<T>> AtomicShared<T> {
 
     /// The cell's tag.
     pub fn tag<S: Cells<T>>(&self, s: &mut S) -> Tag
-        requires seated { IsSeated (S.seat s.old) }
-        requires home { cells_home self.now ≡ (S.seat s.old).home.cells }
-        ensures undisturbed { Undisturbed S.seat S.own S.known S.shows s.old s.new }
-        ensures exact { IsExact (S.seat s.old) → (S.world s.new ≡ S.world s.old) ×
+        requires seated { IsSeated (S.caller s.old) }
+        requires home { cells_home self.now ≡ (S.caller s.old).home.cells }
+        ensures undisturbed { Undisturbed S.caller S.own S.known S.shows s.old s.new }
+        ensures exact { IsExact (S.caller s.old) → (S.world s.new ≡ S.world s.old) ×
             ((cell : CellContents) × (entry_at (S.world s.old).cells (cell_of self.now) ≡ Some cell) × (result ≡ cell.tag)) }
     {
         s.cell(self.right()).tag
@@ -162,14 +162,14 @@ impl<T: Item<T>> AtomicShared<T> {
     /// the cell and the item. The guard is one of the participant that calls.
     #[inline(always)]
     pub fn load<'g, S: Cells<T>>(&self, guard: &'g Guard, s: &mut S) -> Ptr<'g, T>
-        requires seated { IsSeated (S.seat s.old) }
-        requires home { cells_home self.now ≡ (S.seat s.old).home.cells }
-        requires reader { reader_of guard.now ≡ (S.seat s.old).reader }
-        ensures undisturbed { Undisturbed S.seat S.own S.known S.shows s.old s.new }
+        requires seated { IsSeated (S.caller s.old) }
+        requires home { cells_home self.now ≡ (S.caller s.old).home.cells }
+        requires reader { reader_of guard.now ≡ (S.caller s.old).reader }
+        ensures undisturbed { Undisturbed S.caller S.own S.known S.shows s.old s.new }
         ensures shown { PtrIsShown (S.shows s.new) result }
-        ensures owned { IsExact (S.seat s.old) →
+        ensures owned { IsExact (S.caller s.old) →
             IfSome (slot_named result) (λ slot. (owners : ℕ) × IsSharedBy owners (standing_at (S.world s.old) slot)) }
-        ensures exact { IsExact (S.seat s.old) → (entry_at (S.world s.old).cells (cell_of self.now) ≡ Some (cell_seen result)) ×
+        ensures exact { IsExact (S.caller s.old) → (entry_at (S.world s.old).cells (cell_of self.now) ≡ Some (cell_seen result)) ×
             (S.world s.new ≡ S.world s.old) }
     {
         s.load(self.right(), guard)
@@ -182,12 +182,12 @@ impl<T: Item<T>> AtomicShared<T> {
         next: (Option<Shared<T>>, Tag),
         s: &mut S,
     ) -> (Option<Shared<T>>, Tag)
-        requires seated { IsSeated (S.seat s.old) }
-        requires home { cells_home self.now ≡ (S.seat s.old).home.cells }
-        requires owner { IsOfSlots (S.seat s.old).home.slots next.0 }
-        ensures undisturbed { Undisturbed S.seat S.own S.known S.shows s.old s.new }
-        ensures owner { IsOfSlots (S.seat s.old).home.slots result.0 }
-        ensures exact { IsExact (S.seat s.old) → (entry_at (S.world s.old).cells (cell_of self.now) ≡ Some (cell_with result.0 result.1)) ×
+        requires seated { IsSeated (S.caller s.old) }
+        requires home { cells_home self.now ≡ (S.caller s.old).home.cells }
+        requires owner { IsOfSlots (S.caller s.old).home.slots next.0 }
+        ensures undisturbed { Undisturbed S.caller S.own S.known S.shows s.old s.new }
+        ensures owner { IsOfSlots (S.caller s.old).home.slots result.0 }
+        ensures exact { IsExact (S.caller s.old) → (entry_at (S.world s.old).cells (cell_of self.now) ≡ Some (cell_with result.0 result.1)) ×
             (S.world s.new ≡ with_cell (S.world s.old) (cell_of self.now) (cell_with next.0 next.1)) }
     {
         let (owner, tag) = next;
@@ -209,14 +209,14 @@ impl<T: Item<T>> AtomicShared<T> {
         condition: F,
         s: &mut S,
     ) -> Result<bool, Refused>
-        requires seated { IsSeated (S.seat s.old) }
-        requires home { cells_home self.now ≡ (S.seat s.old).home.cells }
+        requires seated { IsSeated (S.caller s.old) }
+        requires home { cells_home self.now ≡ (S.caller s.old).home.cells }
         requires callable { F.IsAlwaysCallable condition }
-        ensures undisturbed { Undisturbed S.seat S.own S.known S.shows s.old s.new }
-        ensures back { IfErr result (IsContended (S.seat s.old)) }
+        ensures undisturbed { Undisturbed S.caller S.own S.known S.shows s.old s.new }
+        ensures back { IfErr result (IsContended (S.caller s.old)) }
         ensures asked { IfOk result (λ changed. (ptr : RawPtr T) ×
             WasAsked (λ p x q. F.step p x true q) (λ p x r. F.post p x r) condition ptr changed) }
-        ensures exact { IsExact (S.seat s.old) → IsOk result × IfOk result (λ changed. (ptr : RawPtr T) ×
+        ensures exact { IsExact (S.caller s.old) → IsOk result × IfOk result (λ changed. (ptr : RawPtr T) ×
             (entry_at (S.world s.old).cells (cell_of self.now) ≡ Some (raw.cell_seen ptr)) × F.post condition ptr changed ×
             (S.world s.new ≡ (if changed then with_cell (S.world s.old) (cell_of self.now) (record (raw.cell_seen ptr) { tag = tag }) else S.world s.old))) }
     {
@@ -233,17 +233,17 @@ impl<T: Item<T>> AtomicShared<T> {
         guard: &'g Guard,
         s: &mut S,
     ) -> Result<SharedPtrPair<'g, T>, SharedPtrPair<'g, T>>
-        requires seated { IsSeated (S.seat s.old) }
-        requires home { cells_home self.now ≡ (S.seat s.old).home.cells }
-        requires owner { IsOfSlots (S.seat s.old).home.slots next.0 }
-        requires reader { reader_of guard.now ≡ (S.seat s.old).reader }
-        ensures undisturbed { Undisturbed S.seat S.own S.known S.shows s.old s.new }
-        ensures owner { IfOk result (λ o. IsOfSlots (S.seat s.old).home.slots o.0) }
+        requires seated { IsSeated (S.caller s.old) }
+        requires home { cells_home self.now ≡ (S.caller s.old).home.cells }
+        requires owner { IsOfSlots (S.caller s.old).home.slots next.0 }
+        requires reader { reader_of guard.now ≡ (S.caller s.old).reader }
+        ensures undisturbed { Undisturbed S.caller S.own S.known S.shows s.old s.new }
+        ensures owner { IfOk result (λ o. IsOfSlots (S.caller s.old).home.slots o.0) }
         ensures old { IfOk result (λ o. option_map slot_of o.0 ≡ slot_named current.entry) }
         ensures now { IfOk result (λ o. cell_seen o.1 ≡ cell_with next.0 next.1) }
         ensures back { IfErr result (λ e. option_map right_of e.0 ≡ option_map right_of next.0) }
         ensures shown { MatchResult result (λ o. PtrIsShown (S.shows s.new) o.1) (λ e. PtrIsShown (S.shows s.new) e.1) }
-        ensures exact { IsExact (S.seat s.old) → MatchResult result
+        ensures exact { IsExact (S.caller s.old) → MatchResult result
             (λ _. (entry_at (S.world s.old).cells (cell_of self.now) ≡ Some (cell_seen current.entry)) ×
             (S.world s.new ≡ with_cell (S.world s.old) (cell_of self.now) (cell_with next.0 next.1)))
             (λ e. (entry_at (S.world s.old).cells (cell_of self.now) ≡ Some (cell_seen e.1)) × (cell_seen e.1 ≢ cell_seen current.entry) ×
@@ -275,17 +275,17 @@ impl<T: Item<T>> AtomicShared<T> {
         guard: &'g Guard,
         s: &mut S,
     ) -> Result<SharedPtrPair<'g, T>, SharedPtrPair<'g, T>>
-        requires seated { IsSeated (S.seat s.old) }
-        requires home { cells_home self.now ≡ (S.seat s.old).home.cells }
-        requires owner { IsOfSlots (S.seat s.old).home.slots next.0 }
-        requires reader { reader_of guard.now ≡ (S.seat s.old).reader }
-        ensures undisturbed { Undisturbed S.seat S.own S.known S.shows s.old s.new }
-        ensures owner { IfOk result (λ o. IsOfSlots (S.seat s.old).home.slots o.0) }
+        requires seated { IsSeated (S.caller s.old) }
+        requires home { cells_home self.now ≡ (S.caller s.old).home.cells }
+        requires owner { IsOfSlots (S.caller s.old).home.slots next.0 }
+        requires reader { reader_of guard.now ≡ (S.caller s.old).reader }
+        ensures undisturbed { Undisturbed S.caller S.own S.known S.shows s.old s.new }
+        ensures owner { IfOk result (λ o. IsOfSlots (S.caller s.old).home.slots o.0) }
         ensures old { IfOk result (λ o. option_map slot_of o.0 ≡ slot_named current.entry) }
         ensures now { IfOk result (λ o. cell_seen o.1 ≡ cell_with next.0 next.1) }
         ensures back { IfErr result (λ e. option_map right_of e.0 ≡ option_map right_of next.0) }
         ensures shown { MatchResult result (λ o. PtrIsShown (S.shows s.new) o.1) (λ e. PtrIsShown (S.shows s.new) e.1) }
-        ensures exact { IsExact (S.seat s.old) → MatchResult result
+        ensures exact { IsExact (S.caller s.old) → MatchResult result
             (λ _. (entry_at (S.world s.old).cells (cell_of self.now) ≡ Some (cell_seen current.entry)) ×
             (S.world s.new ≡ with_cell (S.world s.old) (cell_of self.now) (cell_with next.0 next.1)))
             (λ e. (entry_at (S.world s.old).cells (cell_of self.now) ≡ Some (cell_seen e.1)) × (cell_seen e.1 ≢ cell_seen current.entry) ×
@@ -296,11 +296,11 @@ impl<T: Item<T>> AtomicShared<T> {
 
     /// Frees the cell. What it held comes back.
     pub fn into_shared<S: Cells<T>>(self, s: &mut S) -> Option<Shared<T>>
-        requires seated { IsSeated (S.seat s.old) }
-        requires home { cells_home self ≡ (S.seat s.old).home.cells }
-        ensures undisturbed { Undisturbed S.seat S.own S.known S.shows s.old s.new }
-        ensures owner { IsOfSlots (S.seat s.old).home.slots result }
-        ensures exact { IsExact (S.seat s.old) → ((tag : Tag) × (entry_at (S.world s.old).cells (cell_of self) ≡ Some (cell_with result tag))) ×
+        requires seated { IsSeated (S.caller s.old) }
+        requires home { cells_home self ≡ (S.caller s.old).home.cells }
+        ensures undisturbed { Undisturbed S.caller S.own S.known S.shows s.old s.new }
+        ensures owner { IsOfSlots (S.caller s.old).home.slots result }
+        ensures exact { IsExact (S.caller s.old) → ((tag : Tag) × (entry_at (S.world s.old).cells (cell_of self) ≡ Some (cell_with result tag))) ×
             (S.world s.new ≡ without_cell (S.world s.old) (cell_of self)) }
     {
         Shared::of_held(s.into_contents(self.into_right(), StandingKind::Shared))
@@ -308,11 +308,11 @@ impl<T: Item<T>> AtomicShared<T> {
 
     /// Frees the cell, and gives up what it holds.
     pub fn close<S: Items<T> + Cells<T>>(self, s: &mut S)
-        requires seated { IsSeated (S.seat s.old) }
-        requires home { cells_home self ≡ (S.seat s.old).home.cells }
-        ensures unmoved { Unmoved S.seat S.known S.shows s.old s.new }
+        requires seated { IsSeated (S.caller s.old) }
+        requires home { cells_home self ≡ (S.caller s.old).home.cells }
+        ensures unmoved { Unmoved S.caller S.known S.shows s.old s.new }
         ensures own { HasContentsGivenUp (S.own s.old) (S.own s.new) }
-        ensures exact { IsExact (S.seat s.old) → S.world s.new ≡ cell_closed (S.world s.old) (S.seat s.old).place (cell_of self) }
+        ensures exact { IsExact (S.caller s.old) → S.world s.new ≡ cell_closed (S.world s.old) (S.caller s.old).place (cell_of self) }
     {
         if let Some(right) = s.into_contents(self.into_right(), StandingKind::Shared) {
             let _ = s.release(right, StandingKind::Shared);
@@ -328,13 +328,13 @@ impl<T: Item<T>> AtomicShared<T> {
         guard: &Guard,
         s: &mut S,
     ) -> Result<Option<Shared<T>>, Refused>
-        requires seated { IsSeated (S.seat s.old) }
-        requires home { cells_home self.now ≡ (S.seat s.old).home.cells }
-        requires reader { reader_of guard.now ≡ (S.seat s.old).reader }
-        ensures undisturbed { Undisturbed S.seat S.own S.known S.shows s.old s.new }
-        ensures owner { IfOk result (IsOfSlots (S.seat s.old).home.slots) }
-        ensures back { IfErr result (IsRefusedBy (S.seat s.old) Refused.TooManyOwners) }
-        ensures exact { IsExact (S.seat s.old) → (cell : CellContents) × (entry_at (S.world s.old).cells (cell_of self.now) ≡ Some cell) × MatchResult result
+        requires seated { IsSeated (S.caller s.old) }
+        requires home { cells_home self.now ≡ (S.caller s.old).home.cells }
+        requires reader { reader_of guard.now ≡ (S.caller s.old).reader }
+        ensures undisturbed { Undisturbed S.caller S.own S.known S.shows s.old s.new }
+        ensures owner { IfOk result (IsOfSlots (S.caller s.old).home.slots) }
+        ensures back { IfErr result (IsRefusedBy (S.caller s.old) Refused.TooManyOwners) }
+        ensures exact { IsExact (S.caller s.old) → (cell : CellContents) × (entry_at (S.world s.old).cells (cell_of self.now) ≡ Some cell) × MatchResult result
             (λ o. (option_map slot_of o ≡ cell.held) × MatchOption o (S.world s.new ≡ S.world s.old)
             (λ owner. (owners : ℕ) × IsSharedBy owners (standing_at (S.world s.old) (slot_of owner)) × (owners < 2 ^ 62) ×
             (S.world s.new ≡ with_standing (S.world s.old) (slot_of owner) (Standing.Shared (owners + 1)))))
@@ -352,13 +352,13 @@ impl<T: Item<T>> AtomicShared<T> {
     /// `NoCell` where no cell is free, else `TooManyOwners` where 2^62 own the item, cells counted; `Contended`, in a domain alone, where as many exchanges
     /// were lost as its limits allow.
     pub fn clone<S: Cells<T>>(&self, guard: &Guard, s: &mut S) -> Result<AtomicShared<T>, Refused>
-        requires seated { IsSeated (S.seat s.old) }
-        requires home { cells_home self.now ≡ (S.seat s.old).home.cells }
-        requires reader { reader_of guard.now ≡ (S.seat s.old).reader }
-        ensures undisturbed { Undisturbed S.seat S.own S.known S.shows s.old s.new }
-        ensures home { IfOk result (λ other. cells_home other ≡ (S.seat s.old).home.cells) }
-        ensures back { IfErr result (λ e. (e ≡ Refused.NoCell) ⊎ IsRefusedBy (S.seat s.old) Refused.TooManyOwners e) }
-        ensures exact { IsExact (S.seat s.old) → (cell : CellContents) × (entry_at (S.world s.old).cells (cell_of self.now) ≡ Some cell) × MatchResult result
+        requires seated { IsSeated (S.caller s.old) }
+        requires home { cells_home self.now ≡ (S.caller s.old).home.cells }
+        requires reader { reader_of guard.now ≡ (S.caller s.old).reader }
+        ensures undisturbed { Undisturbed S.caller S.own S.known S.shows s.old s.new }
+        ensures home { IfOk result (λ other. cells_home other ≡ (S.caller s.old).home.cells) }
+        ensures back { IfErr result (λ e. (e ≡ Refused.NoCell) ⊎ IsRefusedBy (S.caller s.old) Refused.TooManyOwners e) }
+        ensures exact { IsExact (S.caller s.old) → (cell : CellContents) × (entry_at (S.world s.old).cells (cell_of self.now) ≡ Some cell) × MatchResult result
             (λ other. IsEmptyAt (S.world s.old).cells (cell_of other) × MatchOption cell.held
             (S.world s.new ≡ with_cell (S.world s.old) (cell_of other) cell)
             (λ slot. (owners : ℕ) × IsSharedBy owners (standing_at (S.world s.old) slot) × (owners < 2 ^ 62) ×

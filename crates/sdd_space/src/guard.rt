@@ -13,9 +13,9 @@ use sdd_values::{ReadSection, SectionState};
 #[derive_where(Debug)]
 pub struct Guard {
     #[derive_where(skip)]
-    part: ReadSection,
-    pub ghost open: { part.kind ≡ SectionState.Open },
-    pub ghost single: { part.units ≡ 1 },
+    section: ReadSection,
+    pub ghost open: { section.kind ≡ SectionState.Open },
+    pub ghost single: { section.units ≡ 1 },
 }
 
 const _: () = prove!(size_of::<Guard>() == 0);
@@ -25,16 +25,16 @@ impl Guard {
     ghost use Rattle.sdd_participants.specs.declared.waiting.LimboEntry.TheVariants.{Job};
     ghost use Rattle.sdd_participants.specs.Slab.{IsEmptyAt, IsFull};
     ghost use Rattle.sdd_core.specs.Epoch.{epoch_of};
-    ghost use Rattle.sdd_space.specs.World.{World, place_at};
+    ghost use Rattle.sdd_world_model.specs.World.{World, place_at};
     ghost use Rattle.sdd_space.specs.CallerId.{IsSeated, IsExact, IsLone, MayNest};
     ghost use Rattle.sdd_space.specs.Refusals.{IsRefusedBy};
-    ghost use Rattle.sdd_space.specs.ParticipantChanges.{GuardOpened, GuardClosed};
-    ghost use Rattle.sdd_space.specs.KnownEpochs.{KnowsOn, KnowsOpened, KnowsClosed, IsNear, IsRaisedBy};
+    ghost use Rattle.sdd_world_model.specs.ParticipantChanges.{GuardOpened, GuardClosed};
+    ghost use Rattle.sdd_world_model.specs.KnownEpochs.{KnowsOn, KnowsOpened, KnowsClosed, IsNear, IsRaisedBy};
     ghost use Rattle.sdd_space.specs.Undisturbed.{Undisturbed, Unmoved};
     ghost use Rattle.sdd_rights.specs.declared.right.Right.{Right};
     ghost use Rattle.sdd_space.specs.Ptr.{KeepsShown};
     ghost use Rattle.sdd_space.specs.Guard.{reader_of};
-    ghost use Rattle.sdd_space.specs.WorldChanges.{opened, closed, deferred, stirred, accelerated};
+    ghost use Rattle.sdd_world_model.specs.WorldChanges.{opened, closed, deferred, stirred, accelerated};
     ghost use Rattle.sdd_participants.specs.EpochState.{CanNest, is_open, with_garbage, has_garbage};
     ghost use Rattle.sdd_participants.specs.EpochState as time;
 
@@ -44,56 +44,56 @@ impl Guard {
     /// `TooManyGuards` where as many are open as may nest.
     #[inline(always)]
     pub fn new<T: Item<T>, S: Guards<T>>(s: &mut S) -> Result<Guard, Refused>
-        requires seated { IsSeated (S.seat s.old) }
-        ensures seat { S.seat s.new ≡ S.seat s.old }
-        ensures reader { IfOk result (λ guard. reader_of guard ≡ (S.seat s.old).reader) }
+        requires seated { IsSeated (S.caller s.old) }
+        ensures caller { S.caller s.new ≡ S.caller s.old }
+        ensures reader { IfOk result (λ guard. reader_of guard ≡ (S.caller s.old).reader) }
         ensures own { MatchResult result
-            (λ _. MayNest (S.seat s.old) (S.own s.old) × GuardOpened (S.own s.old) (S.own s.new))
-            (λ e. (e ≡ Refused.TooManyGuards) × ¬ (MayNest (S.seat s.old) (S.own s.old)) × (S.own s.new ≡ S.own s.old)) }
+            (λ _. MayNest (S.caller s.old) (S.own s.old) × GuardOpened (S.own s.old) (S.own s.new))
+            (λ e. (e ≡ Refused.TooManyGuards) × ¬ (MayNest (S.caller s.old) (S.own s.old)) × (S.own s.new ≡ S.own s.old)) }
         ensures known { MatchResult result
             (λ _. KnowsOpened (S.known s.old) (S.own s.old) (S.own s.new) (S.known s.new))
             (λ _. KnowsOn (S.known s.old) (S.known s.new)) }
-        ensures lone { IsLone (S.seat s.old) → (S.known s.new).told ≡ (S.known s.old).told }
-        ensures exact { IsExact (S.seat s.old) → MatchResult result
-            (λ _. CanNest (S.world s.old).time (S.seat s.old).place × (S.world s.new ≡ opened T.holds (S.world s.old) (S.seat s.old).place))
-            (λ e. (e ≡ Refused.TooManyGuards) × ¬ (CanNest (S.world s.old).time (S.seat s.old).place) × (S.world s.new ≡ S.world s.old)) }
+        ensures lone { IsLone (S.caller s.old) → (S.known s.new).told ≡ (S.known s.old).told }
+        ensures exact { IsExact (S.caller s.old) → MatchResult result
+            (λ _. CanNest (S.world s.old).time (S.caller s.old).place × (S.world s.new ≡ opened T.holds (S.world s.old) (S.caller s.old).place))
+            (λ e. (e ≡ Refused.TooManyGuards) × ¬ (CanNest (S.world s.old).time (S.caller s.old).place) × (S.world s.new ≡ S.world s.old)) }
         ensures keeps { IsTrue (is_open (S.own s.old)) → KeepsShown (S.shows s.old) (S.shows s.new) }
         ensures says { S.says_at_opening s.old s.new }
     {
         s.new_guard()
     }
 
-    pub(crate) fn of_part(part: ReadSection) -> Guard
-        requires open { part.kind ≡ SectionState.Open }
-        requires single { part.units ≡ 1 }
-        ensures { result.part ≡ part }
+    pub(crate) fn of_section(section: ReadSection) -> Guard
+        requires open { section.kind ≡ SectionState.Open }
+        requires single { section.units ≡ 1 }
+        ensures { result.section ≡ section }
     {
-        Guard { part }
+        Guard { section }
     }
 
-    pub(crate) fn into_part(self) -> ReadSection
-        ensures { result ≡ self.part }
+    pub(crate) fn into_section(self) -> ReadSection
+        ensures { result ≡ self.section }
     {
-        let Guard { part } = self;
-        part
+        let Guard { section } = self;
+        section
     }
 
-    pub(crate) fn part(&self) -> &ReadSection
-        ensures { result.now ≡ self.now.part }
+    pub(crate) fn section(&self) -> &ReadSection
+        ensures { result.now ≡ self.now.section }
     {
-        &self.part
+        &self.section
     }
 
     /// Closes the guard. The outermost close at countdown 0, as `accelerate` sets it, first tries to raise the count. What owners own is as before.
     #[inline(always)]
     pub fn close<T: Item<T>, S: Guards<T>>(self, s: &mut S)
-        requires seated { IsSeated (S.seat s.old) }
-        requires reader { reader_of self ≡ (S.seat s.old).reader }
-        ensures seat { S.seat s.new ≡ S.seat s.old }
+        requires seated { IsSeated (S.caller s.old) }
+        requires reader { reader_of self ≡ (S.caller s.old).reader }
+        ensures caller { S.caller s.new ≡ S.caller s.old }
         ensures own { GuardClosed (S.own s.old) (S.own s.new) }
         ensures known { KnowsClosed (S.known s.old) (S.known s.new) (S.own s.new) }
-        ensures lone { IsLone (S.seat s.old) → IsRaisedBy (S.own s.old) (S.known s.old).told (S.known s.new).told }
-        ensures exact { IsExact (S.seat s.old) → S.world s.new ≡ closed (S.world s.old) (S.seat s.old).place }
+        ensures lone { IsLone (S.caller s.old) → IsRaisedBy (S.own s.old) (S.known s.old).told (S.known s.new).told }
+        ensures exact { IsExact (S.caller s.old) → S.world s.new ≡ closed (S.world s.old) (S.caller s.old).place }
         ensures keeps { IsTrue (is_open (S.own s.new)) → KeepsShown (S.shows s.old) (S.shows s.new) }
         ensures owned { (right : Right) (value : T) → S.owns_value s.old right value → S.owns_value s.new right value }
         ensures says { S.says_at_close s.old s.new }
@@ -104,12 +104,12 @@ impl Guard {
     /// The global epoch at this moment, which isn't always the one that the guard published. Under one open guard it is the one answered before, or the next.
     #[inline]
     pub fn epoch<T: Item<T>, S: Guards<T>>(&self, s: &mut S) -> Epoch
-        requires seated { IsSeated (S.seat s.old) }
-        ensures undisturbed { Undisturbed S.seat S.own S.known S.shows s.old s.new }
+        requires seated { IsSeated (S.caller s.old) }
+        ensures undisturbed { Undisturbed S.caller S.own S.known S.shows s.old s.new }
         ensures told { result ≡ epoch_of (S.known s.new).told }
         ensures near { IsNear (S.own s.new) (S.known s.new) }
-        ensures lone { IsLone (S.seat s.old) → (S.known s.new).told ≡ (S.known s.old).told }
-        ensures exact { IsExact (S.seat s.old) → (result ≡ epoch_of (S.world s.old).time.count) × (S.world s.new ≡ S.world s.old) }
+        ensures lone { IsLone (S.caller s.old) → (S.known s.new).told ≡ (S.known s.old).told }
+        ensures exact { IsExact (S.caller s.old) → (result ≡ epoch_of (S.world s.old).time.count) × (S.world s.new ≡ S.world s.old) }
     {
         epoch_of_count(s.count())
     }
@@ -117,9 +117,9 @@ impl Guard {
     /// Something may wait with the participant.
     #[inline]
     pub fn has_garbage<T: Item<T>, S: Guards<T>>(&self, s: &S) -> bool
-        requires seated { IsSeated (S.seat s.now) }
+        requires seated { IsSeated (S.caller s.now) }
         ensures own { result ≡ has_garbage (S.own s.now) }
-        ensures exact { IsExact (S.seat s.now) → result ≡ has_garbage (place_at (S.world s.now) (S.seat s.now).place) }
+        ensures exact { IsExact (S.caller s.now) → result ≡ has_garbage (place_at (S.world s.now) (S.caller s.now).place) }
     {
         s.has_garbage()
     }
@@ -127,11 +127,11 @@ impl Guard {
     /// Has the participant count down to a scan, as a retirement does.
     #[inline]
     pub fn set_has_garbage<T: Item<T>, S: Guards<T>>(&self, s: &mut S)
-        requires seated { IsSeated (S.seat s.old) }
-        ensures unmoved { Unmoved S.seat S.known S.shows s.old s.new }
+        requires seated { IsSeated (S.caller s.old) }
+        ensures unmoved { Unmoved S.caller S.known S.shows s.old s.new }
         ensures own { S.own s.new ≡ with_garbage (S.own s.old) }
-        ensures lone { IsLone (S.seat s.old) → S.known s.new ≡ S.known s.old }
-        ensures exact { IsExact (S.seat s.old) → S.world s.new ≡ stirred (S.world s.old) (S.seat s.old).place }
+        ensures lone { IsLone (S.caller s.old) → S.known s.new ≡ S.known s.old }
+        ensures exact { IsExact (S.caller s.old) → S.world s.new ≡ stirred (S.world s.old) (S.caller s.old).place }
     {
         s.set_has_garbage();
     }
@@ -147,15 +147,15 @@ impl Guard {
         job: S::Job,
         s: &mut S,
     ) -> Result<(), (S::Job, Refused)>
-        requires seated { IsSeated (S.seat s.old) }
-        requires reader { reader_of self.now ≡ (S.seat s.old).reader }
-        ensures unmoved { Unmoved S.seat S.known S.shows s.old s.new }
+        requires seated { IsSeated (S.caller s.old) }
+        requires reader { reader_of self.now ≡ (S.caller s.old).reader }
+        ensures unmoved { Unmoved S.caller S.known S.shows s.old s.new }
         ensures own { MatchResult result
             (λ _. (place : ℕ) × (S.own s.new ≡ time.awaiting (Job place) (S.own s.old)))
             (λ _. S.own s.new ≡ S.own s.old) }
-        ensures back { IfErr result (λ e. (e.0 ≡ job) × IsRefusedBy (S.seat s.old) Refused.NoJob e.1) }
-        ensures exact { IsExact (S.seat s.old) → MatchResult result
-            (λ _. (place : ℕ) × IsEmptyAt (S.world s.old).jobs place × (S.world s.new ≡ deferred (S.world s.old) (S.seat s.old).place place))
+        ensures back { IfErr result (λ e. (e.0 ≡ job) × IsRefusedBy (S.caller s.old) Refused.NoJob e.1) }
+        ensures exact { IsExact (S.caller s.old) → MatchResult result
+            (λ _. (place : ℕ) × IsEmptyAt (S.world s.old).jobs place × (S.world s.new ≡ deferred (S.world s.old) (S.caller s.old).place place))
             (λ e. IsFull (S.world s.old).jobs × (e.1 ≡ Refused.NoJob) × (S.world s.new ≡ S.world s.old)) }
     {
         match s.defer_execute(job) {
@@ -167,11 +167,11 @@ impl Guard {
     /// Has the next outermost close of the participant scan.
     #[inline]
     pub fn accelerate<T: Item<T>, S: Guards<T>>(&self, s: &mut S)
-        requires seated { IsSeated (S.seat s.old) }
-        ensures unmoved { Unmoved S.seat S.known S.shows s.old s.new }
+        requires seated { IsSeated (S.caller s.old) }
+        ensures unmoved { Unmoved S.caller S.known S.shows s.old s.new }
         ensures own { S.own s.new ≡ time.accelerated (S.own s.old) }
-        ensures lone { IsLone (S.seat s.old) → S.known s.new ≡ S.known s.old }
-        ensures exact { IsExact (S.seat s.old) → S.world s.new ≡ accelerated (S.world s.old) (S.seat s.old).place }
+        ensures lone { IsLone (S.caller s.old) → S.known s.new ≡ S.known s.old }
+        ensures exact { IsExact (S.caller s.old) → S.world s.new ≡ accelerated (S.world s.old) (S.caller s.old).place }
     {
         s.accelerate();
     }

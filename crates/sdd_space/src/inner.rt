@@ -3,13 +3,13 @@ ghost use Rattle.std.specs.Prelude.{◌≡◌, IfErr, IfOk, IfSome, MatchResult,
 ghost use Rattle.sdd_rights.specs.Right.{home_of, kind_of};
 ghost use Rattle.sdd_space.specs.Owned.{slot_of, right_of, cell_right};
 ghost use Rattle.sdd_space.specs.Shared as shared;
-ghost use Rattle.sdd_space.specs.OwnerOrCell.{AreOf};
-ghost use Rattle.sdd_space.specs.World.{World};
+ghost use Rattle.sdd_world_model.specs.OwnerOrCell.{AreOf};
+ghost use Rattle.sdd_world_model.specs.World.{World};
 ghost use Rattle.sdd_space.specs.CallerId.{IsSeated, IsExact};
 ghost use Rattle.sdd_space.specs.Refusals.{IsRefusedBy};
 ghost use Rattle.sdd_space.specs.Undisturbed.{Undisturbed};
-ghost use Rattle.sdd_space.specs.WorldChanges.{held_in, made_as};
-ghost use Rattle.sdd_standings.specs.Cells.{slot_held};
+ghost use Rattle.sdd_world_model.specs.WorldChanges.{held_in, made_as};
+ghost use Rattle.sdd_world_model.specs.Cells.{slot_held};
 ghost use Rattle.sdd_participants.specs.Slab.{IsEmptyAt, IsFull, entry_at};
 ghost use Rattle.sdd_space.specs.RawPtr as raw;
 ghost use Rattle.sdd_space.specs.Ptr.{slot_named, shown_by, tag_of};
@@ -158,31 +158,31 @@ pub fn ptr_to<'g, T>(slot: SlotName, value: &'g T) -> Ptr<'g, T>
     Ptr::to(slot, value)
 }
 
-/// The guard that has this part of a tenure.
-pub fn guard_with(part: ReadSection) -> Guard
-    requires open { part.kind ≡ SectionState.Open }
-    requires single { part.units ≡ 1 }
-    ensures { reader_of result ≡ record { home = part.home; number = part.number } }
+/// The guard that has this unit of a section.
+pub fn guard_with(section: ReadSection) -> Guard
+    requires open { section.kind ≡ SectionState.Open }
+    requires single { section.units ≡ 1 }
+    ensures { reader_of result ≡ record { home = section.home; number = section.number } }
 {
-    Guard::of_part(part)
+    Guard::of_section(section)
 }
 
-/// The part of its reader's tenure that a guard has.
-pub fn part_of_guard(guard: Guard) -> ReadSection
+/// The unit of its reader's section that a guard has.
+pub fn into_section(guard: Guard) -> ReadSection
     ensures reader { reader_of guard ≡ record { home = result.home; number = result.number } }
     ensures open { result.kind ≡ SectionState.Open }
     ensures single { result.units ≡ 1 }
 {
-    guard.into_part()
+    guard.into_section()
 }
 
-/// The same part, for as long as the guard is borrowed.
-pub fn tenure_of(guard: &Guard) -> &ReadSection
+/// The same, for as long as the guard is borrowed.
+pub fn section_of(guard: &Guard) -> &ReadSection
     ensures reader { reader_of guard.now ≡ record { home = result.now.home; number = result.now.number } }
     ensures open { result.now.kind ≡ SectionState.Open }
     ensures single { result.now.units ≡ 1 }
 {
-    guard.part()
+    guard.section()
 }
 
 /// The raw cell whose right this is.
@@ -234,14 +234,14 @@ pub fn make_two<T: Item<T>, S: Several<T>>(
     value: T,
     s: &mut S,
 ) -> Result<(Shared<T>, Shared<T>), (T, Refused)>
-    requires seated { IsSeated (S.seat s.old) }
-    requires home { AreOf (S.seat s.old).home (T.holds value) }
-    ensures undisturbed { Undisturbed S.seat S.own S.known S.shows s.old s.new }
-    ensures home { IfOk result (λ both. (shared.slots_home both.0 ≡ (S.seat s.old).home.slots) × (shared.slots_home both.1 ≡ (S.seat s.old).home.slots)) }
+    requires seated { IsSeated (S.caller s.old) }
+    requires home { AreOf (S.caller s.old).home (T.holds value) }
+    ensures undisturbed { Undisturbed S.caller S.own S.known S.shows s.old s.new }
+    ensures home { IfOk result (λ both. (shared.slots_home both.0 ≡ (S.caller s.old).home.slots) × (shared.slots_home both.1 ≡ (S.caller s.old).home.slots)) }
     ensures one { IfOk result (λ both. shared.slot_of both.1 ≡ shared.slot_of both.0) }
     ensures shown { IfOk result (λ both. S.owns_value s.new (shared.right_of both.0) value × S.owns_value s.new (shared.right_of both.1) value) }
-    ensures back { IfErr result (λ e. (e.0 ≡ value) × IsRefusedBy (S.seat s.old) Refused.NoSlot e.1) }
-    ensures exact { IsExact (S.seat s.old) → MatchResult result
+    ensures back { IfErr result (λ e. (e.0 ≡ value) × IsRefusedBy (S.caller s.old) Refused.NoSlot e.1) }
+    ensures exact { IsExact (S.caller s.old) → MatchResult result
         (λ both. IsEmptyAt (S.world s.old).standings (shared.slot_of both.0) ×
         (S.world s.new ≡ made_as (S.world s.old) (shared.slot_of both.0) value (Standing.Shared 2)))
         (λ e. IsFull (S.world s.old).standings × (e ≡ (value, Refused.NoSlot)) × (S.world s.new ≡ S.world s.old)) }
@@ -262,17 +262,17 @@ pub fn right_in<'a, T: Item<T>, S: HeldItems<T>>(
     cell: &AtomicShared<T>,
     s: &'a S,
 ) -> &'a Option<Right>
-    requires home { shared.cells_home cell.now ≡ (S.seat s.now).home.cells }
-    ensures home { IfSome result.now (λ owner. home_of owner ≡ (S.seat s.now).home.slots) }
-    ensures exact { IsExact (S.seat s.now) → slot_held result.now ≡ held_in (entry_at (S.world s.now).cells (shared.cell_of cell.now)) }
+    requires home { shared.cells_home cell.now ≡ (S.caller s.now).home.cells }
+    ensures home { IfSome result.now (λ owner. home_of owner ≡ (S.caller s.now).home.slots) }
+    ensures exact { IsExact (S.caller s.now) → slot_held result.now ≡ held_in (entry_at (S.world s.now).cells (shared.cell_of cell.now)) }
 {
     s.right_in(cell.right())
 }
 
 /// The tag of a cell of shared owners.
 pub fn tag_held_in<T: Item<T>, S: HeldItems<T>>(cell: &AtomicShared<T>, s: &S) -> Tag
-    requires home { shared.cells_home cell.now ≡ (S.seat s.now).home.cells }
-    ensures exact { IsExact (S.seat s.now) → IfSome (entry_at (S.world s.now).cells (shared.cell_of cell.now)) (λ held. held.tag ≡ result) }
+    requires home { shared.cells_home cell.now ≡ (S.caller s.now).home.cells }
+    ensures exact { IsExact (S.caller s.now) → IfSome (entry_at (S.world s.now).cells (shared.cell_of cell.now)) (λ held. held.tag ≡ result) }
 {
     s.contents(cell.right()).tag
 }

@@ -1,11 +1,11 @@
 ghost use Rattle.std.specs.Prelude.{◌≡◌, List, []};
 ghost use Rattle.sdd_participants.specs.declared.participant.Participant.{Participant};
-ghost use Rattle.sdd_space.specs.OwnerOrCell.{OwnerOrCell, AreOf};
-ghost use Rattle.sdd_space.specs.World.{World};
+ghost use Rattle.sdd_world_model.specs.OwnerOrCell.{OwnerOrCell, AreOf};
+ghost use Rattle.sdd_world_model.specs.World.{World};
 ghost use Rattle.sdd_space.specs.CallerId.{CallerId, IsSeated, IsExact};
-ghost use Rattle.sdd_space.specs.KnownEpochs.{KnownEpochs, KnowsOn};
-ghost use Rattle.sdd_space.specs.ParticipantChanges.{KeepsMoreWaiting};
-ghost use Rattle.sdd_space.specs.WorldChanges.{given, given_all};
+ghost use Rattle.sdd_world_model.specs.KnownEpochs.{KnownEpochs, KnowsOn};
+ghost use Rattle.sdd_world_model.specs.ParticipantChanges.{KeepsMoreWaiting};
+ghost use Rattle.sdd_world_model.specs.WorldChanges.{given, given_all};
 ghost use Rattle.sdd_space.specs.Owned.{slots_home, cells_home, holding_of, cell_holding};
 ghost use Rattle.sdd_space.specs.Shared as shared;
 ghost use Rattle.sdd_space.specs.RawCell as raw_cell;
@@ -24,7 +24,7 @@ pub trait Giver<I> {
     /// What the calls change.
     ghost world: { Self → World I };
     /// Who reclaims, and where: no call changes it.
-    ghost seat: { Self → CallerId };
+    ghost caller: { Self → CallerId };
     /// What the participant that reclaims keeps of its own.
     ghost own: { Self → Participant };
     /// What the participant that reclaims knows of the count of epochs.
@@ -36,53 +36,53 @@ pub trait Giver<I> {
 
     /// Retires the owner's item.
     fn owned(&mut self, owner: Owned<I>)
-        requires seated { IsSeated (seat self.old) }
-        requires home { slots_home owner ≡ (seat self.old).home.slots }
-        ensures seat { seat self.new ≡ seat self.old }
+        requires seated { IsSeated (caller self.old) }
+        requires home { slots_home owner ≡ (caller self.old).home.slots }
+        ensures caller { caller self.new ≡ caller self.old }
         ensures own { KeepsMoreWaiting (own self.old) (own self.new) }
         ensures known { KnowsOn (known self.old) (known self.new) }
         ensures kept { kept self.new ≡ kept self.old }
-        ensures exact { IsExact (seat self.old) → world self.new ≡ given (world self.old) (seat self.old).place (holding_of owner) };
+        ensures exact { IsExact (caller self.old) → world self.new ≡ given (world self.old) (caller self.old).place (holding_of owner) };
 
     /// Gives a shared owner up; the last one's item is retired.
     fn shared(&mut self, owner: Shared<I>)
-        requires seated { IsSeated (seat self.old) }
-        requires home { shared.slots_home owner ≡ (seat self.old).home.slots }
-        ensures seat { seat self.new ≡ seat self.old }
+        requires seated { IsSeated (caller self.old) }
+        requires home { shared.slots_home owner ≡ (caller self.old).home.slots }
+        ensures caller { caller self.new ≡ caller self.old }
         ensures own { KeepsMoreWaiting (own self.old) (own self.new) }
         ensures known { KnowsOn (known self.old) (known self.new) }
         ensures kept { kept self.new ≡ kept self.old }
-        ensures exact { IsExact (seat self.old) → world self.new ≡ given (world self.old) (seat self.old).place (shared.holding_of owner) };
+        ensures exact { IsExact (caller self.old) → world self.new ≡ given (world self.old) (caller self.old).place (shared.holding_of owner) };
 
     /// Frees the cell, and retires what it held.
     fn atomic_owned(&mut self, cell: AtomicOwned<I>)
-        requires seated { IsSeated (seat self.old) }
-        requires home { cells_home cell ≡ (seat self.old).home.cells }
-        ensures seat { seat self.new ≡ seat self.old }
+        requires seated { IsSeated (caller self.old) }
+        requires home { cells_home cell ≡ (caller self.old).home.cells }
+        ensures caller { caller self.new ≡ caller self.old }
         ensures own { KeepsMoreWaiting (own self.old) (own self.new) }
         ensures known { KnowsOn (known self.old) (known self.new) }
         ensures kept { kept self.new ≡ kept self.old }
-        ensures exact { IsExact (seat self.old) → world self.new ≡ given (world self.old) (seat self.old).place (cell_holding cell) };
+        ensures exact { IsExact (caller self.old) → world self.new ≡ given (world self.old) (caller self.old).place (cell_holding cell) };
 
     /// Frees the cell, and gives up what it held.
     fn atomic_shared(&mut self, cell: AtomicShared<I>)
-        requires seated { IsSeated (seat self.old) }
-        requires home { shared.cells_home cell ≡ (seat self.old).home.cells }
-        ensures seat { seat self.new ≡ seat self.old }
+        requires seated { IsSeated (caller self.old) }
+        requires home { shared.cells_home cell ≡ (caller self.old).home.cells }
+        ensures caller { caller self.new ≡ caller self.old }
         ensures own { KeepsMoreWaiting (own self.old) (own self.new) }
         ensures known { KnowsOn (known self.old) (known self.new) }
         ensures kept { kept self.new ≡ kept self.old }
-        ensures exact { IsExact (seat self.old) → world self.new ≡ given (world self.old) (seat self.old).place (shared.cell_holding cell) };
+        ensures exact { IsExact (caller self.old) → world self.new ≡ given (world self.old) (caller self.old).place (shared.cell_holding cell) };
 
     /// Frees the cell.
     fn atomic_raw(&mut self, cell: AtomicRaw<I>)
-        requires seated { IsSeated (seat self.old) }
-        requires home { raw_cell.cells_home cell ≡ (seat self.old).home.cells }
-        ensures seat { seat self.new ≡ seat self.old }
+        requires seated { IsSeated (caller self.old) }
+        requires home { raw_cell.cells_home cell ≡ (caller self.old).home.cells }
+        ensures caller { caller self.new ≡ caller self.old }
         ensures own { KeepsMoreWaiting (own self.old) (own self.new) }
         ensures known { KnowsOn (known self.old) (known self.new) }
         ensures kept { kept self.new ≡ kept self.old }
-        ensures exact { IsExact (seat self.old) → world self.new ≡ given (world self.old) (seat self.old).place (raw_cell.cell_holding cell) };
+        ensures exact { IsExact (caller self.old) → world self.new ≡ given (world self.old) (caller self.old).place (raw_cell.cell_holding cell) };
 }
 
 /// A value that may hold owners and cells of a space of items `I`.
@@ -95,11 +95,11 @@ pub trait Item<I>: Sized {
 
     /// Consumes the value, and gives up every owner and cell that it holds.
     fn give_up<G: Giver<I>>(self, giver: &mut G)
-        requires seated { IsSeated (G.seat giver.old) }
-        requires home { AreOf (G.seat giver.old).home (holds self) }
-        ensures seat { G.seat giver.new ≡ G.seat giver.old }
+        requires seated { IsSeated (G.caller giver.old) }
+        requires home { AreOf (G.caller giver.old).home (holds self) }
+        ensures caller { G.caller giver.new ≡ G.caller giver.old }
         ensures own { KeepsMoreWaiting (G.own giver.old) (G.own giver.new) }
         ensures known { KnowsOn (G.known giver.old) (G.known giver.new) }
         ensures kept { G.kept giver.new ≡ G.kept giver.old }
-        ensures exact { IsExact (G.seat giver.old) → G.world giver.new ≡ given_all (G.world giver.old) (G.seat giver.old).place (holds self) };
+        ensures exact { IsExact (G.caller giver.old) → G.world giver.new ≡ given_all (G.world giver.old) (G.caller giver.old).place (holds self) };
 }

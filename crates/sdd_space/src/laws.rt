@@ -2,11 +2,11 @@
 ghost use Rattle.std.specs.Prelude.{◌≡◌, ◌↔◌, ◌⊎◌, ℕ, IfErr, IfOk, IsTrue, None, length};
 ghost use Rattle.sdd_core.specs.Epoch.{epoch_after};
 ghost use Rattle.sdd_space.specs.Guard.{reader_of};
-ghost use Rattle.sdd_space.specs.OwnerOrCell.{AreOf};
-ghost use Rattle.sdd_space.specs.World.{World, standing_at, value_at};
-ghost use Rattle.sdd_space.specs.WorkingGuards.{WorkLaws};
+ghost use Rattle.sdd_world_model.specs.OwnerOrCell.{AreOf};
+ghost use Rattle.sdd_world_model.specs.World.{World, standing_at, value_at};
+ghost use Rattle.sdd_world_model.specs.WorkingGuards.{WorkLaws};
 ghost use Rattle.sdd_space.specs.CallerId.{IsSeated, IsExact, IsLone};
-ghost use Rattle.sdd_space.specs.KnownEpochs.{KnowsOn};
+ghost use Rattle.sdd_world_model.specs.KnownEpochs.{KnowsOn};
 ghost use Rattle.sdd_space.specs.Undisturbed.{Undisturbed};
 ghost use Rattle.sdd_space.specs.Owned.{right_of, slot_of, slots_home};
 ghost use Rattle.sdd_space.specs.Shared as shared;
@@ -21,9 +21,9 @@ use sdd_core::{Epoch, Refused};
 
 /// The epoch, asked twice under one open guard: the second answer is the first one or its `next`.
 pub fn epoch_moves_by_one<T: Item<T>, S: Guards<T>>(guard: &Guard, s: &mut S) -> (Epoch, Epoch)
-    requires seated { IsSeated (S.seat s.old) }
+    requires seated { IsSeated (S.caller s.old) }
     requires guarded { IsTrue (is_open (S.own s.old)) }
-    ensures seat { S.seat s.new ≡ S.seat s.old }
+    ensures caller { S.caller s.new ≡ S.caller s.old }
     ensures own { S.own s.new ≡ S.own s.old }
     ensures known { KnowsOn (S.known s.old) (S.known s.new) }
     ensures moved { (result.1 ≡ result.0) ⊎ (result.1 ≡ epoch_after result.0) }
@@ -35,11 +35,11 @@ pub fn epoch_moves_by_one<T: Item<T>, S: Guards<T>>(guard: &Guard, s: &mut S) ->
 
 /// An owner whose item goes raw and comes back owns the same item, and all else is as before.
 pub fn comes_back<T: Item<T>, S: RawItems<T>>(owner: Owned<T>, s: &mut S) -> Owned<T>
-    requires seated { IsSeated (S.seat s.old) }
-    requires home { slots_home owner ≡ (S.seat s.old).home.slots }
-    requires exact { IsExact (S.seat s.old) }
-    ensures seat { S.seat s.new ≡ S.seat s.old }
-    ensures home { slots_home result ≡ (S.seat s.new).home.slots }
+    requires seated { IsSeated (S.caller s.old) }
+    requires home { slots_home owner ≡ (S.caller s.old).home.slots }
+    requires exact { IsExact (S.caller s.old) }
+    ensures caller { S.caller s.new ≡ S.caller s.old }
+    ensures home { slots_home result ≡ (S.caller s.new).home.slots }
     ensures same { slot_of result ≡ slot_of owner }
     ensures world { S.world s.new ≡ S.world s.old }
 {
@@ -58,15 +58,15 @@ pub fn shows_what_was_made<'g, T: Item<T>, S: Items<T>>(
     guard: &'g Guard,
     s: &mut S,
 ) -> Result<(Owned<T>, &'g T), (T, Refused)>
-    requires seated { IsSeated (S.seat s.old) }
-    requires home { AreOf (S.seat s.old).home (T.holds value) }
-    requires reader { reader_of guard.now ≡ (S.seat s.old).reader }
-    ensures undisturbed { Undisturbed S.seat S.own S.known S.shows s.old s.new }
-    ensures home { IfOk result (λ made. slots_home made.0 ≡ (S.seat s.old).home.slots) }
+    requires seated { IsSeated (S.caller s.old) }
+    requires home { AreOf (S.caller s.old).home (T.holds value) }
+    requires reader { reader_of guard.now ≡ (S.caller s.old).reader }
+    ensures undisturbed { Undisturbed S.caller S.own S.known S.shows s.old s.new }
+    ensures home { IfOk result (λ made. slots_home made.0 ≡ (S.caller s.old).home.slots) }
     ensures value { IfOk result (λ made. S.owns_value s.new (right_of made.0) value) }
     ensures seen { IfOk result (λ made. made.1.now ≡ value) }
     ensures back { IfErr result (λ e. (e.0 ≡ value) × ((e.1 ≡ Refused.NoSlot) ⊎ (e.1 ≡ Refused.Contended))) }
-    ensures lone { IsLone (S.seat s.old) → IfErr result (λ e. (e.1 ≡ Refused.NoSlot) × S.is_used_up s.old) }
+    ensures lone { IsLone (S.caller s.old) → IfErr result (λ e. (e.1 ≡ Refused.NoSlot) × S.is_used_up s.old) }
 {
     let owner = Owned::new(value, s)?;
     let seen = owner.get_guarded_ref(guard, s);
@@ -75,18 +75,18 @@ pub fn shows_what_was_made<'g, T: Item<T>, S: Items<T>>(
 
 /// In an exact space an owner's item has the value that its slot shows. Nothing changes.
 pub fn owned_is_shown<T: Item<T>, S: Items<T>>(owner: &Owned<T>, s: &mut S)
-    requires home { slots_home owner.now ≡ (S.seat s.old).home.slots }
+    requires home { slots_home owner.now ≡ (S.caller s.old).home.slots }
     ensures same { s.new ≡ s.old }
-    ensures shown { IsExact (S.seat s.old) → (value : T) → S.owns_value s.old (right_of owner.now) value ↔ S.shows s.old (slot_of owner.now) value }
+    ensures shown { IsExact (S.caller s.old) → (value : T) → S.owns_value s.old (right_of owner.now) value ↔ S.shows s.old (slot_of owner.now) value }
 {
     s.owned_is_shown(owner.right());
 }
 
 /// The same of an owner that may be one of several.
 pub fn shared_is_shown<T: Item<T>, S: Items<T>>(owner: &Shared<T>, s: &mut S)
-    requires home { shared.slots_home owner.now ≡ (S.seat s.old).home.slots }
+    requires home { shared.slots_home owner.now ≡ (S.caller s.old).home.slots }
     ensures same { s.new ≡ s.old }
-    ensures shown { IsExact (S.seat s.old) → (value : T) →
+    ensures shown { IsExact (S.caller s.old) → (value : T) →
         S.owns_value s.old (shared.right_of owner.now) value ↔ S.shows s.old (shared.slot_of owner.now) value }
 {
     s.owned_is_shown(owner.right());
@@ -94,8 +94,8 @@ pub fn shared_is_shown<T: Item<T>, S: Items<T>>(owner: &Shared<T>, s: &mut S)
 
 /// In an exact space there is a place for a value in each slot, and a slot that is free has none.
 pub fn values_fit_slots<T: Item<T>, S: Caller<T>>(s: &S)
-    ensures many { IsExact (S.seat s.now) → length (S.world s.now).values ≡ length (S.world s.now).standings }
-    ensures bare { IsExact (S.seat s.now) → (k : ℕ) → standing_at (S.world s.now) k ≡ None → value_at (S.world s.now) k ≡ None }
+    ensures many { IsExact (S.caller s.now) → length (S.world s.now).values ≡ length (S.world s.now).standings }
+    ensures bare { IsExact (S.caller s.now) → (k : ℕ) → standing_at (S.world s.now) k ≡ None → value_at (S.world s.now) k ≡ None }
 {
     s.values_fit_slots();
 }

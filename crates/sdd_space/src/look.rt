@@ -1,6 +1,6 @@
 ghost use Rattle.std.specs.Prelude.{◌≡◌, ℕ, option_copied};
 ghost use Rattle.sdd_rights.specs.Right.{number_of, home_of};
-ghost use Rattle.sdd_space.specs.OwnerOrCell.{SpaceId, AreOf};
+ghost use Rattle.sdd_world_model.specs.OwnerOrCell.{SpaceId, AreOf};
 ghost use Rattle.sdd_rights.specs.declared.right.Right.{Right};
 ghost use Rattle.sdd_space.specs.Ptr.{shown_by, KeepsShown};
 

@@ -1,13 +1,13 @@
 ghost use Rattle.std.specs.Fn.{FnOnceReturnsAtMut};
 ghost use Rattle.std.specs.Prelude.{◌≡◌, ◌≢◌, ◌⊎◌, IfErr, IfOk, IfSome, IsSome, MatchOption, MatchResult, Some, None, option_map};
 ghost use Rattle.sdd_rights.specs.Right.{kind_of};
-ghost use Rattle.sdd_space.specs.OwnerOrCell.{AreOf};
-ghost use Rattle.sdd_space.specs.World.{World, AnyGuardOpen, standing_at, value_at};
+ghost use Rattle.sdd_world_model.specs.OwnerOrCell.{AreOf};
+ghost use Rattle.sdd_world_model.specs.World.{World, AnyGuardOpen, standing_at, value_at};
 ghost use Rattle.sdd_space.specs.CallerId.{IsSeated, IsExact, IsLone};
-ghost use Rattle.sdd_space.specs.KnownEpochs.{KnowsOn};
+ghost use Rattle.sdd_world_model.specs.KnownEpochs.{KnowsOn};
 ghost use Rattle.sdd_space.specs.Undisturbed.{Undisturbed, Unmoved};
-ghost use Rattle.sdd_space.specs.ParticipantChanges.{KeepsMoreWaiting};
-ghost use Rattle.sdd_space.specs.WorldChanges.{made, retired, with_standing, with_value, dropped};
+ghost use Rattle.sdd_world_model.specs.ParticipantChanges.{KeepsMoreWaiting};
+ghost use Rattle.sdd_world_model.specs.WorldChanges.{made, retired, with_standing, with_value, dropped};
 ghost use Rattle.sdd_space.specs.Owned.{right_of, slot_of, slots_home, IsOfSlots};
 ghost use Rattle.sdd_core.specs.declared.tag.Tag.TheVariants.{None as no_tag};
 ghost use Rattle.sdd_space.specs.Ptr.{PtrIsShown, slot_named, shown_by, tag_of, KeepsOthers, KeepsShown};
@@ -105,13 +105,13 @@ impl<T: Item<T>> Owned<T> {
 
     /// The item's value, for as long as the guard is borrowed, also after the item was retired. The guard is one of the participant that calls.
     pub fn get_guarded_ref<'g, S: Items<T>>(&self, guard: &'g Guard, s: &mut S) -> &'g T
-        requires seated { IsSeated (S.seat s.old) }
-        requires home { slots_home self.now ≡ (S.seat s.old).home.slots }
-        requires reader { reader_of guard.now ≡ (S.seat s.old).reader }
-        ensures undisturbed { Undisturbed S.seat S.own S.known S.shows s.old s.new }
+        requires seated { IsSeated (S.caller s.old) }
+        requires home { slots_home self.now ≡ (S.caller s.old).home.slots }
+        requires reader { reader_of guard.now ≡ (S.caller s.old).reader }
+        ensures undisturbed { Undisturbed S.caller S.own S.known S.shows s.old s.new }
         ensures shown { S.shows s.new (slot_of self.now) result.now }
         ensures value { S.owns_value s.new (right_of self.now) result.now }
-        ensures exact { IsExact (S.seat s.old) → S.world s.new ≡ S.world s.old }
+        ensures exact { IsExact (S.caller s.old) → S.world s.new ≡ S.world s.old }
     {
         s.get_guarded(self.right(), guard)
     }
@@ -119,17 +119,17 @@ impl<T: Item<T>> Owned<T> {
     /// A pointer to the item, which shows its value for as long as the guard is borrowed, also after the item was retired. The guard is one of the
     /// participant that calls.
     pub fn get_guarded_ptr<'g, S: Items<T>>(&self, guard: &'g Guard, s: &mut S) -> Ptr<'g, T>
-        requires seated { IsSeated (S.seat s.old) }
-        requires home { slots_home self.now ≡ (S.seat s.old).home.slots }
-        requires reader { reader_of guard.now ≡ (S.seat s.old).reader }
-        ensures undisturbed { Undisturbed S.seat S.own S.known S.shows s.old s.new }
+        requires seated { IsSeated (S.caller s.old) }
+        requires home { slots_home self.now ≡ (S.caller s.old).home.slots }
+        requires reader { reader_of guard.now ≡ (S.caller s.old).reader }
+        ensures undisturbed { Undisturbed S.caller S.own S.known S.shows s.old s.new }
         ensures slot { slot_named result ≡ Some (slot_of self.now) }
         ensures tag { tag_of result ≡ no_tag }
         ensures shown { IfSome (shown_by result) (S.shows s.new (slot_of self.now)) }
         ensures value { IfSome (shown_by result) (S.owns_value s.new (right_of self.now)) }
         ensures full { IsSome (shown_by result) }
-        ensures sight { PtrIsShown (S.shows s.new) result }
-        ensures exact { IsExact (S.seat s.old) → S.world s.new ≡ S.world s.old }
+        ensures pointer { PtrIsShown (S.shows s.new) result }
+        ensures exact { IsExact (S.caller s.old) → S.world s.new ≡ S.world s.old }
     {
         let value = s.get_guarded(self.right(), guard);
         Ptr::to(self.slot(), value)
@@ -140,14 +140,14 @@ impl<T: Item<T>> Owned<T> {
     /// `NoSlot` where none is free; `Contended`, in a domain alone, where as many exchanges were lost as its limits allow. The value comes back.
     #[inline(always)]
     pub fn new<S: Items<T>>(value: T, s: &mut S) -> Result<Owned<T>, (T, Refused)>
-        requires seated { IsSeated (S.seat s.old) }
-        requires home { AreOf (S.seat s.old).home (T.holds value) }
-        ensures undisturbed { Undisturbed S.seat S.own S.known S.shows s.old s.new }
-        ensures home { IfOk result (λ owner. slots_home owner ≡ (S.seat s.old).home.slots) }
+        requires seated { IsSeated (S.caller s.old) }
+        requires home { AreOf (S.caller s.old).home (T.holds value) }
+        ensures undisturbed { Undisturbed S.caller S.own S.known S.shows s.old s.new }
+        ensures home { IfOk result (λ owner. slots_home owner ≡ (S.caller s.old).home.slots) }
         ensures shown { IfOk result (λ owner. S.owns_value s.new (right_of owner) value) }
         ensures back { IfErr result (λ e. (e.0 ≡ value) × ((e.1 ≡ Refused.NoSlot) ⊎ (e.1 ≡ Refused.Contended))) }
-        ensures lone { IsLone (S.seat s.old) → IfErr result (λ e. (e.1 ≡ Refused.NoSlot) × S.is_used_up s.old) }
-        ensures exact { IsExact (S.seat s.old) → MatchResult result
+        ensures lone { IsLone (S.caller s.old) → IfErr result (λ e. (e.1 ≡ Refused.NoSlot) × S.is_used_up s.old) }
+        ensures exact { IsExact (S.caller s.old) → MatchResult result
             (λ owner. IsEmptyAt (S.world s.old).standings (slot_of owner) × (S.world s.new ≡ made (S.world s.old) (slot_of owner) value))
             (λ e. IsFull (S.world s.old).standings × (e ≡ (value, Refused.NoSlot)) × (S.world s.new ≡ S.world s.old)) }
     {
@@ -164,15 +164,15 @@ impl<T: Item<T>> Owned<T> {
         f: F,
         s: &mut S,
     ) -> Result<Owned<T>, (F, Refused)>
-        requires seated { IsSeated (S.seat s.old) }
+        requires seated { IsSeated (S.caller s.old) }
         requires callable { F.pre f }
-        requires home { (value : T) → F.post f value → AreOf (S.seat s.old).home (T.holds value) }
-        ensures undisturbed { Undisturbed S.seat S.own S.known S.shows s.old s.new }
-        ensures home { IfOk result (λ owner. slots_home owner ≡ (S.seat s.old).home.slots) }
+        requires home { (value : T) → F.post f value → AreOf (S.caller s.old).home (T.holds value) }
+        ensures undisturbed { Undisturbed S.caller S.own S.known S.shows s.old s.new }
+        ensures home { IfOk result (λ owner. slots_home owner ≡ (S.caller s.old).home.slots) }
         ensures shown { IfOk result (λ owner. (value : T) × F.post f value × S.owns_value s.new (right_of owner) value) }
         ensures back { IfErr result (λ e. (e.0 ≡ f) × ((e.1 ≡ Refused.NoSlot) ⊎ (e.1 ≡ Refused.Contended))) }
-        ensures lone { IsLone (S.seat s.old) → IfErr result (λ e. (e.1 ≡ Refused.NoSlot) × S.is_used_up s.old) }
-        ensures exact { IsExact (S.seat s.old) → MatchResult result
+        ensures lone { IsLone (S.caller s.old) → IfErr result (λ e. (e.1 ≡ Refused.NoSlot) × S.is_used_up s.old) }
+        ensures exact { IsExact (S.caller s.old) → MatchResult result
             (λ owner. IsEmptyAt (S.world s.old).standings (slot_of owner) ×
             ((value : T) × F.post f value × (S.world s.new ≡ made (S.world s.old) (slot_of owner) value)))
             (λ e. IsFull (S.world s.old).standings × (e ≡ (f, Refused.NoSlot)) × (S.world s.new ≡ S.world s.old)) }
@@ -185,12 +185,12 @@ impl<T: Item<T>> Owned<T> {
 
     /// Retires the item: it waits with the calling participant, which reclaims it at its third later outermost opening that finds another epoch.
     pub fn retire<S: Items<T>>(self, s: &mut S)
-        requires seated { IsSeated (S.seat s.old) }
-        requires home { slots_home self ≡ (S.seat s.old).home.slots }
-        ensures unmoved { Unmoved S.seat S.known S.shows s.old s.new }
+        requires seated { IsSeated (S.caller s.old) }
+        requires home { slots_home self ≡ (S.caller s.old).home.slots }
+        ensures unmoved { Unmoved S.caller S.known S.shows s.old s.new }
         ensures own { S.own s.new ≡ time.awaiting (Item (slot_of self)) (S.own s.old) }
-        ensures owned { IsExact (S.seat s.old) → standing_at (S.world s.old) (slot_of self) ≡ Some Standing.Owned }
-        ensures exact { IsExact (S.seat s.old) → S.world s.new ≡ retired (S.world s.old) (S.seat s.old).place (slot_of self) }
+        ensures owned { IsExact (S.caller s.old) → standing_at (S.world s.old) (slot_of self) ≡ Some Standing.Owned }
+        ensures exact { IsExact (S.caller s.old) → S.world s.new ≡ retired (S.world s.old) (S.caller s.old).place (slot_of self) }
     {
         let _ = s.release(self.into_right(), StandingKind::Owned);
     }
@@ -204,23 +204,23 @@ impl<T: Item<T>> Owned<T> {
         f: F,
         s: &mut S,
     ) -> Result<R, (F, Refused)>
-        requires seated { IsSeated (S.seat s.old) }
-        requires home { slots_home self.old ≡ (S.seat s.old).home.slots }
+        requires seated { IsSeated (S.caller s.old) }
+        requires home { slots_home self.old ≡ (S.caller s.old).home.slots }
         requires callable { F.IsAlwaysCallable f }
         requires held { (was now : T) (r : R) → FnOnceReturnsAtMut F.FnOnce f was r now →
-            AreOf (S.seat s.old).home (T.holds was) → AreOf (S.seat s.old).home (T.holds now) }
+            AreOf (S.caller s.old).home (T.holds was) → AreOf (S.caller s.old).home (T.holds now) }
         ensures slot { slot_of self.new ≡ slot_of self.old }
         ensures home { slots_home self.new ≡ slots_home self.old }
         ensures same { IfErr result (λ _. self.new ≡ self.old) }
         ensures kept { S.keeps_right → self.new ≡ self.old }
-        ensures seat { S.seat s.new ≡ S.seat s.old }
+        ensures caller { S.caller s.new ≡ S.caller s.old }
         ensures own { S.own s.new ≡ S.own s.old }
         ensures known { KnowsOn (S.known s.old) (S.known s.new) }
-        ensures owned { IsExact (S.seat s.old) → standing_at (S.world s.old) (slot_of self.old) ≡ Some Standing.Owned }
+        ensures owned { IsExact (S.caller s.old) → standing_at (S.world s.old) (slot_of self.old) ≡ Some Standing.Owned }
         ensures back { IfErr result (λ e. (e.0 ≡ f) × (e.1 ≡ Refused.GuardOpen)) }
         ensures shown { IfOk result (λ r. (was : T) × (now : T) × S.owns_value s.old (right_of self.old) was ×
             FnOnceReturnsAtMut F.FnOnce f was r now × S.owns_value s.new (right_of self.new) now) }
-        ensures exact { IsExact (S.seat s.old) → MatchResult result
+        ensures exact { IsExact (S.caller s.old) → MatchResult result
             (λ r. ¬ (AnyGuardOpen (S.world s.old)) ×
             ((was : T) × (now : T) × (value_at (S.world s.old) (slot_of self.old) ≡ Some was) × FnOnceReturnsAtMut F.FnOnce f was r now ×
             (S.world s.new ≡ with_value (S.world s.old) (slot_of self.old) now)))
@@ -235,15 +235,15 @@ impl<T: Item<T>> Owned<T> {
     ///
     /// `GuardOpen` where one is: the owner comes back, and nothing more waits than before.
     pub fn drop_in_place<S: InPlaceItems<T>>(self, s: &mut S) -> Result<(), (Owned<T>, Refused)>
-        requires seated { IsSeated (S.seat s.old) }
-        requires home { slots_home self ≡ (S.seat s.old).home.slots }
-        ensures seat { S.seat s.new ≡ S.seat s.old }
+        requires seated { IsSeated (S.caller s.old) }
+        requires home { slots_home self ≡ (S.caller s.old).home.slots }
+        ensures caller { S.caller s.new ≡ S.caller s.old }
         ensures own { MatchResult result (λ _. KeepsMoreWaiting (S.own s.old) (S.own s.new)) (λ _. S.own s.new ≡ S.own s.old) }
         ensures known { KnowsOn (S.known s.old) (S.known s.new) }
-        ensures owned { IsExact (S.seat s.old) → standing_at (S.world s.old) (slot_of self) ≡ Some Standing.Owned }
+        ensures owned { IsExact (S.caller s.old) → standing_at (S.world s.old) (slot_of self) ≡ Some Standing.Owned }
         ensures back { IfErr result (λ e. (right_of e.0 ≡ right_of self) × (e.1 ≡ Refused.GuardOpen)) }
-        ensures exact { IsExact (S.seat s.old) → MatchResult result
-            (λ _. ¬ (AnyGuardOpen (S.world s.old)) × (S.world s.new ≡ dropped T.holds (S.world s.old) (S.seat s.old).place (slot_of self)))
+        ensures exact { IsExact (S.caller s.old) → MatchResult result
+            (λ _. ¬ (AnyGuardOpen (S.world s.old)) × (S.world s.new ≡ dropped T.holds (S.world s.old) (S.caller s.old).place (slot_of self)))
             (λ e. AnyGuardOpen (S.world s.old) × (e.1 ≡ Refused.GuardOpen) × (S.world s.new ≡ S.world s.old)) }
         ensures keeps { MatchResult result (λ _. KeepsOthers (slot_of self) (S.shows s.old) (S.shows s.new))
             (λ _. KeepsShown (S.shows s.old) (S.shows s.new)) }
@@ -256,13 +256,13 @@ impl<T: Item<T>> Owned<T> {
 
     /// Puts the item out as raw: nobody owns it, until `from_raw` makes an owner of a pointer to it again.
     pub fn into_raw<S: RawItems<T>>(self, s: &mut S) -> RawPtr<T>
-        requires seated { IsSeated (S.seat s.old) }
-        requires home { slots_home self ≡ (S.seat s.old).home.slots }
-        ensures undisturbed { Undisturbed S.seat S.own S.known S.shows s.old s.new }
+        requires seated { IsSeated (S.caller s.old) }
+        requires home { slots_home self ≡ (S.caller s.old).home.slots }
+        ensures undisturbed { Undisturbed S.caller S.own S.known S.shows s.old s.new }
         ensures slot { raw.slot_named result ≡ Some (slot_of self) }
         ensures tag { raw.tag_of result ≡ no_tag }
-        ensures owned { IsExact (S.seat s.old) → standing_at (S.world s.old) (slot_of self) ≡ Some Standing.Owned }
-        ensures exact { IsExact (S.seat s.old) → S.world s.new ≡ with_standing (S.world s.old) (slot_of self) Standing.Raw }
+        ensures owned { IsExact (S.caller s.old) → standing_at (S.world s.old) (slot_of self) ≡ Some Standing.Owned }
+        ensures exact { IsExact (S.caller s.old) → S.world s.new ≡ with_standing (S.world s.old) (slot_of self) Standing.Raw }
     {
         let slot = s.into_raw(self.into_right());
         RawPtr::of(Some(slot), Tag::None)
@@ -270,11 +270,11 @@ impl<T: Item<T>> Owned<T> {
 
     /// The owner of an item that is out as raw: none for null, and for a slot whose item isn't out as raw. The pointer's tag is ignored.
     pub fn from_raw<S: RawItems<T>>(ptr: RawPtr<T>, s: &mut S) -> Option<Owned<T>>
-        requires seated { IsSeated (S.seat s.old) }
-        ensures undisturbed { Undisturbed S.seat S.own S.known S.shows s.old s.new }
-        ensures home { IsOfSlots (S.seat s.old).home.slots result }
+        requires seated { IsSeated (S.caller s.old) }
+        ensures undisturbed { Undisturbed S.caller S.own S.known S.shows s.old s.new }
+        ensures home { IsOfSlots (S.caller s.old).home.slots result }
         ensures slot { IfSome result (λ owner. raw.slot_named ptr ≡ Some (slot_of owner)) }
-        ensures exact { IsExact (S.seat s.old) → MatchOption result
+        ensures exact { IsExact (S.caller s.old) → MatchOption result
             (IfSome (raw.slot_named ptr) (λ slot. standing_at (S.world s.old) slot ≢ Some Standing.Raw) × (S.world s.new ≡ S.world s.old))
             (λ owner. (standing_at (S.world s.old) (slot_of owner) ≡ Some Standing.Raw) ×
             (S.world s.new ≡ with_standing (S.world s.old) (slot_of owner) Standing.Owned)) }

@@ -14,13 +14,13 @@ use std::fmt::{self, Debug, Formatter};
 /// Two pointers are equal exactly if they name the same slot, or none, and have the same tag.
 pub struct Ptr<'g, T> {
     /// Of the value that it was made with; of nothing where it is null.
-    sight: &'g Nullable<T>,
+    nullable: &'g Nullable<T>,
     /// The number of the slot's name: 0 where it is null, so that equal pointers have equal fields.
     slot: u32,
     tag: Tag,
     /// It isn't null.
     named: bool,
-    pub ghost full: { IsTrue named ↔ IsSome sight.now },
+    pub ghost full: { IsTrue named ↔ IsSome nullable.now },
     pub ghost zero: { ¬ (IsTrue named) → slot ≡ 0 },
 }
 
@@ -80,9 +80,9 @@ impl<'g, T> Ptr<'g, T> {
         ensures null { IsNull result }
         ensures tag { tag_of result ≡ no_tag }
     {
-        let sight = Nullable::none();
+        let nullable = Nullable::none();
         Ptr {
-            sight,
+            nullable,
             slot: 0,
             tag: Tag::None,
             named: false,
@@ -94,9 +94,9 @@ impl<'g, T> Ptr<'g, T> {
         ensures shown { shown_by result ≡ Some value.now }
         ensures tag { tag_of result ≡ no_tag }
     {
-        let sight = Nullable::of(value);
+        let nullable = Nullable::of(value);
         Ptr {
-            sight,
+            nullable,
             slot: slot.number(),
             tag: Tag::None,
             named: true,
@@ -107,7 +107,7 @@ impl<'g, T> Ptr<'g, T> {
         ensures { option_copied result ≡ shown_by self.entry }
     {
         if self.named {
-            Some(self.sight.get())
+            Some(self.nullable.get())
         } else {
             None
         }
@@ -182,13 +182,13 @@ impl<'g, T> Ptr<'g, T> {
 
 impl<'g, T: Item<T>> Ptr<'g, T> {
     ghost use Rattle.std.specs.Prelude.{ℕ, ◌≡◌, ◌↔◌, ◌+◌, ◌^◌, ◌<◌, IfErr, IfOk, IfSome, IsSome, MatchOption, MatchResult, None, Some, option_copied};
-    ghost use Rattle.sdd_standings.specs.Slots.{IsSharedBy, owners_of};
+    ghost use Rattle.sdd_world_model.specs.Slots.{IsSharedBy, owners_of};
     ghost use Rattle.sdd_participants.specs.declared.standing.Standing.TheVariants.{Shared as shared_by};
-    ghost use Rattle.sdd_space.specs.World.{World, standing_at};
+    ghost use Rattle.sdd_world_model.specs.World.{World, standing_at};
     ghost use Rattle.sdd_space.specs.CallerId.{IsSeated, IsExact};
     ghost use Rattle.sdd_space.specs.Refusals.{IsRefusedBy};
     ghost use Rattle.sdd_space.specs.Undisturbed.{Undisturbed};
-    ghost use Rattle.sdd_space.specs.WorldChanges.{with_standing};
+    ghost use Rattle.sdd_world_model.specs.WorldChanges.{with_standing};
     ghost use Rattle.sdd_space.specs.Shared.{IsOfSlots, right_of, slot_of};
     ghost use Rattle.sdd_space.specs.Ptr.{IsNull, PtrIsShown, shown_by, slot_named};
 
@@ -199,7 +199,7 @@ impl<'g, T: Item<T>> Ptr<'g, T> {
         ensures shown { option_copied result ≡ shown_by self.now }
         ensures null { IsSome result ↔ ¬ (IsNull self.now) }
     {
-        at.look(*self)
+        self.value()
     }
 
     /// One owner more of the item, if it is shared: None for null, for an item with one owner that can't be shared, and after the last owner went.
@@ -208,14 +208,14 @@ impl<'g, T: Item<T>> Ptr<'g, T> {
     ///
     /// `TooManyOwners` where 2^62 own it, cells counted; `Contended`, in a domain alone, where as many exchanges were lost as its limits allow.
     pub fn get_shared<S: SharedItems<T>>(&self, s: &mut S) -> Result<Option<Shared<T>>, Refused>
-        requires seated { IsSeated (S.seat s.old) }
-        requires shown { S.asks_sight s.old → PtrIsShown (S.shows s.old) self.now }
-        ensures undisturbed { Undisturbed S.seat S.own S.known S.shows s.old s.new }
-        ensures owner { IfOk result (IsOfSlots (S.seat s.old).home.slots) }
+        requires seated { IsSeated (S.caller s.old) }
+        requires shown { S.asks_shown s.old → PtrIsShown (S.shows s.old) self.now }
+        ensures undisturbed { Undisturbed S.caller S.own S.known S.shows s.old s.new }
+        ensures owner { IfOk result (IsOfSlots (S.caller s.old).home.slots) }
         ensures slot { IfOk result (λ o. IfSome o (λ owner. slot_named self.now ≡ Some (slot_of owner))) }
         ensures value { IfOk result (λ o. IfSome o (λ owner. (v : T) → S.shows s.old (slot_of owner) v → S.owns_value s.new (right_of owner) v)) }
-        ensures back { IfErr result (IsRefusedBy (S.seat s.old) Refused.TooManyOwners) }
-        ensures exact { IsExact (S.seat s.old) → MatchResult result
+        ensures back { IfErr result (IsRefusedBy (S.caller s.old) Refused.TooManyOwners) }
+        ensures exact { IsExact (S.caller s.old) → MatchResult result
             (λ o. MatchOption o
             ((S.world s.new ≡ S.world s.old) × IfSome (slot_named self.now) (λ slot. owners_of (standing_at (S.world s.old) slot) ≡ None))
             (λ owner. (owners : ℕ) × IsSharedBy owners (standing_at (S.world s.old) (slot_of owner)) × (owners < 2 ^ 62) ×

@@ -177,7 +177,7 @@ impl<T> RawPtr<T> {
 impl<T: Item<T>> RawPtr<T> {
     ghost use Rattle.std.specs.Prelude.{◌≡◌, ◌↔◌, IfSome, IsSome, Some};
     ghost use Rattle.sdd_participants.specs.declared.standing.Standing.TheVariants.{Raw};
-    ghost use Rattle.sdd_space.specs.World.{World, standing_at};
+    ghost use Rattle.sdd_world_model.specs.World.{World, standing_at};
     ghost use Rattle.sdd_space.specs.CallerId.{IsSeated, IsExact};
     ghost use Rattle.sdd_space.specs.Undisturbed.{Undisturbed};
     ghost use Rattle.sdd_space.specs.Guard.{reader_of};
@@ -188,12 +188,12 @@ impl<T: Item<T>> RawPtr<T> {
     /// A pointer to the item, with the same tag, where it is out as raw; it shows its value for as long as the guard is borrowed, whatever becomes of the
     /// item. A null pointer is one to nothing. None for a slot whose item isn't out as raw. The guard is one of the participant that calls.
     pub fn into_ptr<'g, S: RawItems<T>>(self, s: &mut S, guard: &'g Guard) -> Option<Ptr<'g, T>>
-        requires seated { IsSeated (S.seat s.old) }
-        requires reader { reader_of guard.now ≡ (S.seat s.old).reader }
-        ensures undisturbed { Undisturbed S.seat S.own S.known S.shows s.old s.new }
+        requires seated { IsSeated (S.caller s.old) }
+        requires reader { reader_of guard.now ≡ (S.caller s.old).reader }
+        ensures undisturbed { Undisturbed S.caller S.own S.known S.shows s.old s.new }
         ensures same { IfSome result (λ ptr. guarded.cell_seen ptr ≡ cell_seen self) }
         ensures shown { IfSome result (λ ptr. PtrIsShown (S.shows s.new) ptr) }
-        ensures exact { IsExact (S.seat s.old) →
+        ensures exact { IsExact (S.caller s.old) →
             (IsSome result ↔ IfSome (slot_named self) (λ slot. standing_at (S.world s.old) slot ≡ Some Raw)) × (S.world s.new ≡ S.world s.old) }
     {
         let Some(slot) = self.slot() else {

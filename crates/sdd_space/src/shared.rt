@@ -1,20 +1,20 @@
 ghost use Rattle.std.specs.Fn.{FnOnceReturnsAtMut};
 ghost use Rattle.std.specs.Prelude.{ℕ, ◌≡◌, ◌+◌, ◌^◌, ◌<◌, ◌↔◌, ◌⊎◌, ◌-◌, IfErr, IfOk, IfSome, IsSome, IsTrue, MatchBool, MatchOption, MatchResult, Some, None, option_map, if◌then◌else◌};
 ghost use Rattle.sdd_rights.specs.Right.{kind_of};
-ghost use Rattle.sdd_space.specs.OwnerOrCell.{AreOf};
-ghost use Rattle.sdd_space.specs.World.{World, AnyGuardOpen, standing_at, value_at};
+ghost use Rattle.sdd_world_model.specs.OwnerOrCell.{AreOf};
+ghost use Rattle.sdd_world_model.specs.World.{World, AnyGuardOpen, standing_at, value_at};
 ghost use Rattle.sdd_space.specs.CallerId.{IsSeated, IsExact, IsLone};
 ghost use Rattle.sdd_space.specs.Refusals.{IsRefusedBy};
-ghost use Rattle.sdd_space.specs.KnownEpochs.{KnowsOn};
-ghost use Rattle.sdd_space.specs.Releases.{Releases, left_waiting};
+ghost use Rattle.sdd_world_model.specs.KnownEpochs.{KnowsOn};
+ghost use Rattle.sdd_world_model.specs.Releases.{Releases, left_waiting};
 ghost use Rattle.sdd_space.specs.Undisturbed.{Undisturbed, Unmoved};
-ghost use Rattle.sdd_space.specs.ParticipantChanges.{KeepsMoreWaiting};
-ghost use Rattle.sdd_space.specs.WorldChanges.{made_shared, with_standing, with_value, dropped};
+ghost use Rattle.sdd_world_model.specs.ParticipantChanges.{KeepsMoreWaiting};
+ghost use Rattle.sdd_world_model.specs.WorldChanges.{made_shared, with_standing, with_value, dropped};
 ghost use Rattle.sdd_space.specs.Shared.{right_of, slot_of, slots_home};
 ghost use Rattle.sdd_core.specs.declared.tag.Tag.TheVariants.{None as no_tag};
 ghost use Rattle.sdd_space.specs.Ptr.{PtrIsShown, slot_named, shown_by, tag_of, KeepsOthers, KeepsShown};
 ghost use Rattle.sdd_space.specs.Guard.{reader_of};
-ghost use Rattle.sdd_standings.specs.Slots.{IsSharedBy, owners_of};
+ghost use Rattle.sdd_world_model.specs.Slots.{IsSharedBy, owners_of};
 ghost use Rattle.sdd_participants.specs.Slab.{IsEmptyAt, IsFull};
 
 use crate::guard::Guard;
@@ -104,13 +104,13 @@ impl<T: Item<T>> Shared<T> {
 
     /// The item's value, for as long as the guard is borrowed, also after the item was retired. The guard is one of the participant that calls.
     pub fn get_guarded_ref<'g, S: Items<T>>(&self, guard: &'g Guard, s: &mut S) -> &'g T
-        requires seated { IsSeated (S.seat s.old) }
-        requires home { slots_home self.now ≡ (S.seat s.old).home.slots }
-        requires reader { reader_of guard.now ≡ (S.seat s.old).reader }
-        ensures undisturbed { Undisturbed S.seat S.own S.known S.shows s.old s.new }
+        requires seated { IsSeated (S.caller s.old) }
+        requires home { slots_home self.now ≡ (S.caller s.old).home.slots }
+        requires reader { reader_of guard.now ≡ (S.caller s.old).reader }
+        ensures undisturbed { Undisturbed S.caller S.own S.known S.shows s.old s.new }
         ensures shown { S.shows s.new (slot_of self.now) result.now }
         ensures value { S.owns_value s.new (right_of self.now) result.now }
-        ensures exact { IsExact (S.seat s.old) → S.world s.new ≡ S.world s.old }
+        ensures exact { IsExact (S.caller s.old) → S.world s.new ≡ S.world s.old }
     {
         s.get_guarded(self.right(), guard)
     }
@@ -118,17 +118,17 @@ impl<T: Item<T>> Shared<T> {
     /// A pointer to the item, which shows its value for as long as the guard is borrowed, also after the item was retired. The guard is one of the
     /// participant that calls.
     pub fn get_guarded_ptr<'g, S: Items<T>>(&self, guard: &'g Guard, s: &mut S) -> Ptr<'g, T>
-        requires seated { IsSeated (S.seat s.old) }
-        requires home { slots_home self.now ≡ (S.seat s.old).home.slots }
-        requires reader { reader_of guard.now ≡ (S.seat s.old).reader }
-        ensures undisturbed { Undisturbed S.seat S.own S.known S.shows s.old s.new }
+        requires seated { IsSeated (S.caller s.old) }
+        requires home { slots_home self.now ≡ (S.caller s.old).home.slots }
+        requires reader { reader_of guard.now ≡ (S.caller s.old).reader }
+        ensures undisturbed { Undisturbed S.caller S.own S.known S.shows s.old s.new }
         ensures slot { slot_named result ≡ Some (slot_of self.now) }
         ensures tag { tag_of result ≡ no_tag }
         ensures shown { IfSome (shown_by result) (S.shows s.new (slot_of self.now)) }
         ensures value { IfSome (shown_by result) (S.owns_value s.new (right_of self.now)) }
         ensures full { IsSome (shown_by result) }
-        ensures sight { PtrIsShown (S.shows s.new) result }
-        ensures exact { IsExact (S.seat s.old) → S.world s.new ≡ S.world s.old }
+        ensures pointer { PtrIsShown (S.shows s.new) result }
+        ensures exact { IsExact (S.caller s.old) → S.world s.new ≡ S.world s.old }
     {
         let value = s.get_guarded(self.right(), guard);
         Ptr::to(self.slot(), value)
@@ -139,14 +139,14 @@ impl<T: Item<T>> Shared<T> {
     /// `NoSlot` where none is free; `Contended`, in a domain alone, where as many exchanges were lost as its limits allow. The value comes back.
     #[inline(always)]
     pub fn new<S: Items<T>>(value: T, s: &mut S) -> Result<Shared<T>, (T, Refused)>
-        requires seated { IsSeated (S.seat s.old) }
-        requires home { AreOf (S.seat s.old).home (T.holds value) }
-        ensures undisturbed { Undisturbed S.seat S.own S.known S.shows s.old s.new }
-        ensures home { IfOk result (λ owner. slots_home owner ≡ (S.seat s.old).home.slots) }
+        requires seated { IsSeated (S.caller s.old) }
+        requires home { AreOf (S.caller s.old).home (T.holds value) }
+        ensures undisturbed { Undisturbed S.caller S.own S.known S.shows s.old s.new }
+        ensures home { IfOk result (λ owner. slots_home owner ≡ (S.caller s.old).home.slots) }
         ensures shown { IfOk result (λ owner. S.owns_value s.new (right_of owner) value) }
         ensures back { IfErr result (λ e. (e.0 ≡ value) × ((e.1 ≡ Refused.NoSlot) ⊎ (e.1 ≡ Refused.Contended))) }
-        ensures lone { IsLone (S.seat s.old) → IfErr result (λ e. (e.1 ≡ Refused.NoSlot) × S.is_used_up s.old) }
-        ensures exact { IsExact (S.seat s.old) → MatchResult result
+        ensures lone { IsLone (S.caller s.old) → IfErr result (λ e. (e.1 ≡ Refused.NoSlot) × S.is_used_up s.old) }
+        ensures exact { IsExact (S.caller s.old) → MatchResult result
             (λ owner. IsEmptyAt (S.world s.old).standings (slot_of owner) × (S.world s.new ≡ made_shared (S.world s.old) (slot_of owner) value))
             (λ e. IsFull (S.world s.old).standings × (e ≡ (value, Refused.NoSlot)) × (S.world s.new ≡ S.world s.old)) }
     {
@@ -163,15 +163,15 @@ impl<T: Item<T>> Shared<T> {
         f: F,
         s: &mut S,
     ) -> Result<Shared<T>, (F, Refused)>
-        requires seated { IsSeated (S.seat s.old) }
+        requires seated { IsSeated (S.caller s.old) }
         requires callable { F.pre f }
-        requires home { (value : T) → F.post f value → AreOf (S.seat s.old).home (T.holds value) }
-        ensures undisturbed { Undisturbed S.seat S.own S.known S.shows s.old s.new }
-        ensures home { IfOk result (λ owner. slots_home owner ≡ (S.seat s.old).home.slots) }
+        requires home { (value : T) → F.post f value → AreOf (S.caller s.old).home (T.holds value) }
+        ensures undisturbed { Undisturbed S.caller S.own S.known S.shows s.old s.new }
+        ensures home { IfOk result (λ owner. slots_home owner ≡ (S.caller s.old).home.slots) }
         ensures shown { IfOk result (λ owner. (value : T) × F.post f value × S.owns_value s.new (right_of owner) value) }
         ensures back { IfErr result (λ e. (e.0 ≡ f) × ((e.1 ≡ Refused.NoSlot) ⊎ (e.1 ≡ Refused.Contended))) }
-        ensures lone { IsLone (S.seat s.old) → IfErr result (λ e. (e.1 ≡ Refused.NoSlot) × S.is_used_up s.old) }
-        ensures exact { IsExact (S.seat s.old) → MatchResult result
+        ensures lone { IsLone (S.caller s.old) → IfErr result (λ e. (e.1 ≡ Refused.NoSlot) × S.is_used_up s.old) }
+        ensures exact { IsExact (S.caller s.old) → MatchResult result
             (λ owner. IsEmptyAt (S.world s.old).standings (slot_of owner) ×
             ((value : T) × F.post f value × (S.world s.new ≡ made_shared (S.world s.old) (slot_of owner) value)))
             (λ e. IsFull (S.world s.old).standings × (e ≡ (f, Refused.NoSlot)) × (S.world s.new ≡ S.world s.old)) }
@@ -191,14 +191,14 @@ impl<T: Item<T>> Shared<T> {
         ptr: Ptr<'g, T>,
         s: &mut S,
     ) -> Result<Shared<T>, (Ptr<'g, T>, Option<Refused>)>
-        requires seated { IsSeated (S.seat s.old) }
-        requires shown { S.asks_sight s.old → PtrIsShown (S.shows s.old) ptr }
-        ensures undisturbed { Undisturbed S.seat S.own S.known S.shows s.old s.new }
-        ensures home { IfOk result (λ owner. slots_home owner ≡ (S.seat s.old).home.slots) }
+        requires seated { IsSeated (S.caller s.old) }
+        requires shown { S.asks_shown s.old → PtrIsShown (S.shows s.old) ptr }
+        ensures undisturbed { Undisturbed S.caller S.own S.known S.shows s.old s.new }
+        ensures home { IfOk result (λ owner. slots_home owner ≡ (S.caller s.old).home.slots) }
         ensures slot { IfOk result (λ owner. slot_named ptr.entry ≡ Some (slot_of owner)) }
         ensures value { IfOk result (λ owner. (v : T) → S.shows s.old (slot_of owner) v → S.owns_value s.new (right_of owner) v) }
-        ensures back { IfErr result (λ e. (e.0 ≡ ptr.entry) × IfSome e.1 (IsRefusedBy (S.seat s.old) Refused.TooManyOwners)) }
-        ensures exact { IsExact (S.seat s.old) → MatchResult result
+        ensures back { IfErr result (λ e. (e.0 ≡ ptr.entry) × IfSome e.1 (IsRefusedBy (S.caller s.old) Refused.TooManyOwners)) }
+        ensures exact { IsExact (S.caller s.old) → MatchResult result
             (λ owner. (owners : ℕ) × IsSharedBy owners (standing_at (S.world s.old) (slot_of owner)) × (owners < 2 ^ 62) ×
             (S.world s.new ≡ with_standing (S.world s.old) (slot_of owner) (Standing.Shared (owners + 1))))
             (λ e. (S.world s.new ≡ S.world s.old) × MatchOption e.1
@@ -217,14 +217,14 @@ impl<T: Item<T>> Shared<T> {
     ///
     /// `TooManyOwners` where 2^62 own it, cells counted.
     pub fn clone<S: SharedOwners<T>>(&self, s: &mut S) -> Result<Shared<T>, Refused>
-        requires seated { IsSeated (S.seat s.old) }
-        requires home { slots_home self.now ≡ (S.seat s.old).home.slots }
-        ensures undisturbed { Undisturbed S.seat S.own S.known S.shows s.old s.new }
-        ensures home { IfOk result (λ other. slots_home other ≡ (S.seat s.old).home.slots) }
+        requires seated { IsSeated (S.caller s.old) }
+        requires home { slots_home self.now ≡ (S.caller s.old).home.slots }
+        ensures undisturbed { Undisturbed S.caller S.own S.known S.shows s.old s.new }
+        ensures home { IfOk result (λ other. slots_home other ≡ (S.caller s.old).home.slots) }
         ensures slot { IfOk result (λ other. slot_of other ≡ slot_of self.now) }
         ensures value { IfOk result (λ other. (v : T) → S.owns_value s.old (right_of self.now) v → S.owns_value s.new (right_of other) v) }
         ensures back { IfErr result (λ e. e ≡ Refused.TooManyOwners) }
-        ensures exact { IsExact (S.seat s.old) → (owners : ℕ) × IsSharedBy owners (standing_at (S.world s.old) (slot_of self.now)) × MatchResult result
+        ensures exact { IsExact (S.caller s.old) → (owners : ℕ) × IsSharedBy owners (standing_at (S.world s.old) (slot_of self.now)) × MatchResult result
             (λ _. (owners < 2 ^ 62) × (S.world s.new ≡ with_standing (S.world s.old) (slot_of self.now) (Standing.Shared (owners + 1))))
             (λ e. (owners ≡ 2 ^ 62) × (e ≡ Refused.TooManyOwners) × (S.world s.new ≡ S.world s.old)) }
     {
@@ -234,12 +234,12 @@ impl<T: Item<T>> Shared<T> {
     /// Gives this owner up, and answers whether it was the last, cells counted. The last one's item is retired: it waits with the calling participant.
     #[inline]
     pub fn release<S: Items<T>>(self, s: &mut S) -> bool
-        requires seated { IsSeated (S.seat s.old) }
-        requires home { slots_home self ≡ (S.seat s.old).home.slots }
-        ensures unmoved { Unmoved S.seat S.known S.shows s.old s.new }
+        requires seated { IsSeated (S.caller s.old) }
+        requires home { slots_home self ≡ (S.caller s.old).home.slots }
+        ensures unmoved { Unmoved S.caller S.known S.shows s.old s.new }
         ensures own { S.own s.new ≡ left_waiting result (slot_of self) (S.own s.old) }
-        ensures released { IsExact (S.seat s.old) →
-            Releases (S.world s.old) (S.seat s.old).place (slot_of self) StandingKind.Shared result (S.world s.new) }
+        ensures released { IsExact (S.caller s.old) →
+            Releases (S.world s.old) (S.caller s.old).place (slot_of self) StandingKind.Shared result (S.world s.new) }
     {
         s.release(self.into_right(), StandingKind::Shared)
     }
@@ -252,22 +252,22 @@ impl<T: Item<T>> Shared<T> {
         f: F,
         s: &mut S,
     ) -> Result<R, (F, Refused)>
-        requires seated { IsSeated (S.seat s.old) }
-        requires home { slots_home self.old ≡ (S.seat s.old).home.slots }
+        requires seated { IsSeated (S.caller s.old) }
+        requires home { slots_home self.old ≡ (S.caller s.old).home.slots }
         requires callable { F.IsAlwaysCallable f }
         requires held { (was now : T) (r : R) → FnOnceReturnsAtMut F.FnOnce f was r now →
-            AreOf (S.seat s.old).home (T.holds was) → AreOf (S.seat s.old).home (T.holds now) }
+            AreOf (S.caller s.old).home (T.holds was) → AreOf (S.caller s.old).home (T.holds now) }
         ensures slot { slot_of self.new ≡ slot_of self.old }
         ensures home { slots_home self.new ≡ slots_home self.old }
         ensures same { IfErr result (λ _. self.new ≡ self.old) }
         ensures kept { S.keeps_right → self.new ≡ self.old }
-        ensures seat { S.seat s.new ≡ S.seat s.old }
+        ensures caller { S.caller s.new ≡ S.caller s.old }
         ensures own { S.own s.new ≡ S.own s.old }
         ensures known { KnowsOn (S.known s.old) (S.known s.new) }
         ensures back { IfErr result (λ e. (e.0 ≡ f) × ((e.1 ≡ Refused.NotAlone) ⊎ (e.1 ≡ Refused.GuardOpen))) }
         ensures shown { IfOk result (λ r. (was : T) × (now : T) × S.owns_value s.old (right_of self.old) was ×
             FnOnceReturnsAtMut F.FnOnce f was r now × S.owns_value s.new (right_of self.new) now) }
-        ensures exact { IsExact (S.seat s.old) → (owners : ℕ) × IsSharedBy owners (standing_at (S.world s.old) (slot_of self.old)) × MatchResult result
+        ensures exact { IsExact (S.caller s.old) → (owners : ℕ) × IsSharedBy owners (standing_at (S.world s.old) (slot_of self.old)) × MatchResult result
             (λ r. (owners ≡ 1) × ¬ (AnyGuardOpen (S.world s.old)) ×
             ((was : T) × (now : T) × (value_at (S.world s.old) (slot_of self.old) ≡ Some was) × FnOnceReturnsAtMut F.FnOnce f was r now ×
             (S.world s.new ≡ with_value (S.world s.old) (slot_of self.old) now)))
@@ -285,15 +285,15 @@ impl<T: Item<T>> Shared<T> {
     /// `GuardOpen` where this is the last owner and a guard is open; `Contended`, in a domain alone, where as many exchanges were lost as its limits
     /// allow. The owner comes back, and nothing more waits than before.
     pub fn drop_in_place<S: InPlaceItems<T>>(self, s: &mut S) -> Result<bool, (Shared<T>, Refused)>
-        requires seated { IsSeated (S.seat s.old) }
-        requires home { slots_home self ≡ (S.seat s.old).home.slots }
-        ensures seat { S.seat s.new ≡ S.seat s.old }
+        requires seated { IsSeated (S.caller s.old) }
+        requires home { slots_home self ≡ (S.caller s.old).home.slots }
+        ensures caller { S.caller s.new ≡ S.caller s.old }
         ensures own { MatchResult result (λ _. KeepsMoreWaiting (S.own s.old) (S.own s.new)) (λ _. S.own s.new ≡ S.own s.old) }
         ensures known { KnowsOn (S.known s.old) (S.known s.new) }
-        ensures back { IfErr result (λ e. (right_of e.0 ≡ right_of self) × IsRefusedBy (S.seat s.old) Refused.GuardOpen e.1) }
-        ensures exact { IsExact (S.seat s.old) → (owners : ℕ) × IsSharedBy owners (standing_at (S.world s.old) (slot_of self)) × MatchResult result
+        ensures back { IfErr result (λ e. (right_of e.0 ≡ right_of self) × IsRefusedBy (S.caller s.old) Refused.GuardOpen e.1) }
+        ensures exact { IsExact (S.caller s.old) → (owners : ℕ) × IsSharedBy owners (standing_at (S.world s.old) (slot_of self)) × MatchResult result
             (λ last. MatchBool last
-            ((owners ≡ 1) × ¬ (AnyGuardOpen (S.world s.old)) × (S.world s.new ≡ dropped T.holds (S.world s.old) (S.seat s.old).place (slot_of self)))
+            ((owners ≡ 1) × ¬ (AnyGuardOpen (S.world s.old)) × (S.world s.new ≡ dropped T.holds (S.world s.old) (S.caller s.old).place (slot_of self)))
             ((1 < owners) × (S.world s.new ≡ with_standing (S.world s.old) (slot_of self) (Standing.Shared (owners - 1)))))
             (λ e. (owners ≡ 1) × AnyGuardOpen (S.world s.old) × (e.1 ≡ Refused.GuardOpen) × (S.world s.new ≡ S.world s.old)) }
         ensures others { KeepsOthers (slot_of self) (S.shows s.old) (S.shows s.new) }

@@ -51,5 +51,5 @@ pub trait Space<T: Item<T>>: Look<T>
     ghost is_alone: { Bool };
 
     /// Where only the caller's own calls change the space, what they do is said exactly.
-    ghost alone_is_exact: { (s : Self) → IsTrue is_alone → IsExact (Self.seat s) };
+    ghost alone_is_exact: { (s : Self) → IsTrue is_alone → IsExact (Self.caller s) };
 }

@@ -1,9 +1,9 @@
-pub mod Issuing
+pub mod IssuedSections
 pub mod Fields
-pub mod Shares
-pub mod Rounds
-pub mod Spots
-pub mod Sent
-pub mod Keeping
-pub mod Stakes
-pub mod Rooms
+pub mod BlockShares
+pub mod Lifetimes
+pub mod BlockValues
+pub mod BlockSend
+pub mod KeptSections
+pub mod Fractions
+pub mod UninitMemory

@@ -1,4 +1,4 @@
--- What a reference to a sight shows.
+-- What a reference to a nullable shows.
 use Rattle.std.specs.Prelude.{Option, None, Some}
 use base.Fml.{Lft, Fml}
 use denote.RattleType.{RattleType}
@@ -7,6 +7,6 @@ use denote.Sharing.{nothing}
 use denote.Memory.{shared_of}
 
 -- of a value, what a reference to the value has at the same place, for as long; of nothing, nothing
-abbrev pub sight_shares : (R : RattleType) → Option R.Denot → Ptr → Lft → Fml
-sight_shares R None p = nothing
-sight_shares R (Some x) p = shared_of R x (block_of p) (count_of p)
+abbrev pub nullable_shares : (R : RattleType) → Option R.Denot → Ptr → Lft → Fml
+nullable_shares R None p = nothing
+nullable_shares R (Some x) p = shared_of R x (block_of p) (count_of p)

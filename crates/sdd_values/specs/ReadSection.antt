@@ -1,4 +1,4 @@
--- What shows that a round has ended
+-- What shows that a lifetime has ended
 use Rattle.std.specs.Prelude.{ℕ, [], ◌∷◌}
 use base.Fml.{Lft, Fml, fdead}
 use denote.Sharing.{said}

@@ -1,4 +1,4 @@
-//! The end of a tenure.
+//! The end of a section.
 ghost use Rattle.std.specs.Prelude.{◌≡◌, ◌≢◌, ℕ};
 ghost use Rattle.sdd_values.specs.ReadSection.{ended_owns, ended_shares};
 
@@ -7,7 +7,7 @@ use std::marker::{Model, PhantomData};
 
 const _: () = prove!(size_of::<EndedSection>() == 0);
 
-/// What shows that a round has ended: nothing that is lent to it is used any more.
+/// What shows that a lifetime has ended: nothing that is lent to it is used any more.
 pub struct EndedSection {
     of: PhantomData<u64>,
     pub ghost name: { ℕ },
@@ -19,14 +19,14 @@ impl Model for EndedSection {
     ghost also_shares = { λ e _ κ. ended_shares e.name κ };
 }
 
-/// The round of a part that has all units ends, and the next begins. Since all units are here, nobody else has a part of the tenure.
-pub fn end_round<K>(tenure: &mut Fraction<K>) -> EndedSection
-    requires { tenure.old.units ≡ WHOLE }
-    ensures ended { result.name ≡ tenure.old.round }
-    ensures next { tenure.new ≡ record tenure.old { round = tenure.new.round } }
-    ensures another { tenure.new.round ≢ tenure.old.round }
+/// The lifetime of a part that has all units ends, and the next begins. Since all units are here, nobody else has a part of the section.
+pub fn end_section<K>(section: &mut Fraction<K>) -> EndedSection
+    requires { section.old.units ≡ WHOLE }
+    ensures ended { result.name ≡ section.old.lifetime }
+    ensures next { section.new ≡ record section.old { lifetime = section.new.lifetime } }
+    ensures another { section.new.lifetime ≢ section.old.lifetime }
 {
-    let _ = tenure;
+    let _ = section;
     EndedSection { of: PhantomData }
 }
 

@@ -2,7 +2,7 @@
 ghost use Rattle.std.specs.Fn.{FnOnceReturnsAtMut};
 ghost use Rattle.std.specs.Prelude.{◌≡◌, ◌<◌, ℕ, IfOk, IsSome, None, Some, length, option_copied, replicate, slice_set};
 ghost use Rattle.core.specs.Mem.Slots.{slots_items, slots_ptr, slots_len, IsFull};
-ghost use Rattle.sdd_values.specs.Block.{IsUnlent, IsFreeFor, stake_at, lent, settled, unlent};
+ghost use Rattle.sdd_values.specs.Block.{IsUnlent, IsFreeFor, fraction_at, lent, settled, unlent};
 ghost use Rattle.sdd_values.specs.LentValues.{value_at};
 
 use crate::block::Block;
@@ -18,7 +18,7 @@ use std_alloc::room::may_hold;
 
 /// Places side by side in one block of memory, which is taken when they are made.
 ///
-/// A reader may look at a value for as long as its tenure is borrowed. While a value is lent to some reader, it is neither taken nor changed.
+/// A reader may look at a value for as long as its section is borrowed. While a value is lent to some reader, it is neither taken nor changed.
 pub struct LentValues<T> {
     block: Block<Option<T>>,
     size: usize,
@@ -30,13 +30,13 @@ pub struct LentValues<T> {
 }
 
 impl<T> Model for LentValues<T> {
-    ghost use Rattle.sdd_values.specs.LentValues.{LentValues, AreStakes};
+    ghost use Rattle.sdd_values.specs.LentValues.{LentValues, AreFractions};
 
     ghost Value = { LentValues T };
 
-    ghost view = { λ p. record { values = p.block.values; stakes = p.block.stakes; readers = p.readers } };
+    ghost view = { λ p. record { values = p.block.values; fractions = p.block.fractions; readers = p.readers } };
 
-    ghost invariant = { λ p. AreStakes p.block.values p.block.stakes p.readers };
+    ghost invariant = { λ p. AreFractions p.block.values p.block.fractions p.readers };
 }
 
 /// No place of the row has a value.
@@ -55,7 +55,7 @@ impl<T> LentValues<T> {
     /// That many places, all empty, for that many readers.
     pub fn new(alloc: Global, size: usize, readers: u32) -> Result<LentValues<T>, AllocError>
         ensures values { IfOk result (λ places. places.values ≡ replicate size None) }
-        ensures stakes { IfOk result (λ places. places.stakes ≡ unlent size readers) }
+        ensures fractions { IfOk result (λ places. places.fractions ≡ unlent size readers) }
         ensures readers { IfOk result (λ places. places.readers ≡ readers) }
     {
         if !may_hold::<Option<T>>(size) {
@@ -122,7 +122,7 @@ impl<T> LentValues<T> {
     pub fn take(&mut self, at: usize) -> T
         requires inside { at < length self.old.values }
         requires filled { IsSome (value_at self.old at) }
-        requires home { IsUnlent self.old.stakes at }
+        requires home { IsUnlent self.old.fractions at }
         ensures value { value_at self.old at ≡ Some result }
         ensures taken { self.new ≡ record self.old { values = slice_set self.old.values at None } }
     {
@@ -132,25 +132,25 @@ impl<T> LentValues<T> {
         value
     }
 
-    /// The value in a place, for a reader, for as long as its tenure is borrowed, whatever becomes of the places.
-    pub fn look<'g, K>(&mut self, at: usize, reader: usize, tenure: &'g Fraction<K>) -> &'g T
+    /// The value in a place, for a reader, for as long as its section is borrowed, whatever becomes of the places.
+    pub fn look<'g, K>(&mut self, at: usize, reader: usize, section: &'g Fraction<K>) -> &'g T
         requires inside { at < length self.old.values }
         requires reader { reader < self.old.readers }
         requires filled { IsSome (value_at self.old at) }
-        requires free { IsFreeFor tenure.now.round (stake_at self.old.stakes at reader) }
+        requires free { IsFreeFor section.now.lifetime (fraction_at self.old.fractions at reader) }
         ensures value { value_at self.old at ≡ Some result.now }
-        ensures lent { self.new ≡ record self.old { stakes = lent at reader tenure.now.round self.old.stakes } }
+        ensures lent { self.new ≡ record self.old { fractions = lent at reader section.now.lifetime self.old.fractions } }
     {
-        let value = self.block.look(at, reader, tenure);
+        let value = self.block.look(at, reader, section);
         assert_unchecked(value.is_some());
         let Some(value) = value else { unreachable!() };
         value
     }
 
-    /// What a reader was lent in a tenure that has ended is home again, in all places at once.
+    /// What a reader was lent in a section that has ended is home again, in all places at once.
     pub fn settle(&mut self, reader: usize, ended: &EndedSection)
-        requires { (at : ℕ) → IsFreeFor ended.now.name (stake_at self.old.stakes at reader) }
-        ensures { self.new ≡ record self.old { stakes = settled reader self.old.stakes } }
+        requires { (at : ℕ) → IsFreeFor ended.now.name (fraction_at self.old.fractions at reader) }
+        ensures { self.new ≡ record self.old { fractions = settled reader self.old.fractions } }
     {
         self.block.settle(reader, ended);
     }
@@ -159,7 +159,7 @@ impl<T> LentValues<T> {
     pub fn replace(&mut self, at: usize, value: T) -> T
         requires inside { at < length self.old.values }
         requires filled { IsSome (value_at self.old at) }
-        requires home { IsUnlent self.old.stakes at }
+        requires home { IsUnlent self.old.fractions at }
         ensures was { value_at self.old at ≡ Some result }
         ensures now { self.new ≡ record self.old { values = slice_set self.old.values at (Some value) } }
     {
@@ -173,7 +173,7 @@ impl<T> LentValues<T> {
     pub fn edit<R, F: FnOnce(&mut T) -> R>(&mut self, at: usize, f: F) -> R
         requires inside { at < length self.old.values }
         requires filled { IsSome (value_at self.old at) }
-        requires home { IsUnlent self.old.stakes at }
+        requires home { IsUnlent self.old.fractions at }
         requires callable { F.IsAlwaysCallable f }
         ensures { (was : T) × (now : T) × (value_at self.old at ≡ Some was) × FnOnceReturnsAtMut F.FnOnce f was result now ×
             (self.new ≡ record self.old { values = slice_set self.old.values at (Some now) }) }

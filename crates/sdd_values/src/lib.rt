@@ -1,14 +1,14 @@
 //! Places for values in one block of memory, which readers look at for as long as they have a guard.
 //!
 //! - [`LentValues`] has a number of places, each empty or with a value, and a number of readers. Its memory is taken once and given back by `destroy`.
-//! - A reader's *tenure* lasts while it has a guard. [`ReadSections`] keeps the tenures of a space's readers; each guard has a part of its reader's, a
-//!   [`ReadSection`], and guards of one reader that nest share one. When all parts are back the tenure can end, which an [`EndedSection`] shows.
-//! - For each value each reader has a *stake*, which is home or lent to the reader's tenure. `LentValues::look` lends it, and answers a reference that
+//! - A reader's *section* lasts while it has a guard. [`ReadSections`] keeps the sections of a space's readers; each guard has a part of its reader's, a
+//!   [`ReadSection`], and guards of one reader that nest share one. When all parts are back the section can end, which an [`EndedSection`] shows.
+//! - For each value each reader has a *fraction*, which is home or lent to the reader's section. `LentValues::look` lends it, and answers a reference that
 //!   lives as long as the guard's part is borrowed, whatever becomes of the places meanwhile. `LentValues::settle` has what a reader was lent home again
-//!   once its tenure has ended, in all places at once.
-//! - A value is taken or replaced only where all its stakes are home. So nobody can look at it any more.
+//!   once its section has ended, in all places at once.
+//! - A value is taken or replaced only where all its fractions are home. So nobody can look at it any more.
 //!
-//! Stakes and tenures exist for proofs alone: they take no bytes, and beside the look itself no instruction runs for them.
+//! Fractions and sections exist for proofs alone: they take no bytes, and beside the look itself no instruction runs for them.
 //!
 //! - A [`Nullable`] shows a value or nothing. A reference to one is a single word that can be copied, for a pointer that may be null.
 //!
@@ -23,7 +23,7 @@ mod raw_slice;
 mod read_sections;
 mod uninit_block;
 
-pub use ended_section::{EndedSection, end_round};
+pub use ended_section::{EndedSection, end_section};
 pub use lent_values::LentValues;
 pub use nullable::Nullable;
 pub use read_sections::{ReadSection, ReadSections, SectionState};

@@ -2,7 +2,7 @@
 ghost use Rattle.std.specs.Prelude.{◌≡◌, Option, None, Some, IsSome};
 ghost use Rattle.std.specs.Coded.{coded_option};
 ghost use base.Fml.{ffalse};
-ghost use Rattle.sdd_values.specs.Nullable.{sight_shares};
+ghost use Rattle.sdd_values.specs.Nullable.{nullable_shares};
 
 use std::marker::{Move, Owns, PhantomData};
 
@@ -19,7 +19,7 @@ impl<T> Owns for Nullable<T> {
 
     ghost coded = { coded_option T.code };
 
-    ghost shr_at = { λ shown p κ. sight_shares T.row shown p κ };
+    ghost shr_at = { λ shown p κ. nullable_shares T.row shown p κ };
 }
 
 impl<T> Move for Nullable<T> {
@@ -27,21 +27,21 @@ impl<T> Move for Nullable<T> {
 }
 
 impl<T> Nullable<T> {
-    /// A sight of nothing.
+    /// One that shows nothing.
     pub fn none<'g>() -> &'g Nullable<T>
         ensures { result.now ≡ None }
     {
         unsafe { &*(&() as *const () as *const Nullable<T>) }
     }
 
-    /// A sight of a value, for as long as that is borrowed.
+    /// One that shows a value, for as long as that is borrowed.
     pub fn of<'g>(value: &'g T) -> &'g Nullable<T>
         ensures { result.now ≡ Some value.now }
     {
         unsafe { &*(value as *const T as *const Nullable<T>) }
     }
 
-    /// The value in sight, for as long as the sight is borrowed.
+    /// The value that it shows, for as long as it is borrowed.
     pub fn get<'g>(&'g self) -> &'g T
         requires { IsSome self.now }
         ensures { self.now ≡ Some result.now }

@@ -1,8 +1,8 @@
-//! The tenures of the readers of one space, each a number of a book, whose round is the tenure's lifetime.
+//! The sections of the readers of one space, each a number of a ghost map, whose lifetime is the section's own.
 ghost use Rattle.std.specs.Prelude.{◌≡◌, ◌≢◌, ◌+◌, ◌-◌, ◌<◌, ◌≤◌, ℕ, IfOk, length, slice_set};
 ghost use Rattle.sdd_values.specs.ReadSections.{kept_at, whole};
 
-use crate::ended_section::{EndedSection, end_round};
+use crate::ended_section::{EndedSection, end_section};
 use sdd_rights::{Fraction, GhostKeys, WHOLE};
 use std::alloc::{AllocError, Global};
 use std::marker::Model;
@@ -14,42 +14,43 @@ pub enum SectionState {
     Open,
 }
 
-/// A part of a reader's tenure, as an open guard has one. While it is borrowed, the tenure lasts.
+/// Some units of a reader's section, as an open guard has one. While it is borrowed, the section lasts.
 pub type ReadSection = Fraction<SectionState>;
 
-/// What a space keeps of the tenures of its readers. Each open guard has a part, of one unit.
+/// What a space keeps of the sections of its readers. Each open guard has one unit.
 ///
-/// The parts have no bytes; still `new` asks the allocator once, for none.
+/// They have no bytes; still `new` asks the allocator once, for none.
 #[derive(Drop)]
 pub struct ReadSections {
-    book: GhostKeys<SectionState>,
-    parts: Vec<ReadSection>,
+    keys: GhostKeys<SectionState>,
+    sections: Vec<ReadSection>,
 }
 
 impl Model for ReadSections {
     ghost use Rattle.std.specs.Prelude.{map};
-    ghost use Rattle.sdd_values.specs.ReadSections.{ReadSections, ArePartsOf, kept_of};
+    ghost use Rattle.sdd_values.specs.ReadSections.{ReadSections, AreSectionsOf, kept_of};
 
     ghost Value = { ReadSections };
 
-    ghost view = { λ t. record { home = t.book.home; kept = map kept_of t.parts.items } };
+    ghost view = { λ t. record { home = t.keys.home; kept = map kept_of t.sections.items } };
 
-    ghost invariant = { λ t. ArePartsOf t.book.home t.parts.items };
+    ghost invariant = { λ t. AreSectionsOf t.keys.home t.sections.items };
 }
 
 impl ReadSections {
     /// A home of their own for that many readers, none of which has a guard.
     pub fn new(alloc: Global, size: usize) -> Result<ReadSections, AllocError>
-        ensures size { IfOk result (λ tenures. tenures.home.size ≡ size) }
-        ensures count { IfOk result (λ tenures. length tenures.kept ≡ size) }
-        ensures closed { IfOk result (λ tenures. (k : ℕ) → k < size → ((kept_at tenures k).kind ≡ SectionState.Closed) × ((kept_at tenures k).units ≡ WHOLE)) }
+        ensures size { IfOk result (λ sections. sections.home.size ≡ size) }
+        ensures count { IfOk result (λ sections. length sections.kept ≡ size) }
+        ensures closed { IfOk result (λ sections. (k : ℕ) → k < size → ((kept_at sections k).kind ≡ SectionState.Closed)
+            × ((kept_at sections k).units ≡ WHOLE)) }
     {
-        let mut book = GhostKeys::new(size);
-        let mut parts = Vec::with_capacity(alloc, size)?;
+        let mut keys = GhostKeys::new(size);
+        let mut sections = Vec::with_capacity(alloc, size)?;
         for _number in 0..size {
-            parts.push_reserved(book.issue(&SectionState::Closed));
+            sections.push_reserved(keys.issue(&SectionState::Closed));
         }
-        Ok(ReadSections { book, parts })
+        Ok(ReadSections { keys, sections })
     }
 
     /// The reader has a guard now, its first.
@@ -57,66 +58,66 @@ impl ReadSections {
         requires inside { reader < self.old.home.size }
         requires whole { (kept_at self.old reader).units ≡ WHOLE }
         ensures home { self.new.home ≡ self.old.home }
-        ensures kept { self.new.kept ≡ slice_set self.old.kept reader (whole SectionState.Open (kept_at self.old reader).round) }
+        ensures kept { self.new.kept ≡ slice_set self.old.kept reader (whole SectionState.Open (kept_at self.old reader).lifetime) }
     {
-        self.parts[reader].set(&SectionState::Open, &());
+        self.sections[reader].set(&SectionState::Open, &());
     }
 
-    /// A guard's part of the reader's tenure.
+    /// A guard's part of the reader's section.
     pub fn split(&mut self, reader: usize) -> ReadSection
         requires inside { reader < self.old.home.size }
         requires more { 1 < (kept_at self.old reader).units }
         ensures home { self.new.home ≡ self.old.home }
         ensures kept { self.new.kept ≡ slice_set self.old.kept reader (record (kept_at self.old reader) { units = (kept_at self.old reader).units - 1 }) }
-        ensures part_home { result.home ≡ self.old.home }
-        ensures part_number { result.number ≡ reader }
-        ensures part_round { result.round ≡ (kept_at self.old reader).round }
-        ensures part_kind { result.kind ≡ (kept_at self.old reader).kind }
-        ensures part_units { result.units ≡ 1 }
+        ensures section_home { result.home ≡ self.old.home }
+        ensures section_number { result.number ≡ reader }
+        ensures section_lifetime { result.lifetime ≡ (kept_at self.old reader).lifetime }
+        ensures section_kind { result.kind ≡ (kept_at self.old reader).kind }
+        ensures section_units { result.units ≡ 1 }
     {
-        self.parts[reader].split(1)
+        self.sections[reader].split(1)
     }
 
     /// A guard gives its part back.
-    pub fn join(&mut self, reader: usize, mut part: ReadSection)
+    pub fn join(&mut self, reader: usize, mut section: ReadSection)
         requires inside { reader < self.old.home.size }
-        requires part_home { part.home ≡ self.old.home }
-        requires part_number { part.number ≡ reader }
+        requires section_home { section.home ≡ self.old.home }
+        requires section_number { section.number ≡ reader }
         ensures home { self.new.home ≡ self.old.home }
         ensures kept { self.new.kept ≡ slice_set self.old.kept reader
-            (record (kept_at self.old reader) { units = (kept_at self.old reader).units + part.units }) }
-        ensures some { (0 < (kept_at self.old reader).units) × (0 < part.units) }
-        ensures fits { (kept_at self.old reader).units + part.units ≤ WHOLE }
-        ensures kind { part.kind ≡ (kept_at self.old reader).kind }
-        ensures round { part.round ≡ (kept_at self.old reader).round }
+            (record (kept_at self.old reader) { units = (kept_at self.old reader).units + section.units }) }
+        ensures some { (0 < (kept_at self.old reader).units) × (0 < section.units) }
+        ensures fits { (kept_at self.old reader).units + section.units ≤ WHOLE }
+        ensures kind { section.kind ≡ (kept_at self.old reader).kind }
+        ensures lifetime { section.lifetime ≡ (kept_at self.old reader).lifetime }
     {
-        let kept = &mut self.parts[reader];
-        kept.apart(&mut part);
-        kept.join(part);
+        let kept = &mut self.sections[reader];
+        kept.apart(&mut section);
+        kept.join(section);
     }
 
-    /// Who has a part of a reader's tenure knows which it is, and whether the reader has a guard.
-    pub fn agree(&self, reader: usize, part: &ReadSection)
+    /// Who has a part of a reader's section knows which it is, and whether the reader has a guard.
+    pub fn agree(&self, reader: usize, section: &ReadSection)
         requires inside { reader < self.now.home.size }
-        requires part_home { part.now.home ≡ self.now.home }
-        requires part_number { part.now.number ≡ reader }
-        ensures kind { (kept_at self.now reader).kind ≡ part.now.kind }
-        ensures round { (kept_at self.now reader).round ≡ part.now.round }
+        requires section_home { section.now.home ≡ self.now.home }
+        requires section_number { section.now.number ≡ reader }
+        ensures kind { (kept_at self.now reader).kind ≡ section.now.kind }
+        ensures lifetime { (kept_at self.now reader).lifetime ≡ section.now.lifetime }
     {
-        self.parts[reader].agree(part);
+        self.sections[reader].agree(section);
     }
 
-    /// The reader has no guard any more: its tenure ends, since all parts are here, and the next one has another name.
+    /// The reader has no guard any more: its section ends, since all parts are here, and the next one has another name.
     pub fn end(&mut self, reader: usize) -> EndedSection
         requires inside { reader < self.old.home.size }
         requires whole { (kept_at self.old reader).units ≡ WHOLE }
-        ensures ended { result.name ≡ (kept_at self.old reader).round }
+        ensures ended { result.name ≡ (kept_at self.old reader).lifetime }
         ensures home { self.new.home ≡ self.old.home }
         ensures kept { (next : ℕ) × (self.new.kept ≡ slice_set self.old.kept reader (whole SectionState.Closed next)) }
-        ensures another { (kept_at self.new reader).round ≢ (kept_at self.old reader).round }
+        ensures another { (kept_at self.new reader).lifetime ≢ (kept_at self.old reader).lifetime }
     {
-        let kept = &mut self.parts[reader];
+        let kept = &mut self.sections[reader];
         kept.set(&SectionState::Closed, &());
-        end_round(kept)
+        end_section(kept)
     }
 }

@@ -8,17 +8,17 @@ use Rattle.sdd_participants.specs.Slab.{entry_at}
 use Rattle.sdd_participants.specs.declared.standing.CellContents.{CellContents}
 use Rattle.sdd_participants.specs.declared.standing.Standing.{Standing}
 use Rattle.sdd_participants.specs.declared.standing.Standing.TheVariants.{Owned, Raw, Shared, Retired, Private as privately}
-use Rattle.sdd_standings.specs.Slots.{is_waiting}
-use Rattle.sdd_space.specs.World.{World, standing_at, value_at}
-use Rattle.sdd_space.specs.WorldChanges.{held_in}
-use Rattle.sdd_space.specs.OwnerOrCell.{OwnerOrCell, owned, shared, atomic_owned, atomic_shared, atomic_raw}
-use Rattle.sdd_space.specs.OwnerCounts.{owner_count, is_owner_of, is_of, holds_slot, times_held, IsAccounted}
-use Rattle.sdd_space.proofs.Whole.{one_where, count-cons, filled-there}
+use Rattle.sdd_world_model.specs.Slots.{is_waiting}
+use Rattle.sdd_world_model.specs.World.{World, standing_at, value_at}
+use Rattle.sdd_world_model.specs.WorldChanges.{held_in}
+use Rattle.sdd_world_model.specs.OwnerOrCell.{OwnerOrCell, owned, shared, atomic_owned, atomic_shared, atomic_raw}
+use Rattle.sdd_world_model.specs.OwnerCounts.{owner_count, is_owner_of, is_of, holds_slot, times_held, IsAccounted}
+use Rattle.sdd_world_model.proofs.WorldInvariant.{one_where, count-cons, filled-there}
 use Rattle.sdd_world.specs.Closing.{Owner, holder, slot_owned, cell_held, held_by, held_at, owns, Goes, AllGo}
 use Rattle.sdd_world.specs.Closing.Owner.{of_value, of_cell}
 use Rattle.sdd_world.specs.Closing.Holder.{the_item}
 use Rattle.sdd_world.specs.Closing.Goes.{waits, given as by_giving, held as by_holding}
-use Rattle.sdd_world.proofs.Sweeping.{in-which, one-more-apart}
+use Rattle.sdd_world.proofs.Sweeps.{in-which, one-more-apart}
 
 -- what a value holds is an owner of the slot's item, in either way of saying it
 is-owned : (k : ℕ) (h : OwnerOrCell) → is_owner_of k h ≡ true → slot_owned (Some h) ≡ Some k

@@ -15,12 +15,12 @@ use Rattle.sdd_participants.specs.declared.participant.Participant.{Participant}
 use Rattle.sdd_participants.specs.declared.participant.CountdownState.{CountdownState}
 use Rattle.sdd_participants.specs.declared.standing.Standing.{Standing}
 use Rattle.sdd_participants.specs.declared.standing.Standing.TheVariants.{Shared, Retired}
-use Rattle.sdd_space.specs.World.{World, standing_at, place_at}
-use Rattle.sdd_space.specs.WorldChanges.{retired, with_standing, without_cell, spilled, cell_closed, held_in, owner_given, given, given_all, freed, taken_out, waiting_value, reclaimed, all_reclaimed, changed}
-use Rattle.sdd_space.specs.WorldChanges as steps
-use Rattle.sdd_space.specs.OwnerOrCell.{OwnerOrCell, owned, shared, atomic_owned, atomic_shared, atomic_raw}
-use Rattle.sdd_space.specs.Out.{is_out}
-use Rattle.sdd_space.proofs.Standings.{out-inside, owner-given}
+use Rattle.sdd_world_model.specs.World.{World, standing_at, place_at}
+use Rattle.sdd_world_model.specs.WorldChanges.{retired, with_standing, without_cell, spilled, cell_closed, held_in, owner_given, given, given_all, freed, taken_out, waiting_value, reclaimed, all_reclaimed, changed}
+use Rattle.sdd_world_model.specs.WorldChanges as steps
+use Rattle.sdd_world_model.specs.OwnerOrCell.{OwnerOrCell, owned, shared, atomic_owned, atomic_shared, atomic_raw}
+use Rattle.sdd_world_model.specs.Out.{is_out}
+use Rattle.sdd_world_model.proofs.Standings.{out-inside, owner-given}
 use Rattle.sdd_world_core.specs.Closing.{paced}
 use Rattle.sdd_world_core.proofs.Lending.{SameGuards, guards-placed}
 use Rattle.sdd_world.specs.Closing.{aged_out, all_aged_out, emptied}

@@ -1,6 +1,5 @@
-pub mod Shown
 pub mod Closing
 pub mod Pointers
-pub mod Sweeping
+pub mod Sweeps
 pub mod AllGo
-pub mod Filled
+pub mod FilledSlots

@@ -3,12 +3,12 @@ use Rattle.std.proofs.Common.{◌≡◌, ℕ, List, [], ◌∷◌, length, refl,
 use Rattle.sdd_participants.specs.declared.waiting.LimboEntry.{LimboEntry}
 use Rattle.sdd_participants.specs.declared.waiting.LimboEntry.TheVariants.{Item, Job}
 use Rattle.sdd_participants.specs.EpochState.{due_next}
-use Rattle.sdd_space.specs.OwnerOrCell.{OwnerOrCell}
-use Rattle.sdd_space.specs.World.{World, place_at, standing_at}
-use Rattle.sdd_space.specs.WorldChanges.{given_all, freed, taken_out, waiting_value, reclaimed, all_reclaimed}
-use Rattle.sdd_space.specs.WorldChanges as steps
-use Rattle.sdd_space.proofs.Opening.{keeps-given_all}
-use Rattle.sdd_space.proofs.Jobs.{length-all_reclaimed}
+use Rattle.sdd_world_model.specs.OwnerOrCell.{OwnerOrCell}
+use Rattle.sdd_world_model.specs.World.{World, place_at, standing_at}
+use Rattle.sdd_world_model.specs.WorldChanges.{given_all, freed, taken_out, waiting_value, reclaimed, all_reclaimed}
+use Rattle.sdd_world_model.specs.WorldChanges as steps
+use Rattle.sdd_world_model.proofs.GuardOpened.{keeps-given_all}
+use Rattle.sdd_world_model.proofs.Jobs.{length-all_reclaimed}
 use Rattle.sdd_world.specs.Closing.{aged_out, all_aged_out}
 
 module _ {T : Type 0} (holds : T → List OwnerOrCell) where

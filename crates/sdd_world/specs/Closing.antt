@@ -6,12 +6,12 @@ use Rattle.sdd_participants.specs.Tally.{one_reclaimed}
 use Rattle.sdd_participants.specs.declared.tally.Tally.{Tally}
 use Rattle.sdd_participants.specs.declared.standing.Standing.{Standing}
 use Rattle.sdd_participants.specs.declared.standing.Standing.TheVariants.{Owned, Raw, Shared, Retired, Private as privately}
-use Rattle.sdd_standings.specs.Slots.{IsWaiting}
-use Rattle.sdd_space.specs.OwnerOrCell.{OwnerOrCell, owned, shared, atomic_owned, atomic_shared, atomic_raw}
-use Rattle.sdd_space.specs.World.{World, place_at, standing_at, value_at}
-use Rattle.sdd_space.specs.WorldChanges.{changed, held_in}
-use Rattle.sdd_space.specs.WorldInvariant.{taken, IsCounted}
-use Rattle.sdd_space.specs.OwnerCounts.{owner_count}
+use Rattle.sdd_world_model.specs.Slots.{IsWaiting}
+use Rattle.sdd_world_model.specs.OwnerOrCell.{OwnerOrCell, owned, shared, atomic_owned, atomic_shared, atomic_raw}
+use Rattle.sdd_world_model.specs.World.{World, place_at, standing_at, value_at}
+use Rattle.sdd_world_model.specs.WorldChanges.{changed, held_in}
+use Rattle.sdd_world_model.specs.WorldInvariant.{taken, IsCounted}
+use Rattle.sdd_world_model.specs.OwnerCounts.{owner_count}
 use Rattle.sdd_world_core.specs.Closing.{paced}
 
 -- nothing waits with anyone, nor at the place of anyone who has ended

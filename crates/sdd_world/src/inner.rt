@@ -1,18 +1,18 @@
 //! What a script, or a test, needs of a world beyond the public surface.
 ghost use Rattle.std.specs.Prelude.{◌≡◌, ◌↔◌, ◌+◌, ◌^◌, ◌<◌, ◌≤◌, ℕ, IfOk, IsSome, IsTrue, MatchResult, Some, map};
 ghost use Rattle.sdd_participants.specs.EpochState.{is_open, phase_at, revived};
-ghost use Rattle.sdd_space.specs.World.{IsPlaceOf, place_at, standing_at, value_at};
+ghost use Rattle.sdd_world_model.specs.World.{IsPlaceOf, place_at, standing_at, value_at};
 ghost use Rattle.sdd_space.specs.Guard.{reader_of};
 ghost use Rattle.sdd_space.specs.CallerId.{reader_at};
 ghost use Rattle.sdd_space.specs.Ptr.{slot_named, shown_by};
-ghost use Rattle.sdd_space.specs.UnderGuards.{CannotGo};
+ghost use Rattle.sdd_world_model.specs.UnderGuards.{CannotGo};
 ghost use Rattle.sdd_space.specs.Shared as shared;
 ghost use Rattle.sdd_rights.specs.SharedRights as shares;
-ghost use Rattle.sdd_standings.specs.Slots.{IsSharedBy};
+ghost use Rattle.sdd_world_model.specs.Slots.{IsSharedBy};
 ghost use Rattle.sdd_participants.specs.Slab.{IsFull, entry_at};
 ghost use Rattle.sdd_participants.specs.declared.standing.Standing.TheVariants as standing;
-ghost use Rattle.sdd_space.specs.WorldChanges.{reclaims, held_in, without_cell, with_standing};
-ghost use Rattle.sdd_space.specs.Out.{IsNullCell};
+ghost use Rattle.sdd_world_model.specs.WorldChanges.{reclaims, held_in, without_cell, with_standing};
+ghost use Rattle.sdd_world_model.specs.Out.{IsNullCell};
 ghost use Rattle.sdd_space.specs.Collector as collectors;
 ghost use Rattle.sdd_world.specs.Place.{index_of};
 
@@ -75,7 +75,7 @@ pub fn ptr_at<'g, T: Item<T>, J: Job>(
     ensures full { IsSome (shown_by result) }
     ensures world { world.new ≡ world.old }
 {
-    ptr_to(SlotName::of(slot), world.lend(place, slot, guard))
+    ptr_to(SlotName::of(slot), world.look(place, slot, guard))
 }
 
 /// No slot is free.

@@ -1,9 +1,8 @@
-ghost use Rattle.std.specs.Prelude.{◌≡◌, ⊤, option_copied};
-ghost use Rattle.sdd_space.specs.World.{World, IsPlaceOf};
+ghost use Rattle.std.specs.Prelude.{◌≡◌, ⊤};
+ghost use Rattle.sdd_world_model.specs.World.{World, IsPlaceOf};
 ghost use Rattle.sdd_world.specs.Place.{index_of};
 ghost use Rattle.sdd_world.specs.Shown.{one_value};
 ghost use Rattle.sdd_rights.specs.Right.{number_of};
-ghost use Rattle.sdd_space.specs.Ptr.{shown_by};
 
 use crate::world::{Place, World};
 use sdd_core::{Refused, SlotName, Tag};
@@ -46,7 +45,7 @@ impl<T: Item<T>, J: Job> World<T, J> {
 
 impl<T: Item<T>, J: Job> Shows<T> for World<T, J> {
     ghost use Rattle.std.specs.Prelude.{◌≡◌, Some};
-    ghost use Rattle.sdd_space.specs.World.{value_at};
+    ghost use Rattle.sdd_world_model.specs.World.{value_at};
 
     ghost home = { λ w. w.home };
 
@@ -73,6 +72,10 @@ impl<T: Item<T>, J: Job> Look<T> for World<T, J> {
 }
 
 impl<T: Item<T>, J: Job> LookThrough<T> for World<T, J> {
+    ghost use Rattle.std.specs.Prelude.{◌≡◌, option_copied};
+    ghost use Rattle.sdd_space.specs.Ptr.{shown_by};
+
+    #[inline]
     fn look<'g>(&self, ptr: Ptr<'g, T>) -> Option<&'g T>
         ensures { option_copied result ≡ shown_by ptr.entry }
     {
@@ -84,7 +87,7 @@ impl<T: Item<T>, J: Job> LookThrough<T> for World<T, J> {
 
 impl<T: Item<T>, J: Job> Shows<T> for Turn<'_, T, J> {
     ghost use Rattle.std.specs.Prelude.{◌≡◌, Some};
-    ghost use Rattle.sdd_space.specs.World.{value_at};
+    ghost use Rattle.sdd_world_model.specs.World.{value_at};
 
     ghost home = { λ t. t.world.now.home };
 
@@ -113,6 +116,10 @@ impl<T: Item<T>, J: Job> Look<T> for Turn<'_, T, J> {
 }
 
 impl<T: Item<T>, J: Job> LookThrough<T> for Turn<'_, T, J> {
+    ghost use Rattle.std.specs.Prelude.{◌≡◌, option_copied};
+    ghost use Rattle.sdd_space.specs.Ptr.{shown_by};
+
+    #[inline]
     fn look<'g>(&self, ptr: Ptr<'g, T>) -> Option<&'g T>
         ensures { option_copied result ≡ shown_by ptr.entry }
     {
@@ -124,10 +131,10 @@ impl<T: Item<T>, J: Job> LookThrough<T> for Turn<'_, T, J> {
 
 impl<T: Item<T>, J: Job> Caller<T> for Turn<'_, T, J> {
     ghost use Rattle.std.specs.Prelude.{refl};
-    ghost use Rattle.sdd_space.specs.CallerId.{seat_on};
-    ghost use Rattle.sdd_space.specs.World.{place_at};
+    ghost use Rattle.sdd_space.specs.CallerId.{caller_on};
+    ghost use Rattle.sdd_world_model.specs.World.{place_at};
 
-    ghost seat = { λ t. seat_on t.world.now t.place t.world.ghost_name };
+    ghost caller = { λ t. caller_on t.world.now t.place t.world.ghost_name };
 
     ghost own = { λ t. place_at t.world.now t.place };
 
@@ -140,7 +147,7 @@ impl<T: Item<T>, J: Job> Caller<T> for Turn<'_, T, J> {
         let _core = &world.core;
     }
 
-    ghost home_is_seat = { λ _. refl };
+    ghost home_is_caller = { λ _. refl };
 
     ghost own_is_place = { λ _ _. refl };
 
@@ -158,13 +165,13 @@ impl<T: Item<T>, J: Job> Guards<T> for Turn<'_, T, J> {
             return Err(Refused::TooManyGuards);
         }
         let world = &mut *self.world;
-        let part = world.core.open(self.place, &mut world.spare);
-        Ok(inner::guard_with(part))
+        let section = world.core.open(self.place, &mut world.spare);
+        Ok(inner::guard_with(section))
     }
 
     fn close_guard(&mut self, guard: Guard) {
         let world = &mut *self.world;
-        world.core.close(self.place, inner::part_of_guard(guard));
+        world.core.close(self.place, inner::into_section(guard));
     }
 
     fn count(&mut self) -> u64 {
@@ -215,7 +222,7 @@ impl<T: Item<T>, J: Job> Items<T> for Turn<'_, T, J> {
 
     fn get_guarded<'g>(&mut self, right: &Right, guard: &'g Guard) -> &'g T {
         let world = &mut *self.world;
-        world.core.lend(self.place, right, inner::tenure_of(guard))
+        world.core.look(self.place, right, inner::section_of(guard))
     }
 
     fn release(&mut self, right: Right, kind: StandingKind) -> bool {
@@ -324,7 +331,7 @@ impl<T: Item<T>, J: Job> SharedOwners<T> for Turn<'_, T, J> {
 }
 
 impl<T: Item<T>, J: Job> SharedItems<T> for Turn<'_, T, J> {
-    ghost asks_sight = { λ _. ⊥ };
+    ghost asks_shown = { λ _. ⊥ };
 
     ghost exact_asks_nothing = { λ _ _ asks. asks };
 
@@ -349,7 +356,7 @@ impl<T: Item<T>, J: Job> RawItems<T> for Turn<'_, T, J> {
         let world = &mut *self.world;
         world
             .core
-            .lend_raw(self.place, slot.number(), inner::tenure_of(guard))
+            .lend_raw(self.place, slot.number(), inner::section_of(guard))
     }
 }
 
@@ -386,7 +393,7 @@ impl<T: Item<T>, J: Job> Cells<T> for Turn<'_, T, J> {
 
     fn load<'g>(&mut self, cell: &Right, guard: &'g Guard) -> Ptr<'g, T> {
         let world = &mut *self.world;
-        world.core.load(self.place, cell, inner::tenure_of(guard))
+        world.core.load(self.place, cell, inner::section_of(guard))
     }
 
     fn swap(
@@ -413,10 +420,10 @@ impl<T: Item<T>, J: Job> Cells<T> for Turn<'_, T, J> {
     ) -> Result<(Option<Right>, Ptr<'g, T>), (Option<Right>, Ptr<'g, T>)> {
         let _ = kind;
         let world = &mut *self.world;
-        let part = inner::tenure_of(guard);
+        let section = inner::section_of(guard);
         match world.core.compare_exchange(cell, current, new, tag) {
-            Ok(old) => Ok((old, world.core.load(self.place, cell, part))),
-            Err(back) => Err((back, world.core.load(self.place, cell, part))),
+            Ok(old) => Ok((old, world.core.load(self.place, cell, section))),
+            Err(back) => Err((back, world.core.load(self.place, cell, section))),
         }
     }
 

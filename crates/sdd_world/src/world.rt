@@ -2,14 +2,14 @@ ghost use Rattle.std.specs.Prelude.{◌≡◌, ◌≢◌, ℕ, ◌+◌, ◌<◌,
 ghost use Rattle.sdd_rights.specs.Right.{raw_number_of, raw_home_of};
 ghost use Rattle.sdd_participants.specs.EpochState.{CanNest, phase_at, revived, IsVacant, IsCrowded, is_open, due_next};
 ghost use Rattle.sdd_participants.specs.Slab.{IsEmptyAt, IsFull};
-ghost use Rattle.sdd_space.specs.OwnerOrCell.{AreOf};
-ghost use Rattle.sdd_space.specs.World.{World, AnyGuardOpen, IsPlaceOf, IsNew, place_at, standing_at, value_at};
+ghost use Rattle.sdd_world_model.specs.OwnerOrCell.{AreOf};
+ghost use Rattle.sdd_world_model.specs.World.{World, AnyGuardOpen, IsPlaceOf, IsNew, place_at, standing_at, value_at};
 ghost use Rattle.sdd_space.specs.Guard.{reader_of};
 ghost use Rattle.sdd_space.specs.CallerId.{reader_at};
-ghost use Rattle.sdd_space.specs.UnderGuards.{CannotGo};
-ghost use Rattle.sdd_space.specs.Out.{IsNullCell, out};
+ghost use Rattle.sdd_world_model.specs.UnderGuards.{CannotGo};
+ghost use Rattle.sdd_world_model.specs.Out.{IsNullCell, out};
 ghost use Rattle.sdd_core.specs.Limits.{AreInRange};
-ghost use Rattle.sdd_space.specs.WorldChanges.{made, nulled, without_cell, opened, changed, closed, stirred, accelerated, registered, ended, reclaims};
+ghost use Rattle.sdd_world_model.specs.WorldChanges.{made, nulled, without_cell, opened, changed, closed, stirred, accelerated, registered, ended, reclaims};
 
 mod closing;
 mod laws;
@@ -33,8 +33,8 @@ pub struct World<T: Item<T>, J: Job = Idle> {
 
 impl<T: Item<T>, J: Job> Model for World<T, J> {
     ghost use Rattle.std.specs.Prelude.{◌≡◌, ◌≤◌, [], length, vec_capacity};
-    ghost use Rattle.sdd_space.specs.World.{World, most};
-    ghost use Rattle.sdd_space.specs.WorldInvariant.{IsWhole};
+    ghost use Rattle.sdd_world_model.specs.World.{World, most};
+    ghost use Rattle.sdd_world_model.specs.WorldInvariant.{IsWhole};
     ghost use Rattle.sdd_world_core.specs.Lending.{AreLent};
 
     ghost Value = { World T };
@@ -170,7 +170,7 @@ impl<T: Item<T>, J: Job> World<T, J> {
     }
 
     /// The value in a slot whose item stays there while a guard of the place is open, for as long as this guard is borrowed.
-    pub(crate) fn lend<'g>(&mut self, place: &Place, slot: u32, guard: &'g Guard) -> &'g T
+    pub(crate) fn look<'g>(&mut self, place: &Place, slot: u32, guard: &'g Guard) -> &'g T
         requires place { IsPlaceOf self.old (index_of place.now) }
         requires reader { reader_of guard.now ≡ reader_at self.old (index_of place.now) }
         requires stays { CannotGo self.old (index_of place.now) slot }
@@ -178,7 +178,7 @@ impl<T: Item<T>, J: Job> World<T, J> {
         ensures world { self.new ≡ self.old }
     {
         self.core
-            .lend_from(place.index, slot, inner::tenure_of(guard))
+            .look_in(place.index, slot, inner::section_of(guard))
     }
 
     /// The value in a slot that is not free.

@@ -4,26 +4,26 @@ use Rattle.std.specs.Prelude.{IsSome}
 use Rattle.sdd_participants.specs.EpochState.{EpochState, phase_at}
 use Rattle.sdd_participants.specs.EpochState as time
 use Rattle.sdd_values.specs.ReadSections.{ReadSections}
-use Rattle.sdd_standings.specs.Slots.{Slots}
-use Rattle.sdd_standings.specs.Cells.{Cells}
+use Rattle.sdd_world_model.specs.Slots.{Slots}
+use Rattle.sdd_world_model.specs.Cells.{Cells}
 use Rattle.sdd_participants.specs.Slab.{Entries}
-use Rattle.sdd_space.specs.OwnerOrCell.{OwnerOrCell, SpaceId, AreOf, ValueIsOf, ValuesAreOf}
-use Rattle.sdd_space.specs.Loans.{Loans}
-use Rattle.sdd_space.specs.World.{World, KeepsSizes, place_at, standing_at, value_at}
-use Rattle.sdd_space.specs.InPlace.{MayInPlace}
-use Rattle.sdd_space.specs.ParticipantChanges.{all_awaiting}
-use Rattle.sdd_space.specs.WorldChanges.{with_value, given_all, vacated, dropped_out, dropped}
-use Rattle.sdd_space.specs.WorldInvariant.{IsWhole}
-use Rattle.sdd_space.proofs.Housed.{Whole-dropped}
-use Rattle.sdd_space.proofs.Own.{Gives-dropped}
-use Rattle.sdd_space.proofs.Standings.{alone-out}
-use Rattle.sdd_space.proofs.Weights.{SameSize-dropped, SameSize-sizes}
-use Rattle.sdd_space.proofs.Whole.{all_awaiting-guards}
+use Rattle.sdd_world_model.specs.OwnerOrCell.{OwnerOrCell, SpaceId, AreOf, ValueIsOf, ValuesAreOf}
+use Rattle.sdd_world_model.specs.Loans.{Loans}
+use Rattle.sdd_world_model.specs.World.{World, KeepsSizes, place_at, standing_at, value_at}
+use Rattle.sdd_world_model.specs.InPlace.{MayInPlace}
+use Rattle.sdd_world_model.specs.ParticipantChanges.{all_awaiting}
+use Rattle.sdd_world_model.specs.WorldChanges.{with_value, given_all, vacated, dropped_out, dropped}
+use Rattle.sdd_world_model.specs.WorldInvariant.{IsWhole}
+use Rattle.sdd_world_model.proofs.PlacesMatchStates.{Whole-dropped}
+use Rattle.sdd_world_model.proofs.ParticipantChanges.{Gives-dropped}
+use Rattle.sdd_world_model.proofs.Standings.{alone-out}
+use Rattle.sdd_world_model.proofs.WaitingCounts.{SameSize-dropped, SameSize-sizes}
+use Rattle.sdd_world_model.proofs.WorldInvariant.{all_awaiting-guards}
 use Rattle.sdd_world_core.specs.WorldCore.{IsSound}
 use Rattle.sdd_world_core.specs.Lending.{AreLentOf}
 use Rattle.sdd_world_core.proofs.Lending.{SameGuards, guards-placed, readers-keep}
-use Rattle.sdd_world_core.proofs.Letting.{taken-place}
-use Rattle.sdd_world_core.proofs.Quiet.{lent-quiet}
+use Rattle.sdd_world_core.proofs.ReleasedOwner.{taken-place}
+use Rattle.sdd_world_core.proofs.NoGuards.{lent-quiet}
 
 module _ {T : Type 0} (holds : T → List OwnerOrCell) where
   -- one value is another
@@ -49,7 +49,7 @@ module _ {T : Type 0} (holds : T → List OwnerOrCell) where
     held = i.held;
     homes = values-set (record { slots = s.home; cells = c.home; readers = r.home }) s.values k (Some v) of i.homes;
     participants = i.participants;
-    tenures = i.tenures;
+    sections = i.sections;
     readers = i.readers;
   }
 

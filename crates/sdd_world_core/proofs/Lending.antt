@@ -10,35 +10,35 @@ use Rattle.sdd_participants.specs.EpochState as time
 use Rattle.sdd_participants.specs.declared.participant.Participant.{Participant}
 use Rattle.sdd_participants.specs.declared.standing.Standing.{Standing}
 use Rattle.sdd_participants.specs.declared.standing.Standing.TheVariants.{Shared, Retired}
-use Rattle.sdd_values.specs.Block.{IsUnlent, IsFreeFor, lent, stake_at, unlent}
+use Rattle.sdd_values.specs.Block.{IsUnlent, IsFreeFor, lent, fraction_at, unlent}
 use Rattle.sdd_values.specs.ReadSections.{ReadSections, Kept, kept_at, whole}
 use Rattle.sdd_values.specs.declared.read_sections.SectionState.{SectionState}
 use Rattle.sdd_values.specs.declared.read_sections.SectionState.TheVariants.{Open, Closed}
-use Rattle.sdd_values.proofs.Stakes.{all-home, all-free, all-lent, all-settled, all-unlent}
-use Rattle.sdd_space.specs.OwnerOrCell.{OwnerOrCell, SpaceId}
+use Rattle.sdd_values.proofs.Fractions.{all-home, all-free, all-lent, all-settled, all-unlent}
+use Rattle.sdd_world_model.specs.OwnerOrCell.{OwnerOrCell, SpaceId}
 use Rattle.sdd_participants.specs.Slab.{Entries}
 use Rattle.sdd_participants.specs.declared.standing.CellContents.{CellContents}
 use Rattle.sdd_participants.specs.declared.standing.RawCellContents.{RawCellContents}
-use Rattle.sdd_standings.specs.Slots.{is_waiting}
-use Rattle.sdd_space.specs.Loans.{Loans}
-use Rattle.sdd_space.specs.World.{World, KeepsSizes, IsPlaceOf, place_at, standing_at}
-use Rattle.sdd_space.specs.WorldChanges.{waiting_as, retired, with_standing, owner_given, opened, closed, ended, registered, reclaims}
-use Rattle.sdd_space.specs.Out.{is_out}
-use Rattle.sdd_space.specs.ParticipantChanges.{all_awaiting, opened_at, changed_at}
-use Rattle.sdd_space.specs.WorldInvariant.{IsWhole}
-use Rattle.sdd_space.specs.UnderGuards.{IsSafe, CannotGo}
-use Rattle.sdd_space.specs.WorldStep.{WorldStep}
-use Rattle.sdd_space.specs.WorldStep.WorldStep.{registers, ends, opens, closes}
-use Rattle.sdd_space.proofs.Own as own
-use Rattle.sdd_space.proofs.Standings.{owner-given, out-inside}
-use Rattle.sdd_participants.proofs.Adopting.{same-or-not}
-use Rattle.sdd_space.proofs.Closes.{put-same}
-use Rattle.sdd_space.proofs.Nesting.{guards-closed, guards-registered, one-if, none-if}
-use Rattle.sdd_space.proofs.Housed.{guard-taken, vacant-apart}
-use Rattle.sdd_space.proofs.Whole.{below-or-past}
-use Rattle.sdd_space.proofs.Opening.{opened-other}
-use Rattle.sdd_space.proofs.Safe.{safe-call, safe-waits, safe-not-due}
-use Rattle.sdd_world_core.specs.Lending.{IsTenureOf, HasReaders, IsLentTo, AreLentOf, shared, joined, given_up}
+use Rattle.sdd_world_model.specs.Slots.{is_waiting}
+use Rattle.sdd_world_model.specs.Loans.{Loans}
+use Rattle.sdd_world_model.specs.World.{World, KeepsSizes, IsPlaceOf, place_at, standing_at}
+use Rattle.sdd_world_model.specs.WorldChanges.{waiting_as, retired, with_standing, owner_given, opened, closed, ended, registered, reclaims}
+use Rattle.sdd_world_model.specs.Out.{is_out}
+use Rattle.sdd_world_model.specs.ParticipantChanges.{all_awaiting, opened_at, changed_at}
+use Rattle.sdd_world_model.specs.WorldInvariant.{IsWhole}
+use Rattle.sdd_world_model.specs.UnderGuards.{IsSafe, CannotGo}
+use Rattle.sdd_world_model.specs.WorldStep.{WorldStep}
+use Rattle.sdd_world_model.specs.WorldStep.WorldStep.{registers, ends, opens, closes}
+use Rattle.sdd_world_model.proofs.ParticipantChanges as own
+use Rattle.sdd_world_model.proofs.Standings.{owner-given, out-inside}
+use Rattle.sdd_participants.proofs.Adoptions.{same-or-not}
+use Rattle.sdd_world_model.proofs.GuardClosed.{put-same}
+use Rattle.sdd_world_model.proofs.Nesting.{guards-closed, guards-registered, one-if, none-if}
+use Rattle.sdd_world_model.proofs.PlacesMatchStates.{guard-taken, vacant-apart}
+use Rattle.sdd_world_model.proofs.WorldInvariant.{below-or-past}
+use Rattle.sdd_world_model.proofs.GuardOpened.{opened-other}
+use Rattle.sdd_world_model.proofs.Safe.{safe-call, safe-waits, safe-not-due}
+use Rattle.sdd_world_core.specs.Lending.{IsSectionOf, HasReaders, IsLentTo, AreLentOf, shared, joined, given_up}
 
 -- ---- how many guards are open at each place
 -- as many as before
@@ -75,10 +75,10 @@ module _ {T : Type 0} where
   opened-guards holds w p l = let o = own.opens holds w p l (is_open (place_at w p)) refl in
       ap (λ (x : Participant). x.guards) o.own ∙ opened_at-guards w.time.count o.slots (place_at w p)
 
--- ---- tenures
--- whose guards are as many has the same tenure
-tenure-same : (x y : Participant) (k : Kept) → y.guards ≡ x.guards → IsTenureOf x k → IsTenureOf y k
-tenure-same x y k e i = record {
+-- ---- sections
+-- whose guards are as many has the same section
+section-same : (x y : Participant) (k : Kept) → y.guards ≡ x.guards → IsSectionOf x k → IsSectionOf y k
+section-same x y k e i = record {
   kind = i.kind ∙ ap (λ (n : ℕ). if nat_lt 0 n then Open else Closed) (sym e);
   units = ap (λ (n : ℕ). k.units + n) e ∙ i.units;
 }
@@ -86,7 +86,7 @@ tenure-same x y k e i = record {
 open-same : (x y : Participant) → y.guards ≡ x.guards → IsTrue (is_open x) → IsTrue (is_open y)
 open-same x y e o = subst (λ (n : ℕ). IsTrue (nat_lt 0 n)) (sym e) o
 
-kind-open : (x : Participant) (k : Kept) → IsTenureOf x k → k.kind ≡ Open → IsTrue (is_open x)
+kind-open : (x : Participant) (k : Kept) → IsSectionOf x k → k.kind ≡ Open → IsTrue (is_open x)
 kind-open x k i e = by (is_open x) refl where
   by : (b : Bool) → is_open x ≡ b → IsTrue (is_open x)
   by true is = is
@@ -112,11 +112,11 @@ module _ (t : ReadSections) (p : ℕ) (k : Kept) where
   kept-other q apart = get_or-set_other t.kept p q k (whole Closed 0) apart
 
 pub shares-first : (t mid new : ReadSections) (p : ℕ) → p < length t.kept → (kept_at t p).units ≡ 2 ^ 63 → mid.home ≡ t.home →
-    mid.kept ≡ slice_set t.kept p (whole Open (kept_at t p).round) → new.home ≡ mid.home →
+    mid.kept ≡ slice_set t.kept p (whole Open (kept_at t p).lifetime) → new.home ≡ mid.home →
     new.kept ≡ slice_set mid.kept p (record (kept_at mid p) { units = (kept_at mid p).units - 1 }) →
     new ≡ set_at t p (record (kept_at t p) { kind = Open; units = (kept_at t p).units - 1 })
 shares-first t mid new p near all home kept home' kept' =
-    let k : Kept = whole Open (kept_at t p).round in
+    let k : Kept = whole Open (kept_at t p).lifetime in
     let here : kept_at mid p ≡ k = ap (λ (ks : List Kept). slice_index_or ks p (whole Closed 0)) kept ∙ kept-here t p k near in
     let fewer : Kept = record k { units = k.units - 1 } in
     let less : (ks : List Kept) → ks ≡ slice_set t.kept p k → slice_set ks p fewer ≡ slice_set t.kept p fewer =
@@ -139,7 +139,7 @@ module _ {T : Type 0} where
   pub lent-keeps : (v w : World T) (l : Loans) → HasReaders w → SameGuards v w →
       ((p k : ℕ) → IsSafe v p k → IsTrue (is_open (place_at w p)) → IsSafe w p k) → AreLentOf v l → AreLentOf w l
   lent-keeps v w l readers same keeps i = record {
-    tenures = λ p. tenure-same (place_at v p) (place_at w p) (kept_at l.tenures p) (same p) (i.tenures p);
+    sections = λ p. section-same (place_at v p) (place_at w p) (kept_at l.sections p) (same p) (i.sections p);
     lent = λ k p t e. let was = i.lent k p t e in
         (keeps p k was.0 (open-same (place_at v p) (place_at w p) (same p) was.0.guarded), was.1);
     readers = readers;
@@ -244,11 +244,11 @@ module _ {T : Type 0} where
       lent-call holds w (registered w p) l (registers w p v) i (readers-registered w p v same i) (guards-registered_at w p i v) lent
 
   -- a core without participants and items
-  pub lent-blank : (w : World T) (l : Loans) (slots readers : ℕ) → w.time.places ≡ [] → w.time.nesting < 2 ^ 32 → l.stakes ≡ unlent slots readers →
-      l.tenures.home.size ≡ readers → length l.tenures.kept ≡ l.tenures.home.size →
-      ((k : ℕ) → k < readers → ((kept_at l.tenures k).kind ≡ Closed) × ((kept_at l.tenures k).units ≡ 2 ^ 63)) → AreLentOf w l
+  pub lent-blank : (w : World T) (l : Loans) (slots readers : ℕ) → w.time.places ≡ [] → w.time.nesting < 2 ^ 32 → l.fractions ≡ unlent slots readers →
+      l.sections.home.size ≡ readers → length l.sections.kept ≡ l.sections.home.size →
+      ((k : ℕ) → k < readers → ((kept_at l.sections k).kind ≡ Closed) × ((kept_at l.sections k).units ≡ 2 ^ 63)) → AreLentOf w l
   lent-blank w l slots readers idle nesting none_lent size count closed_all = record {
-    tenures = λ p. tenure p (below-or-past p readers);
+    sections = λ p. section p (below-or-past p readers);
     lent = rw none_lent (all-unlent (IsLentTo w l) slots readers);
     readers = record { places = let none_there = ap (λ (ps : List Participant). length ps) idle in omega (arith, none_there); nesting = nesting };
   }
@@ -256,39 +256,39 @@ module _ {T : Type 0} where
       nobody_there : (p : ℕ) → place_at w p ≡ nobody
       nobody_there p = ap (λ (ps : List Participant). slice_index_or ps p nobody) idle
 
-      past : (p : ℕ) → readers ≤ p → kept_at l.tenures p ≡ whole Closed 0
-      past p beyond = get_or_past l.tenures.kept p (whole Closed 0) (omega (arith, beyond, size, count))
+      past : (p : ℕ) → readers ≤ p → kept_at l.sections p ≡ whole Closed 0
+      past p beyond = get_or_past l.sections.kept p (whole Closed 0) (omega (arith, beyond, size, count))
 
-      tenure : (p : ℕ) → (p < readers) ⊎ (readers ≤ p) → IsTenureOf (place_at w p) (kept_at l.tenures p)
-      tenure p (inl inside) = rw (nobody_there p) (record {
+      section : (p : ℕ) → (p < readers) ⊎ (readers ≤ p) → IsSectionOf (place_at w p) (kept_at l.sections p)
+      section p (inl inside) = rw (nobody_there p) (record {
         kind = (closed_all p inside).0;
         units = let all = (closed_all p inside).1 in omega (arith, all);
       })
-      tenure p (inr beyond) = rw (nobody_there p, past p beyond) (record { kind = refl; units = refl })
+      section p (inr beyond) = rw (nobody_there p, past p beyond) (record { kind = refl; units = refl })
 
-  -- what is lent to p can be lent to no other tenure
-  pub free-here : (w : World T) (l : Loans) → AreLentOf w l → (p k : ℕ) → IsFreeFor (kept_at l.tenures p).round (stake_at l.stakes k p)
-  free-here w l i p k = all-free (IsLentTo w l) l.stakes i.lent k p (kept_at l.tenures p).round (λ t so. so.1)
+  -- what is lent to p can be lent to no other section
+  pub free-here : (w : World T) (l : Loans) → AreLentOf w l → (p k : ℕ) → IsFreeFor (kept_at l.sections p).lifetime (fraction_at l.fractions k p)
+  free-here w l i p k = all-free (IsLentTo w l) l.fractions i.lent k p (kept_at l.sections p).lifetime (λ t so. so.1)
 
-  -- nor after a part of its tenure is back
-  pub free-joined : (w : World T) (l : Loans) → AreLentOf w l → (p : ℕ) → p < length l.tenures.kept → (k : ℕ) →
-      IsFreeFor (kept_at (joined l p).tenures p).round (stake_at l.stakes k p)
+  -- nor after a part of its section is back
+  pub free-joined : (w : World T) (l : Loans) → AreLentOf w l → (p : ℕ) → p < length l.sections.kept → (k : ℕ) →
+      IsFreeFor (kept_at (joined l p).sections p).lifetime (fraction_at l.fractions k p)
   free-joined w l i p near k =
-      let round = ap (λ (x : Kept). x.round) (kept-here l.tenures p (record (kept_at l.tenures p) { units = (kept_at l.tenures p).units + 1 }) near) in
-      rw round (free-here w l i p k)
+      let lifetime = ap (λ (x : Kept). x.lifetime) (kept-here l.sections p (record (kept_at l.sections p) { units = (kept_at l.sections p).units + 1 }) near) in
+      rw lifetime (free-here w l i p k)
 
   -- each place's reader is there
-  pub reader-there : (w : World T) (l : Loans) → AreLentOf w l → w.home.readers.size ≡ length l.tenures.kept → (p : ℕ) → p < length w.time.places →
-      p < length l.tenures.kept
+  pub reader-there : (w : World T) (l : Loans) → AreLentOf w l → w.home.readers.size ≡ length l.sections.kept → (p : ℕ) → p < length w.time.places →
+      p < length l.sections.kept
   reader-there w l i size p there = let places = i.readers.places in omega (arith, there, size, places)
 
   -- who has a part out has a guard open
-  pub guard-there : (w : World T) (l : Loans) → AreLentOf w l → (p n : ℕ) → n ≡ 1 → (kept_at l.tenures p).units + n ≤ 2 ^ 63 → 0 < (place_at w p).guards
-  guard-there w l i p n one fits = let all = (i.tenures p).units in omega (arith, one, fits, all)
+  pub guard-there : (w : World T) (l : Loans) → AreLentOf w l → (p n : ℕ) → n ≡ 1 → (kept_at l.sections p).units + n ≤ 2 ^ 63 → 0 < (place_at w p).guards
+  guard-there w l i p n one fits = let all = (i.sections p).units in omega (arith, one, fits, all)
 
   -- more than one part is left, where one guard more may nest
-  pub part-left : (w : World T) (l : Loans) → AreLentOf w l → (p : ℕ) → time.CanNest w.time p → 1 < (kept_at l.tenures p).units
-  part-left w l i p few = let all = (i.tenures p).units in let limit = i.readers.nesting in omega (arith, few, all, limit)
+  pub section-left : (w : World T) (l : Loans) → AreLentOf w l → (p : ℕ) → time.CanNest w.time p → 1 < (kept_at l.sections p).units
+  section-left w l i p few = let all = (i.sections p).units in let limit = i.readers.nesting in omega (arith, few, all, limit)
 
   pub sizes-closed : (w : World T) (p : ℕ) → time.KeepsPlaces w.time (time.closed w.time p) → KeepsSizes w (closed w p)
   sizes-closed w p k = record { home = refl; places = k.places; live = k.lives; slots = refl; jobs = refl; nesting = k.nesting; room = k.room }
@@ -313,30 +313,30 @@ module _ {T : Type 0} where
 
   -- what an opening reclaims is lent to nobody
   pub due-home : (holds : T → List OwnerOrCell) (w : World T) (l : Loans) (r : ℕ) → r < length w.time.places → IsWhole w → AreLentOf w l →
-      (k : ℕ) → Contains (reclaims w r) (Item k) → IsUnlent l.stakes k
+      (k : ℕ) → Contains (reclaims w r) (Item k) → IsUnlent l.fractions k
   due-home holds w l r there whole i k due =
-      all-home (IsLentTo w l) l.stakes i.lent k (λ p t so. safe-not-due p k holds w r there whole so.0 due)
+      all-home (IsLentTo w l) l.fractions i.lent k (λ p t so. safe-not-due p k holds w r there whole so.0 due)
 
   -- where no guard is open nothing is lent
-  pub all-home-quiet : (w : World T) (l : Loans) → AreLentOf w l → ((p : ℕ) → IsTrue (is_open (place_at w p)) → ⊥) → (k : ℕ) → IsUnlent l.stakes k
-  all-home-quiet w l i quiet k = all-home (IsLentTo w l) l.stakes i.lent k (λ p t so. quiet p so.0.guarded)
+  pub all-home-quiet : (w : World T) (l : Loans) → AreLentOf w l → ((p : ℕ) → IsTrue (is_open (place_at w p)) → ⊥) → (k : ℕ) → IsUnlent l.fractions k
+  all-home-quiet w l i quiet k = all-home (IsLentTo w l) l.fractions i.lent k (λ p t so. quiet p so.0.guarded)
 
-  pub lent-here : (w : World T) (l : Loans) (p k : ℕ) → CannotGo w p k → (kept_at l.tenures p).kind ≡ Open → AreLentOf w l →
-      AreLentOf w (record l { stakes = lent k p (kept_at l.tenures p).round l.stakes })
+  pub lent-here : (w : World T) (l : Loans) (p k : ℕ) → CannotGo w p k → (kept_at l.sections p).kind ≡ Open → AreLentOf w l →
+      AreLentOf w (record l { fractions = lent k p (kept_at l.sections p).lifetime l.fractions })
   lent-here w l p k stays is i =
-      let safe : IsSafe w p k = record { guarded = kind-open (place_at w p) (kept_at l.tenures p) (i.tenures p) is; stays = stays } in record {
-        tenures = i.tenures;
-        lent = all-lent (IsLentTo w l) l.stakes i.lent k p (kept_at l.tenures p).round (safe, refl);
+      let safe : IsSafe w p k = record { guarded = kind-open (place_at w p) (kept_at l.sections p) (i.sections p) is; stays = stays } in record {
+        sections = i.sections;
+        lent = all-lent (IsLentTo w l) l.fractions i.lent k p (kept_at l.sections p).lifetime (safe, refl);
         readers = i.readers;
       }
 
   -- ---- an opening
-  pub lent-opened : (holds : T → List OwnerOrCell) (w : World T) (l : Loans) (p : ℕ) → IsPlaceOf w p → p < length l.tenures.kept →
-      1 < (kept_at l.tenures p).units → IsWhole w → KeepsSizes w (opened holds w p) → AreLentOf w l → AreLentOf (opened holds w p) (shared l p)
+  pub lent-opened : (holds : T → List OwnerOrCell) (w : World T) (l : Loans) (p : ℕ) → IsPlaceOf w p → p < length l.sections.kept →
+      1 < (kept_at l.sections p).units → IsWhole w → KeepsSizes w (opened holds w p) → AreLentOf w l → AreLentOf (opened holds w p) (shared l p)
   lent-opened holds w l p live near more_units whole sizes i = record {
-    tenures = λ q. tenure q (cases_eq q p);
+    sections = λ q. section q (cases_eq q p);
     lent = λ k q t e. let was = i.lent k q t e in
-        (safe-call q k holds (opens w p live) whole was.0 (still q was.0.guarded (cases_eq q p)), was.1 ∙ sym (round q (cases_eq q p)));
+        (safe-call q k holds (opens w p live) whole was.0 (still q was.0.guarded (cases_eq q p)), was.1 ∙ sym (lifetime q (cases_eq q p)));
     readers = readers-keep w (opened holds w p) sizes i.readers;
   }
     where
@@ -344,28 +344,28 @@ module _ {T : Type 0} where
       new = opened holds w p
 
       k : Kept
-      k = record (kept_at l.tenures p) { kind = Open; units = (kept_at l.tenures p).units - 1 }
+      k = record (kept_at l.sections p) { kind = Open; units = (kept_at l.sections p).units - 1 }
 
       guards : (place_at new p).guards ≡ (place_at w p).guards + 1
       guards = opened-guards holds w p live.0
 
-      tenure : (q : ℕ) → (q ≡ p) ⊎ (q ≢ p) → IsTenureOf (place_at new q) (kept_at (shared l p).tenures q)
-      tenure q (inl e) = rw e (rw (kept-here l.tenures p k near) (record {
+      section : (q : ℕ) → (q ≡ p) ⊎ (q ≢ p) → IsSectionOf (place_at new q) (kept_at (shared l p).sections q)
+      section q (inl e) = rw e (rw (kept-here l.sections p k near) (record {
         kind = ap (λ (b : Bool). if b then Open else Closed) (sym (is-open (place_at new p) (omega (arith, guards))));
-        units = let was = (i.tenures p).units in omega (arith, guards, was, more_units);
+        units = let was = (i.sections p).units in omega (arith, guards, was, more_units);
       }))
-      tenure q (inr apart) = rw (kept-other l.tenures p k q apart, opened-other holds w p live.0 q apart) (i.tenures q)
+      section q (inr apart) = rw (kept-other l.sections p k q apart, opened-other holds w p live.0 q apart) (i.sections q)
 
       still : (q : ℕ) → IsTrue (is_open (place_at w q)) → (q ≡ p) ⊎ (q ≢ p) → IsTrue (is_open (place_at new q))
       still q o (inl e) = rw e (is-open (place_at new p) (omega (arith, guards)))
       still q o (inr apart) = rw (opened-other holds w p live.0 q apart) o
 
-      round : (q : ℕ) → (q ≡ p) ⊎ (q ≢ p) → (kept_at (shared l p).tenures q).round ≡ (kept_at l.tenures q).round
-      round q (inl e) = rw e (ap (λ (x : Kept). x.round) (kept-here l.tenures p k near))
-      round q (inr apart) = ap (λ (x : Kept). x.round) (kept-other l.tenures p k q apart)
+      lifetime : (q : ℕ) → (q ≡ p) ⊎ (q ≢ p) → (kept_at (shared l p).sections q).lifetime ≡ (kept_at l.sections q).lifetime
+      lifetime q (inl e) = rw e (ap (λ (x : Kept). x.lifetime) (kept-here l.sections p k near))
+      lifetime q (inr apart) = ap (λ (x : Kept). x.lifetime) (kept-other l.sections p k q apart)
 
   -- ---- a close
-  module _ (holds : T → List OwnerOrCell) (w : World T) (l : Loans) (p : ℕ) (live : IsPlaceOf w p) (near : p < length l.tenures.kept)
+  module _ (holds : T → List OwnerOrCell) (w : World T) (l : Loans) (p : ℕ) (live : IsPlaceOf w p) (near : p < length l.sections.kept)
       (some : 0 < (place_at w p).guards) (whole_world : IsWhole w) (sizes : KeepsSizes w (closed w p)) (i : AreLentOf w l) where
     abbrev pub after : World T
     after = closed w p
@@ -381,56 +381,56 @@ module _ {T : Type 0} where
 
     pub lent-closed : IsTrue (is_open (place_at after p)) → AreLentOf after (joined l p)
     lent-closed o = record {
-      tenures = λ q. tenure q (cases_eq q p);
+      sections = λ q. section q (cases_eq q p);
       lent = λ k q t e. let was = i.lent k q t e in
-          (safe-call q k holds (closes w p live) whole_world was.0 (still q was.0.guarded (cases_eq q p)), was.1 ∙ sym (round q (cases_eq q p)));
+          (safe-call q k holds (closes w p live) whole_world was.0 (still q was.0.guarded (cases_eq q p)), was.1 ∙ sym (lifetime q (cases_eq q p)));
       readers = readers-keep w after sizes i.readers;
     }
       where
         k : Kept
-        k = record (kept_at l.tenures p) { units = (kept_at l.tenures p).units + 1 }
+        k = record (kept_at l.sections p) { units = (kept_at l.sections p).units + 1 }
 
-        tenure : (q : ℕ) → (q ≡ p) ⊎ (q ≢ p) → IsTenureOf (place_at after q) (kept_at (joined l p).tenures q)
-        tenure q (inl e) = rw e (rw (kept-here l.tenures p k near) (record {
-          kind = (i.tenures p).kind ∙ ap (λ (b : Bool). if b then Open else Closed) (is-open (place_at w p) some ∙ sym o);
-          units = let was = (i.tenures p).units in omega (arith, fewer, was);
+        section : (q : ℕ) → (q ≡ p) ⊎ (q ≢ p) → IsSectionOf (place_at after q) (kept_at (joined l p).sections q)
+        section q (inl e) = rw e (rw (kept-here l.sections p k near) (record {
+          kind = (i.sections p).kind ∙ ap (λ (b : Bool). if b then Open else Closed) (is-open (place_at w p) some ∙ sym o);
+          units = let was = (i.sections p).units in omega (arith, fewer, was);
         }))
-        tenure q (inr apart) = rw (kept-other l.tenures p k q apart)
-            (tenure-same (place_at w q) (place_at after q) (kept_at l.tenures q) (others q apart) (i.tenures q))
+        section q (inr apart) = rw (kept-other l.sections p k q apart)
+            (section-same (place_at w q) (place_at after q) (kept_at l.sections q) (others q apart) (i.sections q))
 
         still : (q : ℕ) → IsTrue (is_open (place_at w q)) → (q ≡ p) ⊎ (q ≢ p) → IsTrue (is_open (place_at after q))
         still q was (inl e) = rw e o
         still q was (inr apart) = other-open q apart was
 
-        round : (q : ℕ) → (q ≡ p) ⊎ (q ≢ p) → (kept_at (joined l p).tenures q).round ≡ (kept_at l.tenures q).round
-        round q (inl e) = rw e (ap (λ (x : Kept). x.round) (kept-here l.tenures p k near))
-        round q (inr apart) = ap (λ (x : Kept). x.round) (kept-other l.tenures p k q apart)
+        lifetime : (q : ℕ) → (q ≡ p) ⊎ (q ≢ p) → (kept_at (joined l p).sections q).lifetime ≡ (kept_at l.sections q).lifetime
+        lifetime q (inl e) = rw e (ap (λ (x : Kept). x.lifetime) (kept-here l.sections p k near))
+        lifetime q (inr apart) = ap (λ (x : Kept). x.lifetime) (kept-other l.sections p k q apart)
 
     pub lent-left : is_open (place_at after p) ≡ false → (next : ℕ) → AreLentOf after (given_up (joined l p) p next)
     lent-left shut next = record {
-      tenures = λ q. tenure q (cases_eq q p);
-      lent = λ k q t e. let was = all-settled (IsLentTo w l) l.stakes i.lent p k q t e in (
+      sections = λ q. section q (cases_eq q p);
+      lent = λ k q t e. let was = all-settled (IsLentTo w l) l.fractions i.lent p k q t e in (
         safe-call q k holds (closes w p live) whole_world was.0.0 (other-open q was.1 was.0.0.guarded),
-        was.0.1 ∙ sym (ap (λ (x : Kept). x.round) (kept q was.1)),
+        was.0.1 ∙ sym (ap (λ (x : Kept). x.lifetime) (kept q was.1)),
       );
       readers = readers-keep w after sizes i.readers;
     }
       where
         j : Kept
-        j = record (kept_at l.tenures p) { units = (kept_at l.tenures p).units + 1 }
+        j = record (kept_at l.sections p) { units = (kept_at l.sections p).units + 1 }
 
         mid : ReadSections
-        mid = (joined l p).tenures
+        mid = (joined l p).sections
 
         near_mid : p < length mid.kept
-        near_mid = omega (arith, near, length-set l.tenures.kept p j)
+        near_mid = omega (arith, near, length-set l.sections.kept p j)
 
-        kept : (q : ℕ) → q ≢ p → kept_at (given_up (joined l p) p next).tenures q ≡ kept_at l.tenures q
-        kept q apart = kept-other mid p (whole Closed next) q apart ∙ kept-other l.tenures p j q apart
+        kept : (q : ℕ) → q ≢ p → kept_at (given_up (joined l p) p next).sections q ≡ kept_at l.sections q
+        kept q apart = kept-other mid p (whole Closed next) q apart ∙ kept-other l.sections p j q apart
 
-        tenure : (q : ℕ) → (q ≡ p) ⊎ (q ≢ p) → IsTenureOf (place_at after q) (kept_at (given_up (joined l p) p next).tenures q)
-        tenure q (inl e) = rw e (rw (kept-here mid p (whole Closed next) near_mid) (record {
+        section : (q : ℕ) → (q ≡ p) ⊎ (q ≢ p) → IsSectionOf (place_at after q) (kept_at (given_up (joined l p) p next).sections q)
+        section q (inl e) = rw e (rw (kept-here mid p (whole Closed next) near_mid) (record {
           kind = ap (λ (b : Bool). if b then Open else Closed) (sym shut);
           units = let none = no-guards (place_at after p) shut in omega (arith, none);
         }))
-        tenure q (inr apart) = rw (kept q apart) (tenure-same (place_at w q) (place_at after q) (kept_at l.tenures q) (others q apart) (i.tenures q))
+        section q (inr apart) = rw (kept q apart) (section-same (place_at w q) (place_at after q) (kept_at l.sections q) (others q apart) (i.sections q))

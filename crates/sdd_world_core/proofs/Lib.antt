@@ -1,9 +1,9 @@
 pub mod Lending
-pub mod Quiet
-pub mod Collecting
-pub mod Copying
-pub mod Letting
+pub mod NoGuards
+pub mod CollectorClosed
+pub mod CellCopies
+pub mod ReleasedOwner
 pub mod Sound
 pub mod InPlace
-pub mod Several
-pub mod Deferring
+pub mod SharedOwners
+pub mod DeferredJobs

@@ -13,14 +13,14 @@ use Rattle.sdd_participants.specs.declared.participant.Participant.{Participant}
 use Rattle.sdd_participants.specs.declared.standing.Standing.{Standing}
 use Rattle.sdd_participants.specs.declared.standing.Standing.TheVariants.{Owned, Raw, Shared, Retired, Private as privately}
 use Rattle.sdd_values.specs.ReadSections.{ReadSections}
-use Rattle.sdd_standings.specs.Slots.{Slots, is_waiting, has_others, released_to, standing_at, with_standing}
-use Rattle.sdd_standings.specs.Cells.{Cells}
-use Rattle.sdd_space.specs.OwnerOrCell.{OwnerOrCell}
-use Rattle.sdd_space.specs.World.{is_loose}
-use Rattle.sdd_space.specs.Out.{is_out}
-use Rattle.sdd_space.proofs.Standings.{out-inside, out-waits-not}
+use Rattle.sdd_world_model.specs.Slots.{Slots, is_waiting, has_others, released_to, standing_at, with_standing}
+use Rattle.sdd_world_model.specs.Cells.{Cells}
+use Rattle.sdd_world_model.specs.OwnerOrCell.{OwnerOrCell}
+use Rattle.sdd_world_model.specs.World.{is_loose}
+use Rattle.sdd_world_model.specs.Out.{is_out}
+use Rattle.sdd_world_model.proofs.Standings.{out-inside, out-waits-not}
 use Rattle.sdd_world_core.specs.WorldCore.{IsSound}
-use Rattle.sdd_world_core.proofs.Letting.{Found, several, sole}
+use Rattle.sdd_world_core.proofs.ReleasedOwner.{Found, several, sole}
 
 -- whether a slot is loose, and whether a place of a job is free
 abbrev loose_weight : Option Standing → ℕ
@@ -66,7 +66,7 @@ module _ {T : Type 0} (holds : T → List OwnerOrCell) (t : EpochState) (s : Slo
           held = i.held;
           homes = i.homes;
           participants = i.participants;
-          tenures = i.tenures;
+          sections = i.sections;
           readers = i.readers;
         }
 
@@ -90,7 +90,7 @@ module _ {T : Type 0} (holds : T → List OwnerOrCell) (t : EpochState) (s : Slo
           held = i.held;
           homes = i.homes;
           participants = i.participants;
-          tenures = i.tenures;
+          sections = i.sections;
           readers = i.readers;
         }
 

@@ -2,7 +2,7 @@
 use Rattle.std.specs.Prelude.{ℕ, All, IsNone}
 use Rattle.sdd_participants.specs.declared.participant.CountdownState.{CountdownState}
 use Rattle.sdd_participants.specs.EpochState.{paced_at}
-use Rattle.sdd_space.specs.World.{World}
+use Rattle.sdd_world_model.specs.World.{World}
 
 module _ {T : Type 0} where
   -- every slot and every cell is free

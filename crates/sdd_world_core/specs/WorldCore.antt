@@ -3,11 +3,11 @@ use Rattle.std.specs.Prelude.{◌+◌, ◌≤◌, ◌≡◌, List, length, is_no
 use Rattle.sdd_participants.specs.Slab.{Entries}
 use Rattle.sdd_participants.specs.EpochState.{EpochState, waiting_count}
 use Rattle.sdd_values.specs.ReadSections.{ReadSections}
-use Rattle.sdd_standings.specs.Slots.{Slots}
-use Rattle.sdd_standings.specs.Cells.{Cells}
-use Rattle.sdd_space.specs.OwnerOrCell.{OwnerOrCell, ValuesAreOf}
-use Rattle.sdd_space.specs.World.{World, is_loose}
-use Rattle.sdd_space.specs.Loans.{Loans}
+use Rattle.sdd_world_model.specs.Slots.{Slots}
+use Rattle.sdd_world_model.specs.Cells.{Cells}
+use Rattle.sdd_world_model.specs.OwnerOrCell.{OwnerOrCell, ValuesAreOf}
+use Rattle.sdd_world_model.specs.World.{World, is_loose}
+use Rattle.sdd_world_model.specs.Loans.{Loans}
 
 -- a world, what of its values is lent, and the jobs that wait, each at its place of the table
 pub record WorldCore (T J : Type 0) : Type 0 where
@@ -27,5 +27,5 @@ pub record IsSound {T : Type 0} (holds : T → List OwnerOrCell) (t : EpochState
   pub held : c.slots ≡ s.home
   pub homes : ValuesAreOf holds (record { slots = s.home; cells = c.home; readers = r.home }) s.values
   pub participants : t.participants ≡ r.home.size
-  pub tenures : length r.kept ≡ r.home.size
+  pub sections : length r.kept ≡ r.home.size
   pub readers : s.readers ≡ r.home.size

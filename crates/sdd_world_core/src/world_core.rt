@@ -1,10 +1,10 @@
 ghost use Rattle.std.specs.Prelude.{◌≡◌, ℕ, ◌+◌, ◌^◌, ◌<◌, [], None, replicate, IfOk, IsTrue, ◌↔◌};
 ghost use Rattle.sdd_participants.specs.Slab.{entry_at};
 ghost use Rattle.sdd_values.specs.Block.{unlent};
-ghost use Rattle.sdd_standings.specs.Cells.{null_pointer};
+ghost use Rattle.sdd_world_model.specs.Cells.{null_pointer};
 ghost use Rattle.sdd_participants.specs.EpochState as time;
-ghost use Rattle.sdd_space.specs.OwnerOrCell.{ValuesAreOf};
-ghost use Rattle.sdd_space.specs.World.{IsBlank, AnyGuardOpen};
+ghost use Rattle.sdd_world_model.specs.OwnerOrCell.{ValuesAreOf};
+ghost use Rattle.sdd_world_model.specs.World.{IsBlank, AnyGuardOpen};
 ghost use Rattle.sdd_world_core.specs.Closing.{NothingIsOut};
 ghost use Rattle.sdd_world_core.specs.Lending.{AreLent};
 
@@ -33,7 +33,7 @@ pub struct WorldCore<T: Item<T>, J: Job> {
     slots: WorldSlots<T>,
     cells: WorldCells,
     jobs: Jobs<J>,
-    tenures: ReadSections,
+    sections: ReadSections,
     tally: RunningTally,
 }
 
@@ -45,7 +45,7 @@ impl<T: Item<T>, J: Job> Model for WorldCore<T, J> {
 
     ghost view = { λ c. record {
       world = record {
-        home = record { slots = c.slots.home; cells = c.cells.home; readers = c.tenures.home };
+        home = record { slots = c.slots.home; cells = c.cells.home; readers = c.sections.home };
         time = c.time;
         standings = c.slots.standings;
         values = c.slots.values;
@@ -54,11 +54,11 @@ impl<T: Item<T>, J: Job> Model for WorldCore<T, J> {
         jobs = places_of c.jobs;
         tally = c.tally;
       };
-      lending = record { stakes = c.slots.stakes; tenures = c.tenures };
+      lending = record { fractions = c.slots.fractions; sections = c.sections };
       deferred = c.jobs;
     } };
 
-    ghost invariant = { λ c. IsSound T.holds c.time c.slots c.cells (places_of c.jobs) c.tenures };
+    ghost invariant = { λ c. IsSound T.holds c.time c.slots c.cells (places_of c.jobs) c.sections };
 }
 
 impl<T: Item<T>, J: Job> WorldCore<T, J> {
@@ -79,7 +79,7 @@ impl<T: Item<T>, J: Job> WorldCore<T, J> {
         ensures lent { IfOk result AreLent }
         ensures idle { IfOk result (λ core. core.deferred ≡ replicate jobs None) }
     {
-        let tenures = ReadSections::new(alloc, participants as usize)?;
+        let sections = ReadSections::new(alloc, participants as usize)?;
         let jobs = Jobs::new(alloc, jobs)?;
         match free_tables(alloc, slots, cells, participants) {
             Ok((slots, cells)) => Ok(WorldCore {
@@ -87,7 +87,7 @@ impl<T: Item<T>, J: Job> WorldCore<T, J> {
                 slots,
                 cells,
                 jobs,
-                tenures,
+                sections,
                 tally: RunningTally::new(),
             }),
             Err(refused) => {
@@ -108,7 +108,7 @@ impl<T: Item<T>, J: Job> WorldCore<T, J> {
             slots,
             cells,
             jobs,
-            tenures: _,
+            sections: _,
             tally,
         } = self;
         slots.destroy();
@@ -162,7 +162,7 @@ fn free_tables<T>(
 ) -> Result<(WorldSlots<T>, WorldCells), AllocError>
     ensures standings { IfOk result (λ both. both.0.standings ≡ replicate slots None) }
     ensures values { IfOk result (λ both. both.0.values ≡ replicate slots None) }
-    ensures stakes { IfOk result (λ both. both.0.stakes ≡ unlent slots readers) }
+    ensures fractions { IfOk result (λ both. both.0.fractions ≡ unlent slots readers) }
     ensures readers { IfOk result (λ both. both.0.readers ≡ readers) }
     ensures cells { IfOk result (λ both. both.1.cells ≡ replicate cells None) }
     ensures pointers { IfOk result (λ both. both.1.pointers ≡ replicate cells null_pointer) }

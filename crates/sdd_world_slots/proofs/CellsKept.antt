@@ -11,9 +11,9 @@ use Rattle.sdd_rights.specs.declared.right.StandingKind.{StandingKind}
 use Rattle.sdd_rights.specs.declared.right.StandingKind.TheVariants as kind
 use Rattle.sdd_participants.specs.Slab.{Entries, entry_at}
 use Rattle.sdd_participants.specs.declared.standing.CellContents.{CellContents}
-use Rattle.sdd_participants.proofs.Adopting.{same-or-not}
+use Rattle.sdd_participants.proofs.Adoptions.{same-or-not}
 use Rattle.sdd_world_slots.proofs.SlotsKept.{none-of, none-at}
-use Rattle.sdd_standings.specs.Cells.{CellsMatch, CellMatches, MayHold, right_at, slot_held}
+use Rattle.sdd_world_model.specs.Cells.{CellsMatch, CellMatches, MayHold, right_at, slot_held}
 
 -- what is kept of a cell's number
 abbrev pub kept_at : List Kept → ℕ → Kept

@@ -12,7 +12,7 @@ use Rattle.sdd_rights.specs.declared.right.Right.{Right}
 use Rattle.sdd_rights.specs.declared.right.StandingKind.TheVariants as kind
 use Rattle.sdd_participants.specs.Slab.{Entries, IsEmptyAt, entry_at}
 use Rattle.sdd_participants.specs.declared.standing.CellContents.{CellContents}
-use Rattle.sdd_standings.specs.Cells.{CellsMatch, CellMatches, MayHold, right_at}
+use Rattle.sdd_world_model.specs.Cells.{CellsMatch, CellMatches, MayHold, right_at}
 use Rattle.sdd_world_slots.specs.Contents.{contents_of, contents_with}
 use Rattle.sdd_world_slots.proofs.CellsKept.{cells-keep, kept_at}
 
@@ -50,7 +50,8 @@ contents-set (t' ∷ tags) (r' ∷ rights) (suc k) t r near =
 pub contents-retag : (tags : Entries Tag) (rights : List (Option Right)) (k : ℕ) (t : Option Tag) → k < length rights →
     contents_of (slice_set tags k t) rights ≡ slice_set (contents_of tags rights) k (contents_with t (right_at rights k))
 contents-retag tags rights k t near =
-    ap (λ (rs : List (Option Right)). contents_of (slice_set tags k t) rs) (sym (set-get_or rights k None)) ∙ contents-set tags rights k t (right_at rights k) near
+    ap (λ (rs : List (Option Right)). contents_of (slice_set tags k t) rs) (sym (set-get_or rights k None))
+    ∙ contents-set tags rights k t (right_at rights k) near
 
 -- who is taken has a tag
 some-tag : (t : Option Tag) (r : Option Right) → IsSome (contents_with t r) → IsSome t

@@ -13,7 +13,7 @@ use Rattle.sdd_rights.specs.declared.right.StandingKind.TheVariants as kind
 use Rattle.sdd_participants.specs.Slab.{Entries}
 use Rattle.sdd_participants.specs.declared.standing.Standing.{Standing}
 use Rattle.sdd_participants.specs.declared.standing.Standing.TheVariants.{Owned, Raw, Shared, Retired, Private}
-use Rattle.sdd_standings.specs.Slots.{SlotsMatch, IsWaiting, is_waiting, IsBounded, IsSharedBy, IsOwnedBy, kept_of, first_standing, has_others, owners_of}
+use Rattle.sdd_world_model.specs.Slots.{SlotsMatch, IsWaiting, is_waiting, IsBounded, IsSharedBy, IsOwnedBy, kept_of, first_standing, has_others, owners_of}
 
 -- each of the same, mapped
 pub map-replicate : {X Y : Type 0} (f : X → Y) (n : ℕ) (x : X) → map f (replicate n x) ≡ replicate n (f x)

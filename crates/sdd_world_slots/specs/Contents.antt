@@ -4,7 +4,7 @@ use Rattle.sdd_core.specs.declared.tag.Tag.{Tag}
 use Rattle.sdd_rights.specs.declared.right.Right.{Right}
 use Rattle.sdd_participants.specs.Slab.{Entries}
 use Rattle.sdd_participants.specs.declared.standing.CellContents.{CellContents}
-use Rattle.sdd_standings.specs.Cells.{cell_with}
+use Rattle.sdd_world_model.specs.Cells.{cell_with}
 
 -- a cell that has a tag is taken, and holds the owner whose right it keeps
 abbrev pub contents_with : Option Tag → Option Right → Option CellContents

@@ -1,7 +1,7 @@
 ghost use Rattle.std.specs.Prelude.{◌≡◌, ◌<◌, ◌↔◌, ℕ, All, IfErr, IfNone, IfOk, IfSome, IsNone, IsSome, IsTrue, MatchResult, None, OnErr, Some, length, option_copied, replicate, slice_get};
 ghost use Rattle.sdd_rights.specs.StandingKind.{IsOwner};
 ghost use Rattle.sdd_rights.specs.Right.{number_of, home_of, kind_of, raw_number_of, raw_home_of, badge_home};
-ghost use Rattle.sdd_standings.specs.Cells.{slot_held, null_cell, null_pointer};
+ghost use Rattle.sdd_world_model.specs.Cells.{slot_held, null_cell, null_pointer};
 ghost use Rattle.sdd_participants.specs.Slab.{IsEmptyAt, IsFull, entry_at};
 
 use sdd_core::{SlotName, Tag};
@@ -31,7 +31,7 @@ pub struct WorldCells {
 impl Model for WorldCells {
     ghost use Rattle.std.specs.Prelude.{◌≡◌, length};
     ghost use Rattle.sdd_rights.specs.Right.{badge_home};
-    ghost use Rattle.sdd_standings.specs.Cells.{Cells, CellsMatch};
+    ghost use Rattle.sdd_world_model.specs.Cells.{Cells, CellsMatch};
     ghost use Rattle.sdd_world_slots.specs.Contents.{contents_of};
 
     ghost Value = { Cells };
@@ -43,7 +43,7 @@ impl Model for WorldCells {
 }
 
 impl WorldCells {
-    ghost use Rattle.sdd_standings.specs.Cells.{cell_with, slot_held, with_cell, without_cell, with_pointer, MayHold};
+    ghost use Rattle.sdd_world_model.specs.Cells.{cell_with, slot_held, with_cell, without_cell, with_pointer, MayHold};
 
     /// That many cells, all free, in a home of their own, for owners of these slots.
     pub fn new(alloc: Global, size: u32, slots: NameWitness) -> Result<WorldCells, AllocError>

@@ -1,11 +1,11 @@
 ghost use Rattle.std.specs.Fn.{FnOnceReturnsAtMut};
-ghost use Rattle.sdd_values.specs.Block.{IsUnlent, IsFreeFor, stake_at, lent, settled, unlent};
+ghost use Rattle.sdd_values.specs.Block.{IsUnlent, IsFreeFor, fraction_at, lent, settled, unlent};
 ghost use Rattle.std.specs.Prelude.{ℕ, ◌≡◌, ◌≢◌, ◌+◌, ◌^◌, ◌<◌, ◌≤◌, ◌↔◌, All, IfErr, IfNone, IfOk, IfSome, IsNone, IsSome, IsTrue, MatchOption, MatchResult, None, OnErr, OnSome, Some, length, replicate, unwrap_or};
 ghost use Rattle.sdd_rights.specs.StandingKind.{IsOwner};
 ghost use Rattle.sdd_rights.specs.Right.{number_of, home_of, kind_of, badge_home};
 ghost use Rattle.sdd_rights.specs.SharedRights as shares;
 ghost use Rattle.sdd_participants.specs.Slab.{IsEmptyAt, IsFull};
-ghost use Rattle.sdd_standings.specs.Slots.{standing_at, value_at, with_made, with_standing, with_value, without_slot, first_standing, released_standing, released_to, has_others, owners_of, IsOwnedBy, IsSharedBy, IsWaiting};
+ghost use Rattle.sdd_world_model.specs.Slots.{standing_at, value_at, with_made, with_standing, with_value, without_slot, first_standing, released_standing, released_to, has_others, owners_of, IsOwnedBy, IsSharedBy, IsWaiting};
 
 use sdd_core::SlotName;
 use sdd_core::hint::assert_unchecked;
@@ -28,7 +28,7 @@ pub struct WorldSlots<T> {
 }
 
 impl<T> Model for WorldSlots<T> {
-    ghost use Rattle.sdd_standings.specs.Slots.{Slots, SlotsMatch};
+    ghost use Rattle.sdd_world_model.specs.Slots.{Slots, SlotsMatch};
 
     ghost Value = { Slots T };
 
@@ -36,7 +36,7 @@ impl<T> Model for WorldSlots<T> {
       home = s.rights.home;
       standings = s.standings;
       values = s.places.values;
-      stakes = s.places.stakes;
+      fractions = s.places.fractions;
       readers = s.places.readers;
     } };
 
@@ -49,7 +49,7 @@ impl<T> WorldSlots<T> {
         ensures size { IfOk result (λ slots. slots.home.size ≡ size) }
         ensures standings { IfOk result (λ slots. slots.standings ≡ replicate size None) }
         ensures values { IfOk result (λ slots. slots.values ≡ replicate size None) }
-        ensures stakes { IfOk result (λ slots. (slots.stakes ≡ unlent size readers) × (slots.readers ≡ readers)) }
+        ensures fractions { IfOk result (λ slots. (slots.fractions ≡ unlent size readers) × (slots.readers ≡ readers)) }
     {
         let rights = RightsAuthority::new(alloc, size as usize, StandingKind::Free)?;
         let standings = Slab::new(alloc, size, Standing::Retired)?;
@@ -306,7 +306,7 @@ impl<T> WorldSlots<T> {
 
     /// Takes the value of a slot that waits, which is free then; of any other slot nothing.
     pub fn reclaim(&mut self, slot: u32) -> Option<T>
-        requires home { IsWaiting (standing_at self.old slot) → IsUnlent self.old.stakes slot }
+        requires home { IsWaiting (standing_at self.old slot) → IsUnlent self.old.fractions slot }
         ensures waited { IsSome result ↔ IsWaiting (standing_at self.old slot) }
         ensures was { IfSome result (λ value. value_at self.old slot ≡ Some value) }
         ensures freed { OnSome result (self.new ≡ without_slot self.old slot) }
@@ -335,7 +335,7 @@ impl<T> WorldSlots<T> {
     /// Changes the value of an owner's item, which is lent to nobody.
     pub fn get_mut<R, F: FnOnce(&mut T) -> R>(&mut self, right: &Right, f: F) -> R
         requires right { home_of right.now ≡ self.old.home }
-        requires home { IsUnlent self.old.stakes (number_of right.now) }
+        requires home { IsUnlent self.old.fractions (number_of right.now) }
         requires callable { F.IsAlwaysCallable f }
         ensures { (was : T) × (now : T) × (value_at self.old (number_of right.now) ≡ Some was) × FnOnceReturnsAtMut F.FnOnce f was result now ×
             (self.new ≡ with_value self.old (number_of right.now) now) }
@@ -348,7 +348,7 @@ impl<T> WorldSlots<T> {
     pub fn take(&mut self, right: Right) -> T
         requires right { home_of right ≡ self.old.home }
         requires alone { ¬ (IsTrue (has_others (standing_at self.old (number_of right)))) }
-        requires home { IsUnlent self.old.stakes (number_of right) }
+        requires home { IsUnlent self.old.fractions (number_of right) }
         ensures owned { IsOwnedBy (kind_of right) (standing_at self.old (number_of right)) }
         ensures value { value_at self.old (number_of right) ≡ Some result }
         ensures taken { self.new ≡ without_slot self.old (number_of right) }
@@ -360,21 +360,21 @@ impl<T> WorldSlots<T> {
         self.places.take(slot as usize)
     }
 
-    /// The value in a slot that isn't free, for a reader, for as long as its tenure is borrowed.
-    pub fn lend<'g>(&mut self, slot: u32, reader: usize, tenure: &'g ReadSection) -> &'g T
+    /// The value in a slot that isn't free, for a reader, for as long as its section is borrowed.
+    pub fn look<'g>(&mut self, slot: u32, reader: usize, section: &'g ReadSection) -> &'g T
         requires taken { IsSome (standing_at self.old slot) }
         requires reader { reader < self.old.readers }
-        requires free { IsFreeFor tenure.now.round (stake_at self.old.stakes slot reader) }
+        requires free { IsFreeFor section.now.lifetime (fraction_at self.old.fractions slot reader) }
         ensures value { value_at self.old slot ≡ Some result.now }
-        ensures lent { self.new ≡ record self.old { stakes = lent slot reader tenure.now.round self.old.stakes } }
+        ensures lent { self.new ≡ record self.old { fractions = lent slot reader section.now.lifetime self.old.fractions } }
     {
-        self.places.look(slot as usize, reader, tenure)
+        self.places.look(slot as usize, reader, section)
     }
 
-    /// What a reader was lent in a tenure that has ended is home again.
+    /// What a reader was lent in a section that has ended is home again.
     pub fn settle(&mut self, reader: usize, ended: &EndedSection)
-        requires { (at : ℕ) → IsFreeFor ended.now.name (stake_at self.old.stakes at reader) }
-        ensures { self.new ≡ record self.old { stakes = settled reader self.old.stakes } }
+        requires { (at : ℕ) → IsFreeFor ended.now.name (fraction_at self.old.fractions at reader) }
+        ensures { self.new ≡ record self.old { fractions = settled reader self.old.fractions } }
     {
         self.places.settle(reader, ended);
     }
@@ -426,7 +426,7 @@ impl<T> WorldSlots<T> {
 }
 
 impl<T> StandingLookup for WorldSlots<T> {
-    ghost use Rattle.sdd_standings.specs.Slots.{Slots};
+    ghost use Rattle.sdd_world_model.specs.Slots.{Slots};
 
     ghost standings = { λ s. s.standings };
 

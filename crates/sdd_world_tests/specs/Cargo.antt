@@ -1,6 +1,6 @@
 -- What a number or a storage holds, and which storage it is
 use Rattle.std.specs.Prelude.{List, [], Option, None, Some}
-use Rattle.sdd_space.specs.OwnerOrCell.{OwnerOrCell}
+use Rattle.sdd_world_model.specs.OwnerOrCell.{OwnerOrCell}
 use Rattle.sdd_bag.specs.Storages.{StorageName, holdings_of}
 use Rattle.sdd_world_tests.specs.declared.bags.cargo.Cargo.{Cargo}
 use Rattle.sdd_world_tests.specs.declared.bags.cargo.Cargo.TheVariants.{Number, Stored}

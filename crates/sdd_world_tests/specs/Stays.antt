@@ -1,7 +1,7 @@
 -- What the steps of a test leave as it is
 use Rattle.std.specs.Prelude.{◌≡◌, length}
 use Rattle.sdd_participants.specs.EpochState.{lives}
-use Rattle.sdd_space.specs.World.{World}
+use Rattle.sdd_world_model.specs.World.{World}
 
 -- the same home, and the same participants
 pub record Stays {T : Type 0} (old new : World T) : Type 0 where

@@ -1,6 +1,6 @@
 //! Participants of a world that end: what they left goes with another, and their places are taken until then. And worlds that can't be closed.
 ghost use Rattle.std.specs.Prelude.{◌≡◌, ◌≢◌, ℕ};
-ghost use Rattle.sdd_space.specs.World.{IsPlaceOf};
+ghost use Rattle.sdd_world_model.specs.World.{IsPlaceOf};
 ghost use Rattle.sdd_world.specs.Place.{index_of};
 
 use crate::steps::{AMPLE, closed, joined, made, new_world, retire, shows};

@@ -1,10 +1,10 @@
 //! The same calls of guards over a turn at a world, and over the only participant of a domain.
 ghost use Rattle.std.specs.Prelude.{◌≡◌};
 ghost use Rattle.sdd_space.specs.CallerId.{IsSeated};
-ghost use Rattle.sdd_space.specs.World.{IsPlaceOf};
+ghost use Rattle.sdd_world_model.specs.World.{IsPlaceOf};
 ghost use Rattle.sdd_world.specs.Place.{index_of};
 ghost use Rattle.sdd_space.specs.Guard.{reader_of};
-ghost use Rattle.sdd_domain.specs.Space.{seat_of};
+ghost use Rattle.sdd_domain.specs.Space.{caller_of};
 ghost use Rattle.sdd_world_tests.specs.Stays.{Stays};
 
 use crate::steps::{closed, joined, new_world};
@@ -44,8 +44,8 @@ struct Shown {
 
 /// Opens a guard, does something under it, opens one in it, tries a third, and closes them.
 fn two_guards<T: Item<T>, S: Guards<T>>(rt: &impl Abort, s: &mut S, under: Under) -> Shown
-    requires { IsSeated (S.seat s.old) }
-    ensures { S.seat s.new ≡ S.seat s.old }
+    requires { IsSeated (S.caller s.old) }
+    ensures { S.caller s.new ≡ S.caller s.old }
 {
     let outer = Guard::new(s).expect(rt, "no guard is open");
     let epoch = u8::from(outer.epoch(s));
@@ -68,8 +68,8 @@ fn two_guards<T: Item<T>, S: Guards<T>>(rt: &impl Abort, s: &mut S, under: Under
 
 /// Does this under the guard.
 fn act<T: Item<T>, S: Guards<T>>(guard: &Guard, s: &mut S, under: Under)
-    requires { IsSeated (S.seat s.old) }
-    ensures { S.seat s.new ≡ S.seat s.old }
+    requires { IsSeated (S.caller s.old) }
+    ensures { S.caller s.new ≡ S.caller s.old }
 {
     match under {
         Under::Nothing => {}
@@ -80,8 +80,8 @@ fn act<T: Item<T>, S: Guards<T>>(guard: &Guard, s: &mut S, under: Under)
 
 /// What a third guard is refused with.
 fn refusal<T: Item<T>, S: Guards<T>>(rt: &impl Abort, s: &mut S) -> Option<Refused>
-    requires { IsSeated (S.seat s.old) }
-    ensures { S.seat s.new ≡ S.seat s.old }
+    requires { IsSeated (S.caller s.old) }
+    ensures { S.caller s.new ≡ S.caller s.old }
 {
     match Guard::new(s) {
         Ok(_guard) => panic!(rt; "two guards are open"),
@@ -98,8 +98,8 @@ fn at_world(rt: &impl Abort, world: &mut World<u64>, place: &Place, under: Under
 }
 
 fn at_domain(rt: &impl Abort, local: &mut Local<'_, u64>, under: Under) -> Shown
-    requires { IsSeated (seat_of local.old) }
-    ensures { seat_of local.new ≡ seat_of local.old }
+    requires { IsSeated (caller_of local.old) }
+    ensures { caller_of local.new ≡ caller_of local.old }
 {
     two_guards::<u64, Local<'_, u64>>(rt, local, under)
 }

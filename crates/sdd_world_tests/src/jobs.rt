@@ -26,8 +26,8 @@ impl BoxedJob for Adds {
 
 /// Opens, accelerates and closes a guard, and tells which epoch it showed, and the number that jobs add to, as it was under the guard.
 fn shown<S: Guards<u64>>(rt: &impl Abort, s: &mut S, total: &AtomicU64) -> (u8, u64)
-    requires { IsSeated (S.seat s.old) }
-    ensures { S.seat s.new ≡ S.seat s.old }
+    requires { IsSeated (S.caller s.old) }
+    ensures { S.caller s.new ≡ S.caller s.old }
 {
     let guard = Guard::new(s).expect(rt, "a guard may be opened");
     let epoch = u8::from(guard.epoch(s));
@@ -39,8 +39,8 @@ fn shown<S: Guards<u64>>(rt: &impl Abort, s: &mut S, total: &AtomicU64) -> (u8, 
 
 /// The accelerated guards show these epochs, and under each the number that jobs add to is this one.
 fn shows<S: Guards<u64>>(rt: &impl Abort, s: &mut S, total: &AtomicU64, table: &[(u8, u64)])
-    requires { IsSeated (S.seat s.old) }
-    ensures { S.seat s.new ≡ S.seat s.old }
+    requires { IsSeated (S.caller s.old) }
+    ensures { S.caller s.new ≡ S.caller s.old }
 {
     for (epoch, sum) in table {
         assert_eq!(rt; shown(rt, s, total), (*epoch, *sum));
@@ -53,8 +53,8 @@ fn deferred<S: Guards<u64> + Deferrals<u64>>(
     s: &mut S,
     job: S::Job,
 ) -> Result<(), (S::Job, Refused)>
-    requires { IsSeated (S.seat s.old) }
-    ensures { S.seat s.new ≡ S.seat s.old }
+    requires { IsSeated (S.caller s.old) }
+    ensures { S.caller s.new ≡ S.caller s.old }
 {
     let guard = Guard::new(s).expect(rt, "a guard may be opened");
     let answer = guard.defer_execute(job, s);
@@ -78,8 +78,8 @@ fn defers_two<S: Guards<u64> + Deferrals<u64>>(
     second: S::Job,
     total: &AtomicU64,
 ) -> Refused
-    requires { IsSeated (S.seat s.old) }
-    ensures { S.seat s.new ≡ S.seat s.old }
+    requires { IsSeated (S.caller s.old) }
+    ensures { S.caller s.new ≡ S.caller s.old }
 {
     waits(rt, deferred(rt, s, first));
     match deferred(rt, s, second) {

@@ -1,6 +1,6 @@
 //! Which epochs guards show, and when an item that was retired is reclaimed.
 ghost use Rattle.std.specs.Prelude.{◌≡◌};
-ghost use Rattle.sdd_space.specs.World.{IsPlaceOf};
+ghost use Rattle.sdd_world_model.specs.World.{IsPlaceOf};
 ghost use Rattle.sdd_world.specs.Place.{index_of};
 ghost use Rattle.sdd_world_tests.specs.Stays.{Stays};
 

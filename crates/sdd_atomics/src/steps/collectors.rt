@@ -9,69 +9,71 @@ ghost use Rattle.sdd_domain_invariant.specs.Codes as codes;
 ghost use Rattle.sdd_domain_invariant.specs.Codes.{free_word};
 ghost use Rattle.sdd_domain_invariant.specs.Epoch.{HasPlace};
 ghost use Rattle.sdd_domain_invariant.specs.Collectors.{Closes, FoundEmptied};
-ghost use Rattle.sdd_domain_invariant.specs.CollectorWordSteps.{WaitsFor, HasWaiting};
-ghost use Rattle.sdd_domain_invariant.specs.CollectorSteps.{CollectsOne, LeavesOneToClose, GivesOnePrivateBack, ClosesOne, ClosesNone, EmptiesOne, EmptiesOwnOne};
+ghost use Rattle.sdd_domain_invariant.specs.Collectors.CollectorWordSteps.{WaitsFor, HasWaiting};
+ghost use Rattle.sdd_domain_invariant.specs.Collectors.CollectorSteps.{CollectsOne, LeavesOneToClose, GivesOnePrivateBack, ClosesOne, ClosesNone, EmptiesOne, EmptiesOwnOne};
 ghost use Rattle.sdd_rights.specs.Owner.{witness_of_cell};
 ghost use Rattle.sdd_atomics.specs.DomainTable.{id_of, places_of, slots_of};
 ghost use Rattle.sdd_atomics.specs.DomainSeat.{view, epoch, slots, Moved, MovedAlone, Knows};
 
-use super::emptying::{EMPTYING, LEFT, private_word};
+pub mod emptying;
+
 use super::slots::FREE;
 use crate::domain_table::{DomainSeat, DomainTable};
 use crate::plays::{
     BeginClose, ClaimOwnPrivate, ClaimPrivate, Collect, EndClose, GivePrivateBack, LeaveToClose,
 };
+use emptying::{EMPTYING, LEFT, private_word};
 use sdd_witness::{Swap, Witness, step_alone};
 use std::marker::PhantomData;
 
 /// Begins to close the open collector to whose cell the participant has the right, which tells of the close from then on, whoever has it. The participant has
 /// looked at no place yet. No word is touched.
 #[inline]
-pub fn begin_close(board: &DomainTable, token: &mut DomainSeat, collector: u32)
-    requires home { token.old.table_id ≡ id_of board.now }
-    requires knows { Knows board.now token.old }
-    requires place { HasPlace (epoch token.old) }
-    requires right { (view token.old).cells.rights ≡ record { cell = collector; kind = Raw } ∷ [] }
-    requires idle { (slots token.old).closes ≡ None }
-    ensures { MovedAlone (ClosesOne collector) token.old token.new }
+pub fn begin_close(table: &DomainTable, seat: &mut DomainSeat, collector: u32)
+    requires home { seat.old.table_id ≡ id_of table.now }
+    requires knows { Knows table.now seat.old }
+    requires place { HasPlace (epoch seat.old) }
+    requires right { (view seat.old).cells.rights ≡ record { cell = collector; kind = Raw } ∷ [] }
+    requires idle { (slots seat.old).closes ≡ None }
+    ensures { MovedAlone (ClosesOne collector) seat.old seat.new }
 {
     let _ = collector;
-    step_alone::<_, _, _, _, BeginClose>(&board.table.shared, token);
+    step_alone::<_, _, _, _, BeginClose>(&table.atomic.shared, seat);
 }
 
 /// Ends the close of a collector, to whose cell the participant has the right: that is one to an open collector again. No word is touched.
 #[inline]
-pub fn end_close(board: &DomainTable, token: &mut DomainSeat, collector: u32)
-    requires home { token.old.table_id ≡ id_of board.now }
-    requires knows { Knows board.now token.old }
-    requires place { HasPlace (epoch token.old) }
-    requires right { (view token.old).cells.rights ≡ record { cell = collector; kind = Collector } ∷ [] }
-    requires closes { Closes (view token.old) collector }
-    ensures { MovedAlone (ClosesNone collector) token.old token.new }
+pub fn end_close(table: &DomainTable, seat: &mut DomainSeat, collector: u32)
+    requires home { seat.old.table_id ≡ id_of table.now }
+    requires knows { Knows table.now seat.old }
+    requires place { HasPlace (epoch seat.old) }
+    requires right { (view seat.old).cells.rights ≡ record { cell = collector; kind = Collector } ∷ [] }
+    requires closes { Closes (view seat.old) collector }
+    ensures { MovedAlone (ClosesNone collector) seat.old seat.new }
 {
     let _ = collector;
-    step_alone::<_, _, _, _, EndClose>(&board.table.shared, token);
+    step_alone::<_, _, _, _, EndClose>(&table.atomic.shared, seat);
 }
 
 /// Tries to claim a slot for the close of a collector, once every place was looked at, and answers the slot's word before. Where this is the `private_word` of
 /// the collector, the participant empties the slot from now on. Else nothing changes.
 #[inline]
-pub fn claim_private(board: &DomainTable, token: &mut DomainSeat, slot: u32, collector: u32) -> u64
-    requires home { token.old.table_id ≡ id_of board.now }
-    requires knows { Knows board.now token.old }
-    requires inside { slot < slots_of board.now }
-    requires place { HasPlace (epoch token.old) }
-    requires rests { (view token.old).stakes.moves ≡ None }
-    requires closes { Closes (view token.old) collector }
-    requires looked { places_of board.now ≤ (slots token.old).looked }
-    requires idle { ((slots token.old).empties ≡ None) × ((slots token.old).left ≡ false) }
-    ensures { Moved (EmptiesOne collector slot) token.old result token.new }
+pub fn claim_private(table: &DomainTable, seat: &mut DomainSeat, slot: u32, collector: u32) -> u64
+    requires home { seat.old.table_id ≡ id_of table.now }
+    requires knows { Knows table.now seat.old }
+    requires inside { slot < slots_of table.now }
+    requires place { HasPlace (epoch seat.old) }
+    requires rests { (view seat.old).fractions.moves ≡ None }
+    requires closes { Closes (view seat.old) collector }
+    requires looked { places_of table.now ≤ (slots seat.old).looked }
+    requires idle { ((slots seat.old).empties ≡ None) × ((slots seat.old).left ≡ false) }
+    ensures { Moved (EmptiesOne collector slot) seat.old result seat.new }
 {
     let word = private_word(collector);
-    board
-        .table
+    table
+        .atomic
         .shared
-        .compare_exchange::<ClaimPrivate>(token, board.slot_word(slot), word, EMPTYING)
+        .compare_exchange::<ClaimPrivate>(seat, table.slot_word(slot), word, EMPTYING)
 }
 
 /// Tries to claim an item of its own bag for the close of a collector, once every place was looked at, and answers the slot's word before. Where this is the
@@ -79,90 +81,90 @@ pub fn claim_private(board: &DomainTable, token: &mut DomainSeat, slot: u32, col
 /// collector from now on, or `EMPTIED`, and the slot is the bag's to give back.
 #[inline]
 pub fn claim_own_private(
-    board: &DomainTable,
-    token: &mut DomainSeat,
+    table: &DomainTable,
+    seat: &mut DomainSeat,
     slot: u32,
     collector: u32,
 ) -> u64
-    requires home { token.old.table_id ≡ id_of board.now }
-    requires knows { Knows board.now token.old }
-    requires inside { slot < slots_of board.now }
-    requires place { HasPlace (epoch token.old) }
-    requires rests { (view token.old).stakes.moves ≡ None }
-    requires waits { WaitsFor collector (view token.old) slot }
-    requires closes { Closes (view token.old) collector }
-    requires looked { places_of board.now ≤ (slots token.old).looked }
-    requires idle { ((slots token.old).empties ≡ None) × ((slots token.old).left ≡ false) }
-    ensures { Moved (EmptiesOwnOne collector slot) token.old result token.new }
+    requires home { seat.old.table_id ≡ id_of table.now }
+    requires knows { Knows table.now seat.old }
+    requires inside { slot < slots_of table.now }
+    requires place { HasPlace (epoch seat.old) }
+    requires rests { (view seat.old).fractions.moves ≡ None }
+    requires waits { WaitsFor collector (view seat.old) slot }
+    requires closes { Closes (view seat.old) collector }
+    requires looked { places_of table.now ≤ (slots seat.old).looked }
+    requires idle { ((slots seat.old).empties ≡ None) × ((slots seat.old).left ≡ false) }
+    ensures { Moved (EmptiesOwnOne collector slot) seat.old result seat.new }
 {
     let word = private_word(collector);
-    board
-        .table
+    table
+        .atomic
         .shared
-        .compare_exchange::<ClaimOwnPrivate>(token, board.slot_word(slot), word, EMPTYING)
+        .compare_exchange::<ClaimOwnPrivate>(seat, table.slot_word(slot), word, EMPTYING)
 }
 
 /// Tries to leave a private item to the close that empties its slot, and answers the slot's word before. Where this is `EMPTYING`, the bag has let go of the
 /// item. Where it is `EMPTIED`, the slot is the bag's to give back. Where it is the `private_word` of its collector, the close hasn't come to it.
 #[inline]
-pub fn leave_to_close(board: &DomainTable, token: &mut DomainSeat, slot: u32) -> u64
-    requires home { token.old.table_id ≡ id_of board.now }
-    requires knows { Knows board.now token.old }
-    requires inside { slot < slots_of board.now }
-    requires place { HasPlace (epoch token.old) }
-    requires rests { (view token.old).stakes.moves ≡ None }
-    requires waits { (k : ℕ) × WaitsFor k (view token.old) slot }
-    ensures { (k : ℕ) → WaitsFor k (view token.old) slot → Moved (LeavesOneToClose k slot) token.old result token.new }
+pub fn leave_to_close(table: &DomainTable, seat: &mut DomainSeat, slot: u32) -> u64
+    requires home { seat.old.table_id ≡ id_of table.now }
+    requires knows { Knows table.now seat.old }
+    requires inside { slot < slots_of table.now }
+    requires place { HasPlace (epoch seat.old) }
+    requires rests { (view seat.old).fractions.moves ≡ None }
+    requires waits { (k : ℕ) × WaitsFor k (view seat.old) slot }
+    ensures { (k : ℕ) → WaitsFor k (view seat.old) slot → Moved (LeavesOneToClose k slot) seat.old result seat.new }
 {
-    board
-        .table
+    table
+        .atomic
         .shared
-        .compare_exchange::<LeaveToClose>(token, board.slot_word(slot), EMPTYING, LEFT)
+        .compare_exchange::<LeaveToClose>(seat, table.slot_word(slot), EMPTYING, LEFT)
 }
 
 /// Gives back the slot of a private item that was found emptied.
 #[inline]
-pub fn give_private_back(board: &DomainTable, token: &mut DomainSeat, slot: u32)
-    requires home { token.old.table_id ≡ id_of board.now }
-    requires knows { Knows board.now token.old }
-    requires inside { slot < slots_of board.now }
-    requires place { HasPlace (epoch token.old) }
-    requires rests { (view token.old).stakes.moves ≡ None }
-    requires found { FoundEmptied (view token.old) slot }
-    ensures { Moved (GivesOnePrivateBack slot) token.old (free_word 0) token.new }
+pub fn give_private_back(table: &DomainTable, seat: &mut DomainSeat, slot: u32)
+    requires home { seat.old.table_id ≡ id_of table.now }
+    requires knows { Knows table.now seat.old }
+    requires inside { slot < slots_of table.now }
+    requires place { HasPlace (epoch seat.old) }
+    requires rests { (view seat.old).fractions.moves ≡ None }
+    requires found { FoundEmptied (view seat.old) slot }
+    ensures { Moved (GivesOnePrivateBack slot) seat.old (free_word 0) seat.new }
 {
-    board
-        .table
+    table
+        .atomic
         .shared
-        .store::<GivePrivateBack>(token, board.slot_word(slot), FREE);
+        .store::<GivePrivateBack>(seat, table.slot_word(slot), FREE);
 }
 
-/// Collects an item that waits, beside the token of the right to the cell of an open collector: from now on it waits for this collector, and what was
+/// Collects an item that waits, beside the seat of the right to the cell of an open collector: from now on it waits for this collector, and what was
 /// remembered of it is forgotten, since the close of the collector may move the value out.
 #[inline]
 pub fn collect(
-    board: &DomainTable,
-    token: &mut DomainSeat,
+    table: &DomainTable,
+    seat: &mut DomainSeat,
     slot: u32,
     collector: u32,
     right: &Witness,
 )
-    requires home { token.old.table_id ≡ id_of board.now }
-    requires knows { Knows board.now token.old }
-    requires inside { slot < slots_of board.now }
-    requires place { HasPlace (epoch token.old) }
-    requires rests { (view token.old).stakes.moves ≡ None }
-    requires free { (view token.old).pledges.own ≡ [] }
-    requires waits { (item : WaitingItem) × HasWaiting (view token.old) slot item }
-    requires right { (right.now.table_id ≡ id_of board.now) × (right.now.views ≡ witness_of_cell collector Raw) }
-    ensures { Moved (CollectsOne collector slot) token.old (codes.private_word collector) token.new }
+    requires home { seat.old.table_id ≡ id_of table.now }
+    requires knows { Knows table.now seat.old }
+    requires inside { slot < slots_of table.now }
+    requires place { HasPlace (epoch seat.old) }
+    requires rests { (view seat.old).fractions.moves ≡ None }
+    requires free { (view seat.old).pledges.own ≡ [] }
+    requires waits { (item : WaitingItem) × HasWaiting (view seat.old) slot item }
+    requires right { (right.now.table_id ≡ id_of table.now) × (right.now.views ≡ witness_of_cell collector Raw) }
+    ensures { Moved (CollectsOne collector slot) seat.old (codes.private_word collector) seat.new }
 {
     let deed = Swap::<Collect> {
-        word: board.slot_word(slot),
+        word: table.slot_word(slot),
         new: private_word(collector),
         marker: PhantomData,
     };
-    board
+    table
         .ledger
-        .beside(&board.table.shared, token, right, &deed);
+        .beside(&table.atomic.shared, seat, right, &deed);
 }

@@ -1,17 +1,17 @@
 //! What is always true of a participant, and of a lone one's world, as calls that give it out. They do nothing when the program runs.
 ghost use Rattle.std.specs.Prelude.{◌≡◌, ◌↔◌};
-ghost use Rattle.sdd_space.specs.Collecting.{CollectedEnds};
-ghost use Rattle.sdd_space.specs.WorldInvariant.{IsWhole};
-ghost use Rattle.sdd_space.specs.Out.{OutLaws};
-ghost use Rattle.sdd_space.specs.Jobs.{RunsJobsOnce};
-ghost use Rattle.sdd_space.specs.ReclaimBound.{FourGuardsReclaim, GoesAtLatest, GoesInTime};
-ghost use Rattle.sdd_space.specs.Ledger.{LedgerLaws};
-ghost use Rattle.sdd_space.specs.AcceleratedGuards.{GuardsPass, ItemsPass};
-ghost use Rattle.sdd_space.specs.WorkingGuards.{BusyGuardsCount, WorkingGuardsPass, WorkingGuardsReclaim};
-ghost use Rattle.sdd_space.specs.UnderGuards.{KeepsCollectedUnderGuards, KeepsFreshJobsUnderGuards, KeepsFreshUnderGuards, KeepsJobsUnderGuards, KeepsUnderGuards};
-ghost use Rattle.sdd_space.specs.World.{World, AnyGuardOpen, IsPlaceOf};
-ghost use Rattle.sdd_domain_slots.specs.Local.{world_of};
-ghost use Rattle.sdd_domain_slots.specs.LocalState.{IsLone};
+ghost use Rattle.sdd_world_model.specs.Collecting.{CollectedEnds};
+ghost use Rattle.sdd_world_model.specs.WorldInvariant.{IsWhole};
+ghost use Rattle.sdd_world_model.specs.Out.{OutLaws};
+ghost use Rattle.sdd_world_model.specs.Jobs.{RunsJobsOnce};
+ghost use Rattle.sdd_world_model.specs.ReclaimBound.{FourGuardsReclaim, GoesAtLatest, GoesInTime};
+ghost use Rattle.sdd_world_model.specs.Ledger.{LedgerLaws};
+ghost use Rattle.sdd_world_model.specs.AcceleratedGuards.{GuardsPass, ItemsPass};
+ghost use Rattle.sdd_world_model.specs.WorkingGuards.{BusyGuardsCount, WorkingGuardsPass, WorkingGuardsReclaim};
+ghost use Rattle.sdd_world_model.specs.UnderGuards.{KeepsCollectedUnderGuards, KeepsFreshJobsUnderGuards, KeepsFreshUnderGuards, KeepsJobsUnderGuards, KeepsUnderGuards};
+ghost use Rattle.sdd_world_model.specs.World.{World, AnyGuardOpen, IsPlaceOf};
+ghost use Rattle.sdd_domain_steps.specs.Local.{world_of};
+ghost use Rattle.sdd_domain_steps.specs.LocalState.{IsLone};
 
 use super::Local;
 use sdd_participants::Job;
@@ -26,7 +26,7 @@ impl<T: Item<T>, J: Job> Local<'_, T, J> {
         ensures place { IsPlaceOf (world_of self.now) self.now.member.place }
         ensures shut { (self.now.member.own.guards ≡ 0) ↔ ¬ (AnyGuardOpen (world_of self.now)) }
     {
-        let _ledger = &self.partner.ledger;
+        let _ledger = &self.giver.ghost_values;
     }
 }
 

@@ -1,8 +1,8 @@
 //! A participant as the generic calls of cells have it.
 
 use crate::local::Local;
-use crate::reclaiming::LocalGiver;
 use sdd_core::{Refused, Tag};
+use sdd_domain_core::reclaiming::LocalGiver;
 use sdd_participants::{CellContents, Job};
 use sdd_rights::{Right, StandingKind};
 use sdd_space::{Cells, Guard, Item, Ptr, RawPtr};
@@ -14,23 +14,23 @@ impl<T: Item<T>, J: Job> Cells<T> for Local<'_, T, J> {
         tag: Tag,
         kind: StandingKind,
     ) -> Result<Right, (Option<Right>, Refused)> {
-        self.partner.membership.cell_from(held, tag, kind)
+        self.giver.core.cell_from(held, tag, kind)
     }
 
     fn new_in_cell(&mut self, value: T, kind: StandingKind) -> Result<Right, (T, Refused)> {
-        let LocalGiver { membership, ledger } = &mut self.partner;
-        membership.new_in_cell(value, kind, ledger)
+        let LocalGiver { core, ghost_values } = &mut self.giver;
+        core.new_in_cell(value, kind, ghost_values)
     }
 
     #[inline]
     fn cell(&mut self, cell: &Right) -> CellContents {
-        self.partner.membership.cell(cell)
+        self.giver.core.cell(cell)
     }
 
     #[inline(always)]
     fn load<'g>(&mut self, cell: &Right, guard: &'g Guard) -> Ptr<'g, T> {
-        self.partner.ledger.codes();
-        self.partner.membership.load_pointer(cell, guard)
+        self.giver.ghost_values.codes();
+        self.giver.core.load_pointer(cell, guard)
     }
 
     #[inline(always)]
@@ -41,7 +41,7 @@ impl<T: Item<T>, J: Job> Cells<T> for Local<'_, T, J> {
         tag: Tag,
         kind: StandingKind,
     ) -> (Option<Right>, Tag) {
-        self.partner.membership.swap(cell, new, tag, kind)
+        self.giver.core.swap(cell, new, tag, kind)
     }
 
     #[inline(always)]
@@ -54,12 +54,12 @@ impl<T: Item<T>, J: Job> Cells<T> for Local<'_, T, J> {
         kind: StandingKind,
         guard: &'g Guard,
     ) -> Result<(Option<Right>, Ptr<'g, T>), (Option<Right>, Ptr<'g, T>)> {
-        self.partner.ledger.codes();
-        let membership = &mut self.partner.membership;
-        let now = membership.point_to(&new, tag, guard);
-        match membership.exchange(cell, current, new, tag, kind) {
+        self.giver.ghost_values.codes();
+        let core = &mut self.giver.core;
+        let now = core.point_to(&new, tag, guard);
+        match core.exchange(cell, current, new, tag, kind) {
             Ok(old) => Ok((old, now)),
-            Err(back) => Err((back, membership.load_pointer(cell, guard))),
+            Err(back) => Err((back, core.load_pointer(cell, guard))),
         }
     }
 
@@ -69,18 +69,18 @@ impl<T: Item<T>, J: Job> Cells<T> for Local<'_, T, J> {
         tag: Tag,
         condition: F,
     ) -> Result<bool, Refused> {
-        self.partner.membership.update_tag_if(cell, tag, condition)
+        self.giver.core.update_tag_if(cell, tag, condition)
     }
 
     fn share_held(&mut self, cell: &Right, guard: &Guard) -> Result<Option<Right>, Refused> {
-        self.partner.membership.share_held(cell, guard)
+        self.giver.core.share_held(cell, guard)
     }
 
     fn clone_cell(&mut self, cell: &Right, guard: &Guard) -> Result<Right, Refused> {
-        self.partner.membership.clone_cell(cell, guard)
+        self.giver.core.clone_cell(cell, guard)
     }
 
     fn into_contents(&mut self, cell: Right, kind: StandingKind) -> Option<Right> {
-        self.partner.membership.into_contents(cell, kind).0
+        self.giver.core.into_contents(cell, kind).0
     }
 }

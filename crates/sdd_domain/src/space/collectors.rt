@@ -8,10 +8,10 @@ use sdd_space::{Collectors, Item};
 
 impl<T: Item<T>, J: Job> Collectors<T> for Local<'_, T, J> {
     fn collect(&mut self, collector: &RawRight, right: Right, kind: StandingKind) -> bool {
-        self.partner.membership.collect(collector, right, kind)
+        self.giver.core.collect(collector, right, kind)
     }
 
     fn close_collector(&mut self, collector: RawRight) -> Result<(), (RawRight, Refused)> {
-        self.partner.close_collector(collector)
+        self.giver.close_collector(collector)
     }
 }

@@ -7,16 +7,16 @@ use sdd_space::{Item, RawCells, RawPtr};
 
 impl<T: Item<T>, J: Job> RawCells<T> for Local<'_, T, J> {
     fn new_raw_cell(&mut self, pointer: RawCellContents) -> Result<RawRight, Refused> {
-        self.partner.membership.new_raw_cell(pointer)
+        self.giver.core.new_raw_cell(pointer)
     }
 
     #[inline]
     fn pointer(&mut self, cell: &RawRight) -> RawCellContents {
-        self.partner.membership.pointer(cell)
+        self.giver.core.pointer(cell)
     }
 
     fn swap_raw(&mut self, cell: &RawRight, new: RawCellContents) -> RawCellContents {
-        self.partner.membership.swap_raw(cell, new)
+        self.giver.core.swap_raw(cell, new)
     }
 
     fn compare_exchange_raw(
@@ -25,9 +25,7 @@ impl<T: Item<T>, J: Job> RawCells<T> for Local<'_, T, J> {
         current: RawCellContents,
         new: RawCellContents,
     ) -> Result<(), RawCellContents> {
-        self.partner
-            .membership
-            .compare_exchange_raw(cell, current, new)
+        self.giver.core.compare_exchange_raw(cell, current, new)
     }
 
     fn update_raw_tag_if<F: FnMut(RawPtr<T>) -> bool>(
@@ -36,9 +34,7 @@ impl<T: Item<T>, J: Job> RawCells<T> for Local<'_, T, J> {
         tag: Tag,
         condition: F,
     ) -> Result<bool, Refused> {
-        self.partner
-            .membership
-            .update_raw_tag_if(cell, tag, condition)
+        self.giver.core.update_raw_tag_if(cell, tag, condition)
     }
 
     fn fetch_update_raw<F: FnMut(RawPtr<T>) -> Option<RawPtr<T>>>(
@@ -46,10 +42,10 @@ impl<T: Item<T>, J: Job> RawCells<T> for Local<'_, T, J> {
         cell: &RawRight,
         f: F,
     ) -> Result<Result<RawPtr<T>, RawPtr<T>>, Refused> {
-        self.partner.membership.fetch_update_raw(cell, f)
+        self.giver.core.fetch_update_raw(cell, f)
     }
 
     fn close_raw_cell(&mut self, cell: RawRight) {
-        self.partner.membership.free_raw_cell(cell);
+        self.giver.core.free_raw_cell(cell);
     }
 }

@@ -6,15 +6,22 @@ ghost use Rattle.sdd_lists.specs.Queue.{HasOneAtMost};
 ghost use Rattle.sdd_bag.specs.Bag.{IsBag, IsOfCells, primary_of, values_of};
 ghost use Rattle.sdd_bag.specs.Overflow.{RefusesStorage};
 ghost use Rattle.sdd_bag.specs.Storage.{AreFull};
-ghost use Rattle.sdd_script_model.specs.BagLines.{BeginsBag, PutsNumber, TakesAll, TakesNumber};
+ghost use Rattle.sdd_script_model.specs.BagLines.{BeginsBag, PutsNumber, TakesAll, TakesNumber, holds_nothing};
 ghost use Rattle.sdd_script_model.specs.ScriptState.{bag_length};
 ghost use Rattle.sdd_script_model.specs.Val.{Val, storage_in};
+ghost use Rattle.sdd_space.specs.CallerId.{reader_at};
+ghost use Rattle.sdd_world_model.specs.World.{World, IsPlaceOf};
+ghost use Rattle.sdd_lists.specs.Lists.{Entry};
+ghost use Rattle.sdd_bag.specs.Closing.{ClosesBag};
+ghost use Rattle.sdd_world.specs.Place.{index_of};
+ghost use Rattle.sdd_script_model.specs.Bags.{StandsOn};
 
 use crate::commands::step::ListCommand;
 use sdd_bag::Bag;
 use sdd_core::Refused;
 use sdd_script_model::{Body, Val};
 use sdd_space::{Cells, Guard, Items, LookThrough, Several, SharedItems};
+use sdd_world::{Place, World};
 
 /// A new bag, without numbers.
 pub struct MakeBag;
@@ -141,4 +148,18 @@ fn with_number(numbers: Vec<u64>, number: u64) -> Vec<u64>
         numbers.push_reserved(number);
     }
     numbers
+}
+
+/// A bag is closed.
+pub fn bag_closed_at(world: &mut World<Val>, place: &Place, bag: Bag<u64, 32, Body>, guard: &Guard)
+    requires place { IsPlaceOf world.old (index_of place.now) }
+    requires home { IsOfCells world.old.home.cells bag }
+    requires reader { reader_of guard.now ≡ reader_at world.old (index_of place.now) }
+    requires bag { IsBag storage_in bag_length world.old bag }
+    ensures closed { (es : List (Entry Val)) → StandsOn world.old bag es →
+        ClosesBag holds_nothing bag_length world.old (index_of place.now) bag es world.new }
+{
+    // No command: one trait with its step for this call alone costs as much to prove as this.
+    let mut turn = world.at(place);
+    bag.close(guard, &mut turn);
 }

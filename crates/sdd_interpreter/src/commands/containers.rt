@@ -6,14 +6,22 @@ ghost use Rattle.sdd_lists.specs.Walk.{shown_of};
 ghost use Rattle.sdd_script_model.specs.Containers.{TellsNumber};
 ghost use Rattle.sdd_script_model.specs.Val.{Val};
 ghost use Rattle.sdd_script_model.specs.declared.val.Body.TheVariants as body;
-ghost use Rattle.sdd_interpreter.specs.Containers.{HasEntries, IsListOf, IsOfNumbers};
+ghost use Rattle.sdd_interpreter.specs.Containers.{HasEntries, IsListOf, IsOfNumbers, PopsIf, PushesIf};
+ghost use Rattle.sdd_space.specs.CallerId.{reader_at};
+ghost use Rattle.sdd_world_model.specs.World.{World, IsPlaceOf};
+ghost use Rattle.sdd_world.specs.Place.{index_of};
 
+use crate::commands::pops::{PopFirst, PopFirstIf};
+use crate::commands::pushes::{PushNumber, PushNumberIf};
 use crate::commands::step::ListCommand;
 use crate::holding::AnyList;
 use crate::items::number_of;
+use sdd_core::Refused;
+use sdd_lists::Unpopped;
 use sdd_script_model::{Body, Val};
 use sdd_script_text::{Numbers, Reply};
-use sdd_space::{Cells, Guard, Items, LookThrough, Several, SharedItems};
+use sdd_space::{Cells, Guard, Items, LookThrough, Several, Shared, SharedItems};
+use sdd_world::{Place, World};
 use std::alloc::{AllocError, Global};
 
 /// The first number of a container that isn't deleted, as a reply.
@@ -87,7 +95,8 @@ impl ListCommand for ListNumbers<'_> {
         × IsOfNumbers world step.list };
 
     ghost does = { λ step _ _ before result after. (after ≡ before)
-        × IfOk result (λ numbers. (es : List (Entry Val)) (second : Option ℕ) → HasEntries before step.list es second → shown_of es ≡ map body.Number numbers) };
+        × IfOk result (λ numbers. (es : List (Entry Val)) (second : Option ℕ) → HasEntries before step.list es second
+        → shown_of es ≡ map body.Number numbers) };
 
     fn done<S: Items<Val> + Several<Val> + SharedItems<Val> + Cells<Val> + LookThrough<Val>>(
         self,
@@ -104,4 +113,62 @@ impl ListCommand for ListNumbers<'_> {
         }
         Ok(numbers)
     }
+}
+
+/// A number is put among a container's entries, under a guard of the participant; if the newest that isn't deleted is a given one, where one is given.
+pub fn push_at(
+    world: &mut World<Val>,
+    place: &Place,
+    list: AnyList<'_>,
+    number: u64,
+    newest: Option<u64>,
+    guard: &Guard,
+) -> Result<Shared<Val>, Option<Refused>>
+    requires place { IsPlaceOf world.old (index_of place.now) }
+    requires list { IsListOf world.old.home.cells list }
+    requires reader { reader_of guard.now ≡ reader_at world.old (index_of place.now) }
+    ensures pushed { (es : List (Entry Val)) (second : Option ℕ) → HasEntries world.old list.entry es second →
+        PushesIf world.old.home.slots world.old (index_of place.now) list.entry es second number newest result world.new }
+{
+    let Some(newest) = newest else {
+        let step = PushNumber {
+            list,
+            number,
+            guard,
+        };
+        return match step.at(world, place) {
+            Ok(owner) => Ok(owner),
+            Err(refused) => Err(Some(refused)),
+        };
+    };
+    let step = PushNumberIf {
+        list,
+        number,
+        newest,
+        guard,
+    };
+    step.at(world, place)
+}
+
+/// The first entry that isn't deleted is taken out of a container, under a guard of the participant; if it is a given number, where one is given.
+pub fn pop_at(
+    world: &mut World<Val>,
+    place: &Place,
+    list: AnyList<'_>,
+    first: Option<u64>,
+    guard: &Guard,
+) -> Result<Option<Shared<Val>>, Unpopped<Body>>
+    requires place { IsPlaceOf world.old (index_of place.now) }
+    requires list { IsListOf world.old.home.cells list }
+    requires reader { reader_of guard.now ≡ reader_at world.old (index_of place.now) }
+    ensures popped { (es : List (Entry Val)) (second : Option ℕ) → HasEntries world.old list.entry es second →
+        PopsIf world.old.home.slots world.old (index_of place.now) list.entry es second first result world.new }
+{
+    let Some(first) = first else {
+        return match (PopFirst { list, guard }).at(world, place) {
+            Ok(popped) => Ok(popped),
+            Err(refused) => Err(Unpopped::Refused(refused)),
+        };
+    };
+    PopFirstIf { list, first, guard }.at(world, place)
 }

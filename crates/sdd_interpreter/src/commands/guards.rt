@@ -4,15 +4,20 @@ ghost use Rattle.sdd_core.specs.Epoch.{epoch_of};
 ghost use Rattle.sdd_core.specs.declared.refused.Refused.TheVariants as refused;
 ghost use Rattle.sdd_participants.specs.EpochState.{CanNest};
 ghost use Rattle.sdd_space.specs.Guard.{reader_of};
-ghost use Rattle.sdd_space.specs.WorldChanges.{closed, opened};
+ghost use Rattle.sdd_world_model.specs.WorldChanges.{closed, opened, deferred};
 ghost use Rattle.sdd_script_model.specs.Val.{Val, holdings_of};
 ghost use Rattle.sdd_interpreter.specs.Guards.{Uses};
+ghost use Rattle.sdd_participants.specs.Slab.{IsEmptyAt, IsFull};
+ghost use Rattle.sdd_world_model.specs.World.{World, IsPlaceOf};
+ghost use Rattle.sdd_world.specs.Place.{index_of};
 
 use crate::commands::step::GuardCommand;
 use sdd_core::{Epoch, Refused};
+use sdd_participants::Idle;
 use sdd_script_model::Val;
 use sdd_script_text::Reply;
-use sdd_space::{Guard, Guards};
+use sdd_space::{Deferrals, Guard, Guards};
+use sdd_world::{Place, World};
 
 /// A new guard, and the epoch then.
 pub struct OpenGuard;
@@ -93,5 +98,19 @@ impl GuardCommand for CloseGuard {
     fn done<S: Guards<Val>>(self, s: &mut S) {
         let CloseGuard { guard } = self;
         guard.close(s);
+    }
+}
+
+/// A job that does nothing waits with the participant, in the place of the table of jobs that is told.
+pub fn defer_at(world: &mut World<Val>, place: &Place) -> Result<u32, Refused>
+    requires { IsPlaceOf world.old (index_of place.now) }
+    ensures deferred { MatchResult result
+        (λ number. IsEmptyAt world.old.jobs number × (world.new ≡ deferred world.old (index_of place.now) number))
+        (λ e. IsFull world.old.jobs × (e ≡ Refused.NoJob) × (world.new ≡ world.old)) }
+{
+    let mut turn = world.at(place);
+    match turn.defer_execute(Idle) {
+        Ok(number) => Ok(number),
+        Err((_job, refused)) => Err(refused),
     }
 }

@@ -1,17 +1,24 @@
 //! How items are made.
-ghost use Rattle.std.specs.Prelude.{◌≡◌, ◌<◌, ℕ};
+ghost use Rattle.std.specs.Prelude.{◌≡◌, ◌<◌, ℕ, Some};
 ghost use Rattle.sdd_participants.specs.Slab.{IsEmptyAt, IsFull};
-ghost use Rattle.sdd_space.specs.WorldChanges.{made_as, nulled};
-ghost use Rattle.sdd_space.specs.OwnerOrCell.{AreOf};
+ghost use Rattle.sdd_world_model.specs.WorldChanges.{made_as, nulled};
+ghost use Rattle.sdd_world_model.specs.OwnerOrCell.{AreOf};
 ghost use Rattle.sdd_script_model.specs.Val.{Val, body_of, owner_in, link_of, link_home};
 ghost use Rattle.sdd_interpreter.specs.Owners.{owner_holding};
 ghost use Rattle.sdd_script_model.specs.Held.{standing_first, holding_first};
+ghost use Rattle.sdd_world_model.specs.World.{World, IsPlaceOf, value_at};
+ghost use Rattle.sdd_space.specs.Guard.{reader_of};
+ghost use Rattle.sdd_space.specs.CallerId.{reader_at};
+ghost use Rattle.sdd_world_model.specs.UnderGuards.{CannotGo};
+ghost use Rattle.sdd_world.specs.Place.{index_of};
 
 use crate::commands::step::ItemCommand;
 use crate::holding::AnyOwner;
 use sdd_lists::LinkedEntry;
 use sdd_script_model::{Body, OwnerKind, Val};
-use sdd_space::{Cells, Items, Owned, Shared, SharedItems};
+use sdd_space::{Cells, Guard, Items, Owned, Shared, SharedItems, Shows};
+use sdd_world::inner::ptr_at;
+use sdd_world::{Place, World};
 
 /// A new item, which holds this, and a cell for its link.
 pub struct MakeItem {
@@ -46,4 +53,26 @@ impl ItemCommand for MakeItem {
             },
         }
     }
+}
+
+/// The value in a slot, as a pointer to its item shows it under a guard of the participant.
+pub fn value_shown<'g>(
+    world: &mut World<Val>,
+    place: &Place,
+    guard: &'g Guard,
+    slot: u32,
+) -> &'g Val
+    requires place { IsPlaceOf world.old (index_of place.now) }
+    requires reader { reader_of guard.now ≡ reader_at world.old (index_of place.now) }
+    requires stays { CannotGo world.old (index_of place.now) slot }
+    ensures shown { value_at world.old slot ≡ Some result.now }
+    ensures home { link_home result.now ≡ world.old.home.cells }
+    ensures world { world.new ≡ world.old }
+{
+    let ptr = ptr_at(world, place, slot, guard);
+    let Some(value) = ptr.as_ref(world) else {
+        unreachable!()
+    };
+    world.shown_is_of_home();
+    value
 }

@@ -1,24 +1,32 @@
 //! What participants do with the links of entries.
-ghost use Rattle.std.specs.Prelude.{◌≡◌, false, true, List, MatchOption, Some};
+ghost use Rattle.std.specs.Prelude.{◌≡◌, false, true, List, MatchOption, Some, ◌≢◌, ◌↔◌, IsTrue};
 ghost use Rattle.sdd_core.specs.declared.tag.Tag.{Tag as TagOf};
 ghost use Rattle.sdd_participants.specs.Slab.{entry_at};
 ghost use Rattle.sdd_participants.specs.declared.standing.CellContents.{CellContents};
 ghost use Rattle.sdd_space.specs.Guard.{reader_of};
 ghost use Rattle.sdd_space.specs.Shared.{holding_of, slot_of, slots_home};
-ghost use Rattle.sdd_space.specs.World.{value_at};
+ghost use Rattle.sdd_world_model.specs.World.{value_at, World, IsPlaceOf};
 ghost use Rattle.sdd_lists.specs.Behind.{IsFresh, mark_tag};
 ghost use Rattle.sdd_lists.specs.Lists.{Entry, IsList, first_slot, left, linked_in, trimmed};
 ghost use Rattle.sdd_lists.specs.Marks.{says_deleted};
 ghost use Rattle.sdd_script_model.specs.Link.{may_change, retagged};
 ghost use Rattle.sdd_script_model.specs.Val.{Val, link_home, link_of};
+ghost use Rattle.sdd_space.specs.CallerId.{reader_at};
+ghost use Rattle.sdd_world_model.specs.UnderGuards.{CannotGo};
+ghost use Rattle.sdd_world.specs.Place.{index_of};
+ghost use Rattle.sdd_script_model.specs.Appending.{IsLooseEntry};
 
+use crate::commands::items::value_shown;
 use crate::commands::step::{CellCommand, ListCommand};
+use crate::items::is_number;
 use sdd_core::{SlotName, Tag};
 use sdd_lists::LinkedList;
 use sdd_participants::CellContents;
 use sdd_script_model::{LinkChange, Val};
 use sdd_space::inner::slot_of_ptr;
 use sdd_space::{Cells, Guard, Items, LookThrough, Several, Shared, SharedItems};
+use sdd_world::inner::is_in_cell;
+use sdd_world::{Place, World};
 
 /// Changes the tag of an entry's link, if it may, and tells whether it did.
 pub struct ChangeLink<'a> {
@@ -161,4 +169,43 @@ impl ListCommand for NextEntry<'_> {
             Err(_) => unreachable!(),
         }
     }
+}
+
+/// The item in a slot may be put behind another: it is a number, neither marked nor deleted, with nothing behind it, and no cell holds it.
+fn is_loose(world: &mut World<Val>, place: &Place, guard: &Guard, slot: u32) -> bool
+    requires place { IsPlaceOf world.old (index_of place.now) }
+    requires reader { reader_of guard.now ≡ reader_at world.old (index_of place.now) }
+    requires stays { CannotGo world.old (index_of place.now) slot }
+    ensures loose { IsTrue result ↔ IsLooseEntry world.old slot }
+    ensures world { world.new ≡ world.old }
+{
+    let entry = value_shown(world, place, guard, slot);
+    if !is_number(entry) {
+        return false;
+    }
+    if is_in_cell(world, slot) {
+        return false;
+    }
+    let link = ReadLink { entry, guard }.at(world, place);
+    link.held.is_none() && link.tag == Tag::None
+}
+
+/// The same, and the slot is another than this one.
+pub fn is_loose_beside(
+    world: &mut World<Val>,
+    place: &Place,
+    guard: &Guard,
+    slot: u32,
+    other: u32,
+) -> bool
+    requires place { IsPlaceOf world.old (index_of place.now) }
+    requires reader { reader_of guard.now ≡ reader_at world.old (index_of place.now) }
+    requires stays { CannotGo world.old (index_of place.now) slot }
+    ensures loose { IsTrue result ↔ (IsLooseEntry world.old slot × (slot ≢ other)) }
+    ensures world { world.new ≡ world.old }
+{
+    if slot == other {
+        return false;
+    }
+    is_loose(world, place, guard, slot)
 }

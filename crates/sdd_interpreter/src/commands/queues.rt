@@ -3,7 +3,7 @@ ghost use Rattle.std.specs.Prelude.{◌≡◌, ◌≢◌, ℕ, IfOk, List, Match
 ghost use Rattle.sdd_core.specs.declared.refused.Refused.TheVariants as refused;
 ghost use Rattle.sdd_participants.specs.Slab.{IsEmptyAt};
 ghost use Rattle.sdd_space.specs.Guard.{reader_of};
-ghost use Rattle.sdd_space.specs.WorldChanges.{nulled};
+ghost use Rattle.sdd_world_model.specs.WorldChanges.{nulled};
 ghost use Rattle.sdd_lists.specs.Lists.{Entry};
 ghost use Rattle.sdd_lists.specs.Queue.{AreOfCells, HasOneAtMost, IsQueue, cells_in, queue_closed};
 ghost use Rattle.sdd_script_model.specs.Val.{Val, link_of};

@@ -1,17 +1,17 @@
 //! What participants do with items in their place, and with those that are out as raw.
 ghost use Rattle.std.specs.Prelude.{◌≡◌, ◌≢◌, IfSome, ℕ, Some, MatchOption, MatchResult};
 ghost use Rattle.sdd_space.specs.Guard.{reader_of};
-ghost use Rattle.sdd_space.specs.OwnerOrCell.{IsOf};
-ghost use Rattle.sdd_space.specs.InPlace.{MayInPlace, RefusedInPlace};
+ghost use Rattle.sdd_world_model.specs.OwnerOrCell.{IsOf};
+ghost use Rattle.sdd_world_model.specs.InPlace.{MayInPlace, RefusedInPlace};
 ghost use Rattle.sdd_space.specs.Owned.{slot_of, slots_home};
-ghost use Rattle.sdd_space.specs.WorldChanges.{with_standing};
-ghost use Rattle.sdd_space.specs.World.{standing_at, value_at};
+ghost use Rattle.sdd_world_model.specs.WorldChanges.{with_standing};
+ghost use Rattle.sdd_world_model.specs.World.{standing_at, value_at};
 ghost use Rattle.sdd_script_model.specs.InPlace.{Puts, Drops, RefusesDrop};
 ghost use Rattle.sdd_script_model.specs.Val.{Val, Renumbers};
 ghost use Rattle.sdd_interpreter.specs.Owners.{owner_holding};
 ghost use Rattle.sdd_core.specs.declared.refused.Refused.TheVariants as refused;
 ghost use Rattle.sdd_participants.specs.declared.standing.Standing.TheVariants as standing;
-ghost use Rattle.sdd_script_model.specs.ScriptState as desk;
+ghost use Rattle.sdd_script_model.specs.ScriptState as state;
 
 use crate::commands::step::{InPlaceCommand, RawCommand};
 use crate::holding::AnyOwner;
@@ -34,7 +34,7 @@ impl InPlaceCommand for PutNumber {
     ghost asks = { λ step home _ _. IsOf home (owner_holding step.owner) };
 
     ghost does = { λ step _ _ before out after. (owner_holding out.0 ≡ owner_holding step.owner)
-        × ((k : ℕ) × (desk.slot_of (Some (owner_holding step.owner)) ≡ Some k)
+        × ((k : ℕ) × (state.slot_of (Some (owner_holding step.owner)) ≡ Some k)
         × MatchResult out.1 (λ _. MayInPlace before k × Puts before k step.number after) (λ e. RefusedInPlace before k e × (after ≡ before))) };
 
     fn done<S: InPlaceItems<Val>>(self, s: &mut S) -> (AnyOwner, Result<(), Refused>) {

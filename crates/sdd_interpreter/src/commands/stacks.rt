@@ -3,7 +3,7 @@ ghost use Rattle.std.specs.Prelude.{◌≡◌, IfOk, List, MatchResult};
 ghost use Rattle.sdd_core.specs.declared.refused.Refused.TheVariants as refused;
 ghost use Rattle.sdd_participants.specs.Slab.{IsEmptyAt, IsFull};
 ghost use Rattle.sdd_space.specs.Guard.{reader_of};
-ghost use Rattle.sdd_space.specs.WorldChanges.{nulled};
+ghost use Rattle.sdd_world_model.specs.WorldChanges.{nulled};
 ghost use Rattle.sdd_lists.specs.Lists.{Entry};
 ghost use Rattle.sdd_lists.specs.Stack.{cell_in, home_in, poured};
 ghost use Rattle.sdd_script_model.specs.Listed.{Begins};

@@ -1,6 +1,6 @@
 //! Values made of values.
 ghost use Rattle.std.specs.Prelude.{[], ◌++◌, flat_map};
-ghost use Rattle.sdd_space.specs.Composed.{held_if_some};
+ghost use Rattle.sdd_world_model.specs.Composed.{held_if_some};
 
 use crate::item::{Giver, Item};
 

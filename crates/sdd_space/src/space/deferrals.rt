@@ -5,7 +5,7 @@ ghost use Rattle.sdd_participants.specs.Slab.{IsEmptyAt, IsFull};
 ghost use Rattle.sdd_space.specs.CallerId.{IsSeated, IsExact};
 ghost use Rattle.sdd_space.specs.Refusals.{IsRefusedBy};
 ghost use Rattle.sdd_space.specs.Undisturbed.{Unmoved};
-ghost use Rattle.sdd_space.specs.WorldChanges.{deferred};
+ghost use Rattle.sdd_world_model.specs.WorldChanges.{deferred};
 
 use crate::item::Item;
 use crate::space::caller::Caller;
@@ -22,14 +22,14 @@ pub trait Deferrals<T: Item<T>>: Caller<T> {
     /// `NoJob` where as many jobs wait as the limits say; `Contended`, in a domain alone, where as many exchanges were lost as its limits allow. The job
     /// comes back.
     fn defer_execute(&mut self, job: Self::Job) -> Result<u32, (Self::Job, Refused)>
-        requires seated { IsSeated (Self.seat self.old) }
-        ensures unmoved { Unmoved Self.seat Self.known Self.shows self.old self.new }
+        requires seated { IsSeated (Self.caller self.old) }
+        ensures unmoved { Unmoved Self.caller Self.known Self.shows self.old self.new }
         ensures own { MatchResult result
             (λ number. Self.own self.new ≡ time.awaiting (Job number) (Self.own self.old))
             (λ _. Self.own self.new ≡ Self.own self.old) }
-        ensures back { IfErr result (λ e. (e.0 ≡ job) × IsRefusedBy (Self.seat self.old) Refused.NoJob e.1) }
-        ensures exact { IsExact (Self.seat self.old) → MatchResult result
+        ensures back { IfErr result (λ e. (e.0 ≡ job) × IsRefusedBy (Self.caller self.old) Refused.NoJob e.1) }
+        ensures exact { IsExact (Self.caller self.old) → MatchResult result
             (λ number. IsEmptyAt (Self.world self.old).jobs number ×
-            (Self.world self.new ≡ deferred (Self.world self.old) (Self.seat self.old).place number))
+            (Self.world self.new ≡ deferred (Self.world self.old) (Self.caller self.old).place number))
             (λ e. IsFull (Self.world self.old).jobs × (e.1 ≡ Refused.NoJob) × (Self.world self.new ≡ Self.world self.old)) };
 }

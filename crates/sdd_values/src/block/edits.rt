@@ -10,7 +10,7 @@ impl<T> Block<T> {
     /// A value to be changed. It is lent to nobody.
     pub fn edit(&mut self, at: usize) -> &mut T
         requires inside { at < length self.old.values }
-        requires home { IsUnlent self.old.stakes at }
+        requires home { IsUnlent self.old.fractions at }
         ensures* writes_back { sem 𝓛 (LendsValue T.row self.entry at result) }
         ensures value { (d : T) → result.now ≡ slice_index_or self.old.values at d }
     {

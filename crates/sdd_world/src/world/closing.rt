@@ -1,8 +1,8 @@
 ghost use Rattle.std.specs.Prelude.{◌≡◌, ◌≢◌, [], ◌↔◌, ℕ, ◌⊎◌, IfErr, IfOk, IsOk, List, MatchResult};
 ghost use Rattle.sdd_participants.specs.EpochState.{without_waiting, place_at, with_place};
-ghost use Rattle.sdd_space.specs.World.{World, AnyGuardOpen, KeepsSizes, HasPlace, IsPlaceOf};
-ghost use Rattle.sdd_space.specs.WorldInvariant.{taken};
-ghost use Rattle.sdd_space.specs.Out.{out, HoldsNothing};
+ghost use Rattle.sdd_world_model.specs.World.{World, AnyGuardOpen, KeepsSizes, HasPlace, IsPlaceOf};
+ghost use Rattle.sdd_world_model.specs.WorldInvariant.{taken};
+ghost use Rattle.sdd_world_model.specs.Out.{out, HoldsNothing};
 ghost use Rattle.sdd_world_core.specs.Closing.{NothingIsOut};
 ghost use Rattle.sdd_world.specs.Closing.{aged_out, all_aged_out, ReclaimsAll, AllGo, Accounts, Sweeps, with_reclaimed};
 

@@ -1,15 +1,15 @@
 //! What is always true of a world, as calls that give it out. They do nothing when the program runs.
-ghost use Rattle.sdd_space.specs.WorldInvariant.{IsWhole};
-ghost use Rattle.sdd_space.specs.Out.{OutLaws};
-ghost use Rattle.sdd_space.specs.Jobs.{RunsJobsOnce};
-ghost use Rattle.sdd_space.specs.ReclaimBound.{FourGuardsReclaim, GoesAtLatest, GoesInTime};
-ghost use Rattle.sdd_space.specs.World.{World};
-ghost use Rattle.sdd_space.specs.AcceleratedGuards.{GuardsPass, ItemsPass};
-ghost use Rattle.sdd_space.specs.Collecting.{CollectedEnds};
-ghost use Rattle.sdd_space.specs.Adopting.{AdoptsWhatIsLeft};
-ghost use Rattle.sdd_space.specs.Ledger.{LedgerLaws};
-ghost use Rattle.sdd_space.specs.WorkingGuards.{BusyGuardsCount, WorkingGuardsPass, WorkingGuardsReclaim};
-ghost use Rattle.sdd_space.specs.UnderGuards.{KeepsCollectedUnderGuards, KeepsFreshJobsUnderGuards, KeepsFreshUnderGuards, KeepsJobsUnderGuards, KeepsUnderGuards};
+ghost use Rattle.sdd_world_model.specs.WorldInvariant.{IsWhole};
+ghost use Rattle.sdd_world_model.specs.Out.{OutLaws};
+ghost use Rattle.sdd_world_model.specs.Jobs.{RunsJobsOnce};
+ghost use Rattle.sdd_world_model.specs.ReclaimBound.{FourGuardsReclaim, GoesAtLatest, GoesInTime};
+ghost use Rattle.sdd_world_model.specs.World.{World};
+ghost use Rattle.sdd_world_model.specs.AcceleratedGuards.{GuardsPass, ItemsPass};
+ghost use Rattle.sdd_world_model.specs.Collecting.{CollectedEnds};
+ghost use Rattle.sdd_world_model.specs.Adopting.{AdoptsWhatIsLeft};
+ghost use Rattle.sdd_world_model.specs.Ledger.{LedgerLaws};
+ghost use Rattle.sdd_world_model.specs.WorkingGuards.{BusyGuardsCount, WorkingGuardsPass, WorkingGuardsReclaim};
+ghost use Rattle.sdd_world_model.specs.UnderGuards.{KeepsCollectedUnderGuards, KeepsFreshJobsUnderGuards, KeepsFreshUnderGuards, KeepsJobsUnderGuards, KeepsUnderGuards};
 
 use super::World;
 use sdd_participants::Job;

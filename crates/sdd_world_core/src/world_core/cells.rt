@@ -2,13 +2,13 @@
 ghost use Rattle.std.specs.Prelude.{◌≡◌, ◌≢◌, ℕ, ◌+◌, ◌^◌, ◌<◌, ◌⊎◌, Some, IsSome, MatchOption, MatchResult, IfOk, IfSome, IsTrue, ◌↔◌, option_copied};
 ghost use Rattle.sdd_rights.specs.StandingKind.{IsOwner};
 ghost use Rattle.sdd_rights.specs.Right.{number_of, home_of, kind_of};
-ghost use Rattle.sdd_standings.specs.Slots.{IsOwnedBy, IsSharedBy};
-ghost use Rattle.sdd_standings.specs.Cells.{MayHold, cell_with, slot_held};
+ghost use Rattle.sdd_world_model.specs.Slots.{IsOwnedBy, IsSharedBy};
+ghost use Rattle.sdd_world_model.specs.Cells.{MayHold, cell_with, slot_held};
 ghost use Rattle.sdd_participants.specs.EpochState as time;
 ghost use Rattle.sdd_participants.specs.Slab.{entry_at, IsEmptyAt, IsFull};
-ghost use Rattle.sdd_space.specs.World.{KeepsSizes, standing_at, HasPlace};
-ghost use Rattle.sdd_space.specs.WorldChanges.{cell_closed, held_in, with_cell, with_standing, without_cell};
-ghost use Rattle.sdd_space.specs.WorldInvariant.{IsWhole};
+ghost use Rattle.sdd_world_model.specs.World.{KeepsSizes, standing_at, HasPlace};
+ghost use Rattle.sdd_world_model.specs.WorldChanges.{cell_closed, held_in, with_cell, with_standing, without_cell};
+ghost use Rattle.sdd_world_model.specs.WorldInvariant.{IsWhole};
 ghost use Rattle.sdd_world_core.specs.Lending.{AreLent};
 
 use super::WorldCore;

@@ -3,8 +3,8 @@ ghost use Rattle.std.specs.Prelude.{◌≡◌, ℕ, ◌+◌, ◌≤◌, Contains
 ghost use Rattle.sdd_participants.specs.declared.waiting.LimboEntry.TheVariants.{Item};
 ghost use Rattle.sdd_participants.specs.EpochState as time;
 ghost use Rattle.sdd_participants.specs.Jobs.{jobs_without_all};
-ghost use Rattle.sdd_space.specs.World.{most, weight, KeepsSizes, place_at, HasPlace};
-ghost use Rattle.sdd_space.specs.WorldChanges.{rotated, settled, changed};
+ghost use Rattle.sdd_world_model.specs.World.{most, weight, KeepsSizes, place_at, HasPlace};
+ghost use Rattle.sdd_world_model.specs.WorldChanges.{rotated, settled, changed};
 ghost use Rattle.sdd_values.specs.Block.{IsUnlent};
 ghost use Rattle.sdd_world_core.specs.Closing.{paced};
 
@@ -18,7 +18,7 @@ impl<T: Item<T>, J: Job> WorldCore<T, J> {
         requires place { HasPlace self.old.world place }
         requires empty { spare.old.items ≡ [] }
         requires reserved { most self.old.world ≤ vec_capacity spare.old }
-        requires home { (k : ℕ) → Contains (time.due_next (place_at self.old.world place)) (Item k) → IsUnlent self.old.lending.stakes k }
+        requires home { (k : ℕ) → Contains (time.due_next (place_at self.old.world place)) (Item k) → IsUnlent self.old.lending.fractions k }
         ensures changed { self.new ≡ record self.old {
           world = changed T.holds self.old.world place;
           deferred = jobs_without_all self.old.deferred (time.due_next (place_at self.old.world place));
@@ -40,7 +40,7 @@ impl<T: Item<T>, J: Job> WorldCore<T, J> {
         requires place { HasPlace self.old.world place }
         requires empty { spare.old.items ≡ [] }
         requires reserved { most self.old.world ≤ vec_capacity spare.old }
-        requires home { (k : ℕ) → Contains (time.due_next (place_at self.old.world place)) (Item k) → IsUnlent self.old.lending.stakes k }
+        requires home { (k : ℕ) → Contains (time.due_next (place_at self.old.world place)) (Item k) → IsUnlent self.old.lending.fractions k }
         ensures changed { self.new ≡ record self.old {
           world = changed T.holds self.old.world place;
           deferred = jobs_without_all self.old.deferred (time.due_next (place_at self.old.world place));

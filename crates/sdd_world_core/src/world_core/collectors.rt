@@ -1,13 +1,13 @@
 //! Items are collected for a private collector, and go with it.
 ghost use Rattle.std.specs.Prelude.{◌≡◌, ◌+◌, ◌≤◌, if◌then◌else◌, [], length, vec_capacity, IsTrue, ◌↔◌};
 ghost use Rattle.sdd_rights.specs.Right.{number_of, home_of, kind_of, raw_number_of, raw_home_of};
-ghost use Rattle.sdd_standings.specs.Slots.{IsOwnedBy, has_others, released_to};
-ghost use Rattle.sdd_space.specs.World.{most, weight, AnyGuardOpen, KeepsSizes, standing_at, IsPlaceOf};
-ghost use Rattle.sdd_space.specs.WorldChanges.{with_standing};
-ghost use Rattle.sdd_space.specs.Out.{IsNullCell};
-ghost use Rattle.sdd_space.specs.Collecting.{collected, owner_collected, is_for, waiting_for, collector_closed};
+ghost use Rattle.sdd_world_model.specs.Slots.{IsOwnedBy, has_others, released_to};
+ghost use Rattle.sdd_world_model.specs.World.{most, weight, AnyGuardOpen, KeepsSizes, standing_at, IsPlaceOf};
+ghost use Rattle.sdd_world_model.specs.WorldChanges.{with_standing};
+ghost use Rattle.sdd_world_model.specs.Out.{IsNullCell};
+ghost use Rattle.sdd_world_model.specs.Collecting.{collected, owner_collected, is_for, waiting_for, collector_closed};
 ghost use Rattle.sdd_participants.specs.Collecting.{time_without};
-ghost use Rattle.sdd_space.specs.WorldInvariant.{IsWhole};
+ghost use Rattle.sdd_world_model.specs.WorldInvariant.{IsWhole};
 ghost use Rattle.sdd_world_core.specs.Lending.{AreLent};
 
 use super::WorldCore;

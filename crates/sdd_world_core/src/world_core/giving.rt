@@ -4,16 +4,16 @@ ghost use Rattle.sdd_rights.specs.Right.{number_of, home_of};
 ghost use Rattle.sdd_space.specs.Shared as shared;
 ghost use Rattle.sdd_space.specs.RawCell as raw_cell;
 ghost use Rattle.sdd_participants.specs.EpochState as time;
-ghost use Rattle.sdd_space.specs.OwnerOrCell.{AreOf};
-ghost use Rattle.sdd_space.specs.CallerId.{seat_for, IsSeated, IsExact};
-ghost use Rattle.sdd_space.specs.KnownEpochs.{KnowsOn, nothing_told};
-ghost use Rattle.sdd_space.specs.Loans.{Loans};
-ghost use Rattle.sdd_space.specs.ParticipantChanges.{KeepsMoreWaiting};
+ghost use Rattle.sdd_world_model.specs.OwnerOrCell.{AreOf};
+ghost use Rattle.sdd_space.specs.CallerId.{caller_for, IsSeated, IsExact};
+ghost use Rattle.sdd_world_model.specs.KnownEpochs.{KnowsOn, nothing_told};
+ghost use Rattle.sdd_world_model.specs.Loans.{Loans};
+ghost use Rattle.sdd_world_model.specs.ParticipantChanges.{KeepsMoreWaiting};
 ghost use Rattle.sdd_space.specs.Owned.{slots_home, cells_home, holding_of, cell_holding};
-ghost use Rattle.sdd_space.specs.World.{KeepsSizes, place_at, HasPlace};
-ghost use Rattle.sdd_space.specs.WorldChanges.{dropped, given, given_all};
-ghost use Rattle.sdd_space.specs.InPlace.{MayInPlace};
-ghost use Rattle.sdd_space.specs.WorldInvariant.{IsWhole};
+ghost use Rattle.sdd_world_model.specs.World.{KeepsSizes, place_at, HasPlace};
+ghost use Rattle.sdd_world_model.specs.WorldChanges.{dropped, given, given_all};
+ghost use Rattle.sdd_world_model.specs.InPlace.{MayInPlace};
+ghost use Rattle.sdd_world_model.specs.WorldInvariant.{IsWhole};
 ghost use Rattle.sdd_participants.specs.Slab.{Entries};
 ghost use Rattle.sdd_world_core.specs.WorldCore.{kept_of};
 ghost use Rattle.sdd_world_core.specs.Lending.{AreLent};
@@ -40,7 +40,7 @@ impl<T: Item<T>, J: Job> Drop for Retirement<'_, T, J> {
 impl<T: Item<T>, J: Job> Giver<T> for Retirement<'_, T, J> {
     ghost world = { λ r. r.core.now.world };
 
-    ghost seat = { λ r. seat_for r.core.now.world r.place r.core.ghost_name };
+    ghost caller = { λ r. caller_for r.core.now.world r.place r.core.ghost_name };
 
     ghost own = { λ r. place_at r.core.now.world r.place };
 
@@ -51,14 +51,14 @@ impl<T: Item<T>, J: Job> Giver<T> for Retirement<'_, T, J> {
     ghost kept = { λ r. kept_of r.core.now };
 
     fn owned(&mut self, owner: Owned<T>)
-        requires seated { IsSeated (seat_for self.old.core.now.world self.old.place self.old.core.ghost_name) }
+        requires seated { IsSeated (caller_for self.old.core.now.world self.old.place self.old.core.ghost_name) }
         requires home { slots_home owner ≡ self.old.core.now.world.home.slots }
-        ensures seat { seat_for self.new.core.now.world self.new.place self.new.core.ghost_name ≡
-            seat_for self.old.core.now.world self.old.place self.old.core.ghost_name }
+        ensures caller { caller_for self.new.core.now.world self.new.place self.new.core.ghost_name ≡
+            caller_for self.old.core.now.world self.old.place self.old.core.ghost_name }
         ensures own { KeepsMoreWaiting (place_at self.old.core.now.world self.old.place) (place_at self.new.core.now.world self.new.place) }
         ensures known { KnowsOn nothing_told nothing_told }
         ensures kept { kept_of self.new.core.now ≡ kept_of self.old.core.now }
-        ensures exact { IsExact (seat_for self.old.core.now.world self.old.place self.old.core.ghost_name) →
+        ensures exact { IsExact (caller_for self.old.core.now.world self.old.place self.old.core.ghost_name) →
             self.new.core.now.world ≡ given self.old.core.now.world self.old.place (holding_of owner) }
     {
         let _ = self.core.release(
@@ -69,14 +69,14 @@ impl<T: Item<T>, J: Job> Giver<T> for Retirement<'_, T, J> {
     }
 
     fn shared(&mut self, owner: Shared<T>)
-        requires seated { IsSeated (seat_for self.old.core.now.world self.old.place self.old.core.ghost_name) }
+        requires seated { IsSeated (caller_for self.old.core.now.world self.old.place self.old.core.ghost_name) }
         requires home { shared.slots_home owner ≡ self.old.core.now.world.home.slots }
-        ensures seat { seat_for self.new.core.now.world self.new.place self.new.core.ghost_name ≡
-            seat_for self.old.core.now.world self.old.place self.old.core.ghost_name }
+        ensures caller { caller_for self.new.core.now.world self.new.place self.new.core.ghost_name ≡
+            caller_for self.old.core.now.world self.old.place self.old.core.ghost_name }
         ensures own { KeepsMoreWaiting (place_at self.old.core.now.world self.old.place) (place_at self.new.core.now.world self.new.place) }
         ensures known { KnowsOn nothing_told nothing_told }
         ensures kept { kept_of self.new.core.now ≡ kept_of self.old.core.now }
-        ensures exact { IsExact (seat_for self.old.core.now.world self.old.place self.old.core.ghost_name) →
+        ensures exact { IsExact (caller_for self.old.core.now.world self.old.place self.old.core.ghost_name) →
             self.new.core.now.world ≡ given self.old.core.now.world self.old.place (shared.holding_of owner) }
     {
         let _ = self.core.release(
@@ -87,28 +87,28 @@ impl<T: Item<T>, J: Job> Giver<T> for Retirement<'_, T, J> {
     }
 
     fn atomic_owned(&mut self, cell: AtomicOwned<T>)
-        requires seated { IsSeated (seat_for self.old.core.now.world self.old.place self.old.core.ghost_name) }
+        requires seated { IsSeated (caller_for self.old.core.now.world self.old.place self.old.core.ghost_name) }
         requires home { cells_home cell ≡ self.old.core.now.world.home.cells }
-        ensures seat { seat_for self.new.core.now.world self.new.place self.new.core.ghost_name ≡
-            seat_for self.old.core.now.world self.old.place self.old.core.ghost_name }
+        ensures caller { caller_for self.new.core.now.world self.new.place self.new.core.ghost_name ≡
+            caller_for self.old.core.now.world self.old.place self.old.core.ghost_name }
         ensures own { KeepsMoreWaiting (place_at self.old.core.now.world self.old.place) (place_at self.new.core.now.world self.new.place) }
         ensures known { KnowsOn nothing_told nothing_told }
         ensures kept { kept_of self.new.core.now ≡ kept_of self.old.core.now }
-        ensures exact { IsExact (seat_for self.old.core.now.world self.old.place self.old.core.ghost_name) →
+        ensures exact { IsExact (caller_for self.old.core.now.world self.old.place self.old.core.ghost_name) →
             self.new.core.now.world ≡ given self.old.core.now.world self.old.place (cell_holding cell) }
     {
         self.core.close_cell(self.place, inner::right_of_cell(cell), StandingKind::Owned);
     }
 
     fn atomic_shared(&mut self, cell: AtomicShared<T>)
-        requires seated { IsSeated (seat_for self.old.core.now.world self.old.place self.old.core.ghost_name) }
+        requires seated { IsSeated (caller_for self.old.core.now.world self.old.place self.old.core.ghost_name) }
         requires home { shared.cells_home cell ≡ self.old.core.now.world.home.cells }
-        ensures seat { seat_for self.new.core.now.world self.new.place self.new.core.ghost_name ≡
-            seat_for self.old.core.now.world self.old.place self.old.core.ghost_name }
+        ensures caller { caller_for self.new.core.now.world self.new.place self.new.core.ghost_name ≡
+            caller_for self.old.core.now.world self.old.place self.old.core.ghost_name }
         ensures own { KeepsMoreWaiting (place_at self.old.core.now.world self.old.place) (place_at self.new.core.now.world self.new.place) }
         ensures known { KnowsOn nothing_told nothing_told }
         ensures kept { kept_of self.new.core.now ≡ kept_of self.old.core.now }
-        ensures exact { IsExact (seat_for self.old.core.now.world self.old.place self.old.core.ghost_name) →
+        ensures exact { IsExact (caller_for self.old.core.now.world self.old.place self.old.core.ghost_name) →
             self.new.core.now.world ≡ given self.old.core.now.world self.old.place (shared.cell_holding cell) }
     {
         self.core.close_cell(
@@ -119,14 +119,14 @@ impl<T: Item<T>, J: Job> Giver<T> for Retirement<'_, T, J> {
     }
 
     fn atomic_raw(&mut self, cell: AtomicRaw<T>)
-        requires seated { IsSeated (seat_for self.old.core.now.world self.old.place self.old.core.ghost_name) }
+        requires seated { IsSeated (caller_for self.old.core.now.world self.old.place self.old.core.ghost_name) }
         requires home { raw_cell.cells_home cell ≡ self.old.core.now.world.home.cells }
-        ensures seat { seat_for self.new.core.now.world self.new.place self.new.core.ghost_name ≡
-            seat_for self.old.core.now.world self.old.place self.old.core.ghost_name }
+        ensures caller { caller_for self.new.core.now.world self.new.place self.new.core.ghost_name ≡
+            caller_for self.old.core.now.world self.old.place self.old.core.ghost_name }
         ensures own { KeepsMoreWaiting (place_at self.old.core.now.world self.old.place) (place_at self.new.core.now.world self.new.place) }
         ensures known { KnowsOn nothing_told nothing_told }
         ensures kept { kept_of self.new.core.now ≡ kept_of self.old.core.now }
-        ensures exact { IsExact (seat_for self.old.core.now.world self.old.place self.old.core.ghost_name) →
+        ensures exact { IsExact (caller_for self.old.core.now.world self.old.place self.old.core.ghost_name) →
             self.new.core.now.world ≡ given self.old.core.now.world self.old.place (raw_cell.cell_holding cell) }
     {
         self.core.close_raw_cell(inner::right_of_raw_cell(cell));

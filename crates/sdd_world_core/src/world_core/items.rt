@@ -4,13 +4,13 @@ ghost use Rattle.std.specs.Prelude.{◌≡◌, ℕ, ◌+◌, ◌^◌, ◌≤◌,
 ghost use Rattle.sdd_rights.specs.StandingKind.{IsOwner};
 ghost use Rattle.sdd_rights.specs.Right.{number_of, home_of, kind_of};
 ghost use Rattle.sdd_rights.specs.SharedRights as shares;
-ghost use Rattle.sdd_standings.specs.Slots.{IsOwnedBy, first_standing};
+ghost use Rattle.sdd_world_model.specs.Slots.{IsOwnedBy, first_standing};
 ghost use Rattle.sdd_participants.specs.Slab.{IsEmptyAt, IsFull};
-ghost use Rattle.sdd_space.specs.OwnerOrCell.{AreOf};
-ghost use Rattle.sdd_space.specs.World.{KeepsSizes, standing_at, value_at};
-ghost use Rattle.sdd_space.specs.WorldChanges.{made_as, with_value};
-ghost use Rattle.sdd_space.specs.InPlace.{MayInPlace, RefusedInPlace};
-ghost use Rattle.sdd_space.specs.WorldInvariant.{IsWhole};
+ghost use Rattle.sdd_world_model.specs.OwnerOrCell.{AreOf};
+ghost use Rattle.sdd_world_model.specs.World.{KeepsSizes, standing_at, value_at};
+ghost use Rattle.sdd_world_model.specs.WorldChanges.{made_as, with_value};
+ghost use Rattle.sdd_world_model.specs.InPlace.{MayInPlace, RefusedInPlace};
+ghost use Rattle.sdd_world_model.specs.WorldInvariant.{IsWhole};
 ghost use Rattle.sdd_world_core.specs.Lending.{AreLent};
 
 use super::WorldCore;

@@ -2,12 +2,12 @@
 ghost use Rattle.std.specs.Prelude.{◌≡◌, ◌≢◌, ℕ, ◌+◌, ◌^◌, ◌<◌, ◌≤◌, if◌then◌else◌, Some, None, IsSome, MatchOption, MatchResult, IfOk, IfSome, IsTrue, ◌↔◌};
 ghost use Rattle.sdd_rights.specs.Right.{number_of, home_of, kind_of};
 ghost use Rattle.sdd_rights.specs.SharedRights as shares;
-ghost use Rattle.sdd_standings.specs.Slots.{IsSharedBy, released_standing, owners_of};
+ghost use Rattle.sdd_world_model.specs.Slots.{IsSharedBy, released_standing, owners_of};
 ghost use Rattle.sdd_participants.specs.EpochState as time;
-ghost use Rattle.sdd_space.specs.Releases.{Releases};
-ghost use Rattle.sdd_space.specs.World.{KeepsSizes, standing_at, HasPlace};
-ghost use Rattle.sdd_space.specs.WorldChanges.{with_standing, retired};
-ghost use Rattle.sdd_space.specs.WorldInvariant.{IsWhole};
+ghost use Rattle.sdd_world_model.specs.Releases.{Releases};
+ghost use Rattle.sdd_world_model.specs.World.{KeepsSizes, standing_at, HasPlace};
+ghost use Rattle.sdd_world_model.specs.WorldChanges.{with_standing, retired};
+ghost use Rattle.sdd_world_model.specs.WorldInvariant.{IsWhole};
 ghost use Rattle.sdd_world_core.specs.Lending.{AreLent};
 
 use super::WorldCore;

@@ -1,9 +1,9 @@
 //! Participants come and end.
 ghost use Rattle.std.specs.Prelude.{◌≡◌, ◌<◌, ℕ, length, IsSome, MatchResult, IsTrue, ◌⊎◌};
 ghost use Rattle.sdd_participants.specs.EpochState as time;
-ghost use Rattle.sdd_space.specs.World.{place_at, IsPlaceOf};
-ghost use Rattle.sdd_space.specs.WorldChanges.{registered, ended};
-ghost use Rattle.sdd_space.specs.WorldInvariant.{IsWhole};
+ghost use Rattle.sdd_world_model.specs.World.{place_at, IsPlaceOf};
+ghost use Rattle.sdd_world_model.specs.WorldChanges.{registered, ended};
+ghost use Rattle.sdd_world_model.specs.WorldInvariant.{IsWhole};
 ghost use Rattle.sdd_world_core.specs.Lending.{AreLent};
 
 use super::WorldCore;

@@ -2,10 +2,10 @@
 ghost use Rattle.std.specs.Prelude.{◌≡◌, Some, MatchOption};
 ghost use Rattle.sdd_rights.specs.Right.{raw_number_of, raw_home_of};
 ghost use Rattle.sdd_participants.specs.Slab.{IsEmptyAt, IsFull};
-ghost use Rattle.sdd_space.specs.World.{KeepsSizes, pointer_at};
-ghost use Rattle.sdd_space.specs.WorldChanges.{with_pointer, pointing, without_cell};
-ghost use Rattle.sdd_space.specs.Out.{IsNullCell};
-ghost use Rattle.sdd_space.specs.WorldInvariant.{IsWhole};
+ghost use Rattle.sdd_world_model.specs.World.{KeepsSizes, pointer_at};
+ghost use Rattle.sdd_world_model.specs.WorldChanges.{with_pointer, pointing, without_cell};
+ghost use Rattle.sdd_world_model.specs.Out.{IsNullCell};
+ghost use Rattle.sdd_world_model.specs.WorldInvariant.{IsWhole};
 ghost use Rattle.sdd_world_core.specs.Lending.{AreLent};
 
 use super::WorldCore;

@@ -3,9 +3,9 @@ ghost use Rattle.std.specs.Prelude.{◌≡◌, ℕ, ◌+◌, ◌<◌, ◌≤◌,
 ghost use Rattle.sdd_participants.specs.declared.waiting.LimboEntry.TheVariants.{Item};
 ghost use Rattle.sdd_participants.specs.Slab.{entry_at, with_entry, without_entry, IsEmptyAt, IsFull};
 ghost use Rattle.sdd_participants.specs.Jobs.{jobs_without, jobs_without_all};
-ghost use Rattle.sdd_space.specs.World.{most, weight, KeepsSizes, HasPlace, IsPlaceOf};
-ghost use Rattle.sdd_space.specs.WorldChanges.{deferred, ran, slot_reclaimed, reclaimed, all_reclaimed};
-ghost use Rattle.sdd_space.specs.WorldInvariant.{IsWhole};
+ghost use Rattle.sdd_world_model.specs.World.{most, weight, KeepsSizes, HasPlace, IsPlaceOf};
+ghost use Rattle.sdd_world_model.specs.WorldChanges.{deferred, ran, slot_reclaimed, reclaimed, all_reclaimed};
+ghost use Rattle.sdd_world_model.specs.WorldInvariant.{IsWhole};
 ghost use Rattle.sdd_values.specs.Block.{IsUnlent};
 ghost use Rattle.sdd_world_core.specs.Lending.{AreLent};
 
@@ -34,7 +34,7 @@ impl<T: Item<T>, J: Job> WorldCore<T, J> {
     fn reclaim_item(&mut self, place: usize, slot: u32)
         requires place { HasPlace self.old.world place }
         requires room { weight self.old.world < most self.old.world }
-        requires home { IsUnlent self.old.lending.stakes slot }
+        requires home { IsUnlent self.old.lending.fractions slot }
         ensures { self.new ≡ record self.old { world = slot_reclaimed T.holds self.old.world place slot } }
     {
         let Some(value) = self.slots.reclaim(slot) else {
@@ -67,7 +67,7 @@ impl<T: Item<T>, J: Job> WorldCore<T, J> {
     fn reclaim(&mut self, place: usize, what: LimboEntry)
         requires place { HasPlace self.old.world place }
         requires room { weight self.old.world < most self.old.world }
-        requires home { (k : ℕ) → what ≡ Item k → IsUnlent self.old.lending.stakes k }
+        requires home { (k : ℕ) → what ≡ Item k → IsUnlent self.old.lending.fractions k }
         ensures { self.new ≡ record self.old {
           world = reclaimed T.holds self.old.world place what;
           deferred = jobs_without self.old.deferred what;
@@ -83,7 +83,7 @@ impl<T: Item<T>, J: Job> WorldCore<T, J> {
     pub(super) fn reclaim_all(&mut self, place: usize, due: &[LimboEntry])
         requires place { HasPlace self.old.world place }
         requires room { weight self.old.world + length due.now ≤ most self.old.world }
-        requires home { (k : ℕ) → Contains due.now (Item k) → IsUnlent self.old.lending.stakes k }
+        requires home { (k : ℕ) → Contains due.now (Item k) → IsUnlent self.old.lending.fractions k }
         ensures reclaimed { self.new ≡ record self.old {
           world = all_reclaimed T.holds self.old.world place due.now;
           deferred = jobs_without_all self.old.deferred due.now;

@@ -2,7 +2,7 @@
 ghost use Rattle.std.specs.Prelude.{◌≡◌, MatchResult, None, Some, option_copied};
 ghost use Rattle.sdd_bag.specs.Storages.{holdings_of};
 ghost use Rattle.sdd_world_tests.specs.Cargo.{holdings_in, storage_in};
-ghost use Rattle.sdd_space.specs.OwnerOrCell.{SpaceId, AreOf};
+ghost use Rattle.sdd_world_model.specs.OwnerOrCell.{SpaceId, AreOf};
 
 use sdd_bag::{Shelf, Storage};
 use sdd_lists::LinkedEntry;

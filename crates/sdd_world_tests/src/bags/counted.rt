@@ -54,11 +54,11 @@ impl Factory {
         bag: &mut StorageBag<Counted, 2>,
         guard: &Guard,
     )
-        requires may { MayCall (S.seat s.old) }
-        requires there { IsThere (λ b. Some b) 2 (S.seat s.old) (S.world s.old) bag.old }
-        requires reader { reader_of guard.now ≡ (S.seat s.old).reader }
-        ensures seat { S.seat s.new ≡ S.seat s.old }
-        ensures there { IsThere (λ b. Some b) 2 (S.seat s.new) (S.world s.new) bag.new }
+        requires may { MayCall (S.caller s.old) }
+        requires there { IsThere (λ b. Some b) 2 (S.caller s.old) (S.world s.old) bag.old }
+        requires reader { reader_of guard.now ≡ (S.caller s.old).reader }
+        ensures caller { S.caller s.new ≡ S.caller s.old }
+        ensures there { IsThere (λ b. Some b) 2 (S.caller s.new) (S.world s.new) bag.new }
     {
         for _ in 0..7 {
             match pushed(s, bag, self.made(rt), guard) {

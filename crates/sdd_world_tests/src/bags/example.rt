@@ -44,8 +44,8 @@ impl<I: Item<I>> Bags<I> for Turn<'_, I> {}
 /// What one participant does with bags. It asserts what it is answered.
 pub trait Example<I: Item<I>> {
     fn run<R: Abort, S: Bags<I>>(&self, rt: &R, s: &mut S)
-        requires may { MayCall (S.seat s.old) }
-        ensures seat { S.seat s.new ≡ S.seat s.old };
+        requires may { MayCall (S.caller s.old) }
+        ensures caller { S.caller s.new ≡ S.caller s.old };
 }
 
 /// A world, and the participant that makes the calls.
@@ -55,7 +55,7 @@ struct Setting<I: Item<I>> {
 }
 
 impl<I: Item<I>> Model for Setting<I> {
-    ghost use Rattle.sdd_space.specs.World.{IsPlaceOf};
+    ghost use Rattle.sdd_world_model.specs.World.{IsPlaceOf};
     ghost use Rattle.sdd_world.specs.Place.{index_of};
 
     ghost Value = { Unit {0} };

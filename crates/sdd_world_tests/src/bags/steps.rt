@@ -1,9 +1,9 @@
-//! The steps that the examples are made of. Of the space they say only that its seat stays, and that the bag is in it.
+//! The steps that the examples are made of. Of the space they say only that its caller stays, and that the bag is in it.
 ghost use Rattle.std.specs.Prelude.{◌≡◌, ◌<◌, ◌≤◌, IfErr, IfOk};
 ghost use Rattle.std.specs.Iterator.{IsFinite};
 ghost use Rattle.sdd_space.specs.CallerId.{IsSeated};
 ghost use Rattle.sdd_space.specs.Guard.{reader_of};
-ghost use Rattle.sdd_space.specs.Out.{HoldsNothing};
+ghost use Rattle.sdd_world_model.specs.Out.{HoldsNothing};
 ghost use Rattle.sdd_bag.specs.There.{IsThere, MayCall};
 
 use crate::bags::example::Bags;
@@ -15,18 +15,18 @@ use std::process::Abort;
 
 /// One more guard.
 pub fn opened<I: Item<I>, S: Guards<I>>(rt: &impl Abort, s: &mut S) -> Guard
-    requires seated { IsSeated (S.seat s.old) }
-    ensures seat { S.seat s.new ≡ S.seat s.old }
-    ensures reader { reader_of result ≡ (S.seat s.new).reader }
+    requires seated { IsSeated (S.caller s.old) }
+    ensures caller { S.caller s.new ≡ S.caller s.old }
+    ensures reader { reader_of result ≡ (S.caller s.new).reader }
 {
     Guard::new(s).expect(rt, "a guard may be opened")
 }
 
 /// Closes a guard.
 pub fn shut<I: Item<I>, S: Guards<I>>(s: &mut S, guard: Guard)
-    requires seated { IsSeated (S.seat s.old) }
-    requires reader { reader_of guard ≡ (S.seat s.old).reader }
-    ensures seat { S.seat s.new ≡ S.seat s.old }
+    requires seated { IsSeated (S.caller s.old) }
+    requires reader { reader_of guard ≡ (S.caller s.old).reader }
+    ensures caller { S.caller s.new ≡ S.caller s.old }
 {
     guard.close(s);
 }
@@ -37,11 +37,11 @@ pub fn shut_beside<T, const LEN: usize, B: Shelf<T, LEN>, S: Bags<LinkedEntry<B>
     bag: &Bag<T, LEN, B>,
     guard: Guard,
 )
-    requires may { MayCall (S.seat s.old) }
-    requires there { IsThere B.shown LEN (S.seat s.old) (S.world s.old) bag.now }
-    requires reader { reader_of guard ≡ (S.seat s.old).reader }
-    ensures seat { S.seat s.new ≡ S.seat s.old }
-    ensures there { IsThere B.shown LEN (S.seat s.new) (S.world s.new) bag.now }
+    requires may { MayCall (S.caller s.old) }
+    requires there { IsThere B.shown LEN (S.caller s.old) (S.world s.old) bag.now }
+    requires reader { reader_of guard ≡ (S.caller s.old).reader }
+    ensures caller { S.caller s.new ≡ S.caller s.old }
+    ensures there { IsThere B.shown LEN (S.caller s.new) (S.world s.new) bag.now }
 {
     bag.stays_at_close();
     bag.stays_at_opening();
@@ -55,9 +55,9 @@ pub fn made<T, const LEN: usize, B: Shelf<T, LEN>, S: Bags<LinkedEntry<B>>>(
 ) -> Bag<T, LEN, B>
     requires some { 0 < LEN }
     requires fits { LEN ≤ 32 }
-    requires may { MayCall (S.seat s.old) }
-    ensures seat { S.seat s.new ≡ S.seat s.old }
-    ensures there { IsThere B.shown LEN (S.seat s.new) (S.world s.new) result }
+    requires may { MayCall (S.caller s.old) }
+    ensures caller { S.caller s.new ≡ S.caller s.old }
+    ensures there { IsThere B.shown LEN (S.caller s.new) (S.world s.new) result }
 {
     Bag::new(s).expect(rt, "two cells are free")
 }
@@ -69,11 +69,11 @@ pub fn pushed<T, const LEN: usize, B: Shelf<T, LEN>, S: Bags<LinkedEntry<B>>>(
     value: T,
     guard: &Guard,
 ) -> Result<(), (T, Refused)>
-    requires may { MayCall (S.seat s.old) }
-    requires there { IsThere B.shown LEN (S.seat s.old) (S.world s.old) bag.old }
-    requires reader { reader_of guard.now ≡ (S.seat s.old).reader }
-    ensures seat { S.seat s.new ≡ S.seat s.old }
-    ensures there { IsThere B.shown LEN (S.seat s.new) (S.world s.new) bag.new }
+    requires may { MayCall (S.caller s.old) }
+    requires there { IsThere B.shown LEN (S.caller s.old) (S.world s.old) bag.old }
+    requires reader { reader_of guard.now ≡ (S.caller s.old).reader }
+    ensures caller { S.caller s.new ≡ S.caller s.old }
+    ensures there { IsThere B.shown LEN (S.caller s.new) (S.world s.new) bag.new }
 {
     bag.push(value, guard, s)
 }
@@ -84,11 +84,11 @@ pub fn popped<T, const LEN: usize, B: Shelf<T, LEN>, S: Bags<LinkedEntry<B>>>(
     bag: &mut Bag<T, LEN, B>,
     guard: &Guard,
 ) -> Option<T>
-    requires may { MayCall (S.seat s.old) }
-    requires there { IsThere B.shown LEN (S.seat s.old) (S.world s.old) bag.old }
-    requires reader { reader_of guard.now ≡ (S.seat s.old).reader }
-    ensures seat { S.seat s.new ≡ S.seat s.old }
-    ensures there { IsThere B.shown LEN (S.seat s.new) (S.world s.new) bag.new }
+    requires may { MayCall (S.caller s.old) }
+    requires there { IsThere B.shown LEN (S.caller s.old) (S.world s.old) bag.old }
+    requires reader { reader_of guard.now ≡ (S.caller s.old).reader }
+    ensures caller { S.caller s.new ≡ S.caller s.old }
+    ensures there { IsThere B.shown LEN (S.caller s.new) (S.world s.new) bag.new }
 {
     bag.pop(guard, s)
 }
@@ -108,13 +108,13 @@ pub fn filled<
 ) -> Result<Bag<T, LEN, B>, (Bag<T, LEN, B>, T, Refused)>
     requires some { 0 < LEN }
     requires fits { LEN ≤ 32 }
-    requires may { MayCall (S.seat s.old) }
-    requires reader { reader_of guard.now ≡ (S.seat s.old).reader }
+    requires may { MayCall (S.caller s.old) }
+    requires reader { reader_of guard.now ≡ (S.caller s.old).reader }
     requires can { I.can_next items.old }
     requires ends { IsFinite (I.remaining items.old) }
-    ensures seat { S.seat s.new ≡ S.seat s.old }
-    ensures there { IfOk result (IsThere B.shown LEN (S.seat s.new) (S.world s.new)) }
-    ensures part { IfErr result (λ e. IsThere B.shown LEN (S.seat s.new) (S.world s.new) e.0) }
+    ensures caller { S.caller s.new ≡ S.caller s.old }
+    ensures there { IfOk result (IsThere B.shown LEN (S.caller s.new) (S.world s.new)) }
+    ensures part { IfErr result (λ e. IsThere B.shown LEN (S.caller s.new) (S.world s.new) e.0) }
 {
     match Bag::from_iter(items, guard, s) {
         Ok(bag) => Ok(bag),
@@ -136,12 +136,12 @@ pub fn full_of<
 >(rt: &impl Abort, s: &mut S, items: &mut I, guard: &Guard) -> Bag<T, LEN, B>
     requires some { 0 < LEN }
     requires fits { LEN ≤ 32 }
-    requires may { MayCall (S.seat s.old) }
-    requires reader { reader_of guard.now ≡ (S.seat s.old).reader }
+    requires may { MayCall (S.caller s.old) }
+    requires reader { reader_of guard.now ≡ (S.caller s.old).reader }
     requires can { I.can_next items.old }
     requires ends { IsFinite (I.remaining items.old) }
-    ensures seat { S.seat s.new ≡ S.seat s.old }
-    ensures there { IsThere B.shown LEN (S.seat s.new) (S.world s.new) result }
+    ensures caller { S.caller s.new ≡ S.caller s.old }
+    ensures there { IsThere B.shown LEN (S.caller s.new) (S.world s.new) result }
 {
     match filled(rt, s, items, guard) {
         Ok(bag) => bag,
@@ -155,11 +155,11 @@ pub fn summed<const LEN: usize, B: Shelf<u64, LEN>, S: Bags<LinkedEntry<B>>>(
     bag: &mut Bag<u64, LEN, B>,
     guard: &Guard,
 ) -> u64
-    requires may { MayCall (S.seat s.old) }
-    requires there { IsThere B.shown LEN (S.seat s.old) (S.world s.old) bag.old }
-    requires reader { reader_of guard.now ≡ (S.seat s.old).reader }
-    ensures seat { S.seat s.new ≡ S.seat s.old }
-    ensures there { IsThere B.shown LEN (S.seat s.new) (S.world s.new) bag.new }
+    requires may { MayCall (S.caller s.old) }
+    requires there { IsThere B.shown LEN (S.caller s.old) (S.world s.old) bag.old }
+    requires reader { reader_of guard.now ≡ (S.caller s.old).reader }
+    ensures caller { S.caller s.new ≡ S.caller s.old }
+    ensures there { IsThere B.shown LEN (S.caller s.new) (S.world s.new) bag.new }
 {
     bag.pop_all(0, |sum: u64, number| sum.wrapping_add(number), guard, s)
 }
@@ -170,10 +170,10 @@ pub fn changed<T, const LEN: usize, B: Shelf<T, LEN>, F: FnMut(&mut T), S: Bags<
     bag: &mut Bag<T, LEN, B>,
     change: F,
 ) -> Result<(), Refused>
-    requires may { MayCall (S.seat s.now) }
-    requires there { IsThere B.shown LEN (S.seat s.now) (S.world s.now) bag.old }
+    requires may { MayCall (S.caller s.now) }
+    requires there { IsThere B.shown LEN (S.caller s.now) (S.world s.now) bag.old }
     requires callable { F.IsAlwaysCallable change }
-    ensures there { IsThere B.shown LEN (S.seat s.now) (S.world s.now) bag.new }
+    ensures there { IsThere B.shown LEN (S.caller s.now) (S.world s.now) bag.new }
 {
     bag.for_each_mut(change, s)
 }
@@ -183,9 +183,9 @@ pub fn tenfold<const LEN: usize, B: Shelf<u64, LEN>, S: Bags<LinkedEntry<B>>>(
     s: &S,
     bag: &mut Bag<u64, LEN, B>,
 ) -> Result<(u64, u64), Refused>
-    requires may { MayCall (S.seat s.now) }
-    requires there { IsThere B.shown LEN (S.seat s.now) (S.world s.now) bag.old }
-    ensures there { IsThere B.shown LEN (S.seat s.now) (S.world s.now) bag.new }
+    requires may { MayCall (S.caller s.now) }
+    requires there { IsThere B.shown LEN (S.caller s.now) (S.world s.now) bag.old }
+    ensures there { IsThere B.shown LEN (S.caller s.now) (S.world s.now) bag.new }
 {
     let mut cursor = match bag.iter_mut(s) {
         Ok(cursor) => cursor,
@@ -211,10 +211,10 @@ pub fn closed<T, const LEN: usize, B: Shelf<T, LEN>, S: Bags<LinkedEntry<B>>>(
 where
     T: Item<LinkedEntry<B>>,
     requires nothing { HoldsNothing T.holds }
-    requires may { MayCall (S.seat s.old) }
-    requires there { IsThere B.shown LEN (S.seat s.old) (S.world s.old) bag }
-    requires reader { reader_of guard.now ≡ (S.seat s.old).reader }
-    ensures seat { S.seat s.new ≡ S.seat s.old }
+    requires may { MayCall (S.caller s.old) }
+    requires there { IsThere B.shown LEN (S.caller s.old) (S.world s.old) bag }
+    requires reader { reader_of guard.now ≡ (S.caller s.old).reader }
+    ensures caller { S.caller s.new ≡ S.caller s.old }
 {
     bag.close(guard, s);
 }
@@ -228,10 +228,10 @@ pub fn counted<T, const LEN: usize, B: Shelf<T, LEN>, S: Bags<LinkedEntry<B>>>(
 where
     T: Drop + Item<LinkedEntry<B>>,
     requires nothing { HoldsNothing T.holds }
-    requires may { MayCall (S.seat s.old) }
-    requires there { IsThere B.shown LEN (S.seat s.old) (S.world s.old) bag }
-    requires reader { reader_of guard.now ≡ (S.seat s.old).reader }
-    ensures seat { S.seat s.new ≡ S.seat s.old }
+    requires may { MayCall (S.caller s.old) }
+    requires there { IsThere B.shown LEN (S.caller s.old) (S.world s.old) bag }
+    requires reader { reader_of guard.now ≡ (S.caller s.old).reader }
+    ensures caller { S.caller s.new ≡ S.caller s.old }
 {
     let mut bag = bag;
     let count = |count: u64, value: T| {

@@ -140,8 +140,8 @@ impl Counts {
     fn count<const LEN: usize, R: Abort, S: Bags<Entry<u64, LEN>>>(self, rt: &R, s: &mut S)
         requires some { 0 < LEN }
         requires fits { LEN ≤ 32 }
-        requires may { MayCall (S.seat s.old) }
-        ensures seat { S.seat s.new ≡ S.seat s.old }
+        requires may { MayCall (S.caller s.old) }
+        ensures caller { S.caller s.new ≡ S.caller s.old }
     {
         let guard = opened(rt, s);
         let bag: StorageBag<u64, LEN> = full_of(rt, s, &mut (0..self.0), &guard);

@@ -1,7 +1,7 @@
 //! Examples over any space, and the worlds and domains that they are run in.
 ghost use Rattle.std.specs.Prelude.{◌≡◌};
 ghost use Rattle.sdd_space.specs.CallerId.{IsSeated};
-ghost use Rattle.sdd_domain.specs.Space.{seat_of, slots_home};
+ghost use Rattle.sdd_domain.specs.Space.{caller_of, slots_home};
 ghost use Rattle.sdd_domain.specs.Domain.{slots_in};
 
 use crate::cells::steps::accelerated;
@@ -29,8 +29,8 @@ pub type Shown = (u8, u128, bool);
 /// What one participant does in some space of numbers. It asserts what it is answered.
 pub trait Example {
     fn run<R: Abort, S: Space<u64> + Deferrals<u64, Job = Idle>>(rt: &R, s: &mut S)
-        requires seated { IsSeated (S.seat s.old) }
-        ensures seat { S.seat s.new ≡ S.seat s.old };
+        requires seated { IsSeated (S.caller s.old) }
+        ensures caller { S.caller s.new ≡ S.caller s.old };
 }
 
 /// A world, and the participant that makes the calls.
@@ -40,7 +40,7 @@ pub struct Setting<T: Item<T>> {
 }
 
 impl<T: Item<T>> Model for Setting<T> {
-    ghost use Rattle.sdd_space.specs.World.{IsPlaceOf};
+    ghost use Rattle.sdd_world_model.specs.World.{IsPlaceOf};
     ghost use Rattle.sdd_world.specs.Place.{index_of};
 
     ghost Value = { Unit {0} };
@@ -105,7 +105,7 @@ pub fn new_domain<T: Item<T>>(rt: &(impl Abort + AllocGlobal), limits: Limits) -
 
 /// A participant of it.
 pub fn registered<'d, T: Item<T>>(rt: &impl Abort, domain: &'d Domain<T>) -> Local<'d, T>
-    ensures seated { IsSeated (seat_of result) }
+    ensures seated { IsSeated (caller_of result) }
     ensures home { slots_home result ≡ slots_in domain.now }
 {
     Local::register(domain).expect(rt, "a place is free")
@@ -113,8 +113,8 @@ pub fn registered<'d, T: Item<T>>(rt: &impl Abort, domain: &'d Domain<T>) -> Loc
 
 /// The participant's next accelerated guards show this.
 pub fn local_shows<T: Item<T>>(rt: &impl Abort, local: &mut Local<'_, T>, table: &[Shown])
-    requires seated { IsSeated (seat_of local.old) }
-    ensures seat { seat_of local.new ≡ seat_of local.old }
+    requires seated { IsSeated (caller_of local.old) }
+    ensures caller { caller_of local.new ≡ caller_of local.old }
 {
     for (epoch, reclaimed, garbage) in table {
         assert_eq!(rt; accelerated(rt, local), (*epoch, *garbage));

@@ -30,12 +30,12 @@ fn tags<'g, S: Look<u64> + Cells<u64> + RawCells<u64>>(
     raw_cell: &AtomicRaw<u64>,
     guard: &'g Guard,
 ) -> Ptr<'g, u64>
-    requires seated { IsSeated (S.seat s.old) }
-    requires cell { alone.cells_home cell.now ≡ (S.seat s.old).home.cells }
-    requires shared_cell { common.cells_home shared_cell.now ≡ (S.seat s.old).home.cells }
-    requires raw_cell { raw_cells_home raw_cell.now ≡ (S.seat s.old).home.cells }
-    requires reader { reader_of guard.now ≡ (S.seat s.old).reader }
-    ensures seat { S.seat s.new ≡ S.seat s.old }
+    requires seated { IsSeated (S.caller s.old) }
+    requires cell { alone.cells_home cell.now ≡ (S.caller s.old).home.cells }
+    requires shared_cell { common.cells_home shared_cell.now ≡ (S.caller s.old).home.cells }
+    requires raw_cell { raw_cells_home raw_cell.now ≡ (S.caller s.old).home.cells }
+    requires reader { reader_of guard.now ≡ (S.caller s.old).reader }
+    ensures caller { S.caller s.new ≡ S.caller s.old }
 {
     let ptr = owned::load(s, cell, guard);
     assert!(rt; seen(s, ptr) == Some(19));
@@ -55,10 +55,10 @@ fn expects_no_tag<'g, S: Look<u64> + Items<u64> + Cells<u64>>(
     ptr: Ptr<'g, u64>,
     guard: &'g Guard,
 ) -> Ptr<'g, u64>
-    requires seated { IsSeated (S.seat s.old) }
-    requires home { alone.cells_home cell.now ≡ (S.seat s.old).home.cells }
-    requires reader { reader_of guard.now ≡ (S.seat s.old).reader }
-    ensures seat { S.seat s.new ≡ S.seat s.old }
+    requires seated { IsSeated (S.caller s.old) }
+    requires home { alone.cells_home cell.now ≡ (S.caller s.old).home.cells }
+    requires reader { reader_of guard.now ≡ (S.caller s.old).reader }
+    ensures caller { S.caller s.new ≡ S.caller s.old }
 {
     let mut ptr = ptr;
     assert!(rt;
@@ -75,10 +75,10 @@ fn replaced<S: Look<u64> + Items<u64> + Cells<u64>>(
     s: &mut S,
     cell: AtomicShared<u64>,
 ) -> Shared<u64>
-    requires seated { IsSeated (S.seat s.old) }
-    requires home { common.cells_home cell ≡ (S.seat s.old).home.cells }
-    ensures seat { S.seat s.new ≡ S.seat s.old }
-    ensures home { common.slots_home result ≡ (S.seat s.new).home.slots }
+    requires seated { IsSeated (S.caller s.old) }
+    requires home { common.cells_home cell ≡ (S.caller s.old).home.cells }
+    ensures caller { S.caller s.new ≡ S.caller s.old }
+    ensures home { common.slots_home result ≡ (S.caller s.new).home.slots }
 {
     assert!(rt; shared::swapped(rt, s, &cell, 19, Tag::None) == (Some(17), Tag::Second));
     let owner = shared::into_shared(s, cell).expect(rt, "the cell holds an owner");
@@ -93,9 +93,9 @@ fn puts_out<S: Items<u64> + RawItems<u64> + RawCells<u64>>(
     cell: &AtomicRaw<u64>,
     value: u64,
 )
-    requires seated { IsSeated (S.seat s.old) }
-    requires home { raw_cells_home cell.now ≡ (S.seat s.old).home.cells }
-    ensures seat { S.seat s.new ≡ S.seat s.old }
+    requires seated { IsSeated (S.caller s.old) }
+    requires home { raw_cells_home cell.now ≡ (S.caller s.old).home.cells }
+    ensures caller { S.caller s.new ≡ S.caller s.old }
 {
     let owner = owned::made(rt, s, value);
     let out = owned::raw(s, owner);
@@ -108,10 +108,10 @@ fn takes_back<S: Look<u64> + Items<u64> + RawItems<u64> + RawCells<u64>>(
     cell: &AtomicRaw<u64>,
     guard: &Guard,
 ) -> (Option<u64>, Option<u64>)
-    requires seated { IsSeated (S.seat s.old) }
-    requires home { raw_cells_home cell.now ≡ (S.seat s.old).home.cells }
-    requires reader { reader_of guard.now ≡ (S.seat s.old).reader }
-    ensures seat { S.seat s.new ≡ S.seat s.old }
+    requires seated { IsSeated (S.caller s.old) }
+    requires home { raw_cells_home cell.now ≡ (S.caller s.old).home.cells }
+    requires reader { reader_of guard.now ≡ (S.caller s.old).reader }
+    ensures caller { S.caller s.new ≡ S.caller s.old }
 {
     let named = cell.load(guard, s);
     let shown = owned::see(s, named, guard);
@@ -121,9 +121,9 @@ fn takes_back<S: Look<u64> + Items<u64> + RawItems<u64> + RawCells<u64>>(
 
 /// A job waits until no guard of now is open.
 fn defers<S: Deferrals<u64, Job = Idle>>(rt: &impl Abort, s: &mut S, guard: &Guard)
-    requires seated { IsSeated (S.seat s.old) }
-    requires reader { reader_of guard.now ≡ (S.seat s.old).reader }
-    ensures seat { S.seat s.new ≡ S.seat s.old }
+    requires seated { IsSeated (S.caller s.old) }
+    requires reader { reader_of guard.now ≡ (S.caller s.old).reader }
+    ensures caller { S.caller s.new ≡ S.caller s.old }
 {
     match guard.defer_execute(Idle, s) {
         Ok(()) => {}
@@ -136,8 +136,8 @@ fn collects<S: Guards<u64> + Items<u64> + RawCells<u64> + Collectors<u64>>(
     rt: &impl Abort,
     s: &mut S,
 )
-    requires seated { IsSeated (S.seat s.old) }
-    ensures seat { S.seat s.new ≡ S.seat s.old }
+    requires seated { IsSeated (S.caller s.old) }
+    ensures caller { S.caller s.new ≡ S.caller s.old }
 {
     let collector = collectors::made(rt, s);
     collectors::collect(rt, s, &collector, 37);
@@ -183,9 +183,9 @@ fn a_guard_shows_what_its_owners_gave_up(rt: HostRuntime) {
 
 /// An owner of a value that holds the owner of one that holds an owner of a number.
 fn nested<S: Items<Value>>(rt: &impl Abort, s: &mut S) -> Shared<Value>
-    requires seated { IsSeated (S.seat s.old) }
-    ensures seat { S.seat s.new ≡ S.seat s.old }
-    ensures home { common.slots_home result ≡ (S.seat s.new).home.slots }
+    requires seated { IsSeated (S.caller s.old) }
+    ensures caller { S.caller s.new ≡ S.caller s.old }
+    ensures home { common.slots_home result ≡ (S.caller s.new).home.slots }
 {
     let inner = shared::made(rt, s, Value::Number(20));
     let middle = owned::made(rt, s, Value::Beside(inner));
@@ -210,8 +210,8 @@ fn innermost<S: Look<Value>>(s: &S, owner: &Shared<Value>) -> Option<u64>
 
 /// The next owner is given up where the value that holds it is reclaimed.
 fn nests<S: Look<Value> + Items<Value>>(rt: &impl Abort, s: &mut S)
-    requires seated { IsSeated (S.seat s.old) }
-    ensures seat { S.seat s.new ≡ S.seat s.old }
+    requires seated { IsSeated (S.caller s.old) }
+    ensures caller { S.caller s.new ≡ S.caller s.old }
 {
     let owner = nested(rt, s);
     assert!(rt; innermost(s, &owner) == Some(20));

@@ -14,8 +14,8 @@ use std::process::Abort;
 
 /// Values come back that were to lie in a cell.
 fn values_come_back<S: Cells<u64>>(rt: &impl Abort, s: &mut S)
-    requires seated { IsSeated (S.seat s.old) }
-    ensures seat { S.seat s.new ≡ S.seat s.old }
+    requires seated { IsSeated (S.caller s.old) }
+    ensures caller { S.caller s.new ≡ S.caller s.old }
 {
     match AtomicOwned::new(15, s) {
         Ok(_cell) => panic!(rt; "no cell is free"),
@@ -29,8 +29,8 @@ fn values_come_back<S: Cells<u64>>(rt: &impl Abort, s: &mut S)
 
 /// Owners come back that were to lie in a cell.
 fn owners_come_back<S: Look<u64> + Items<u64> + Cells<u64>>(rt: &impl Abort, s: &mut S)
-    requires seated { IsSeated (S.seat s.old) }
-    ensures seat { S.seat s.new ≡ S.seat s.old }
+    requires seated { IsSeated (S.caller s.old) }
+    ensures caller { S.caller s.new ≡ S.caller s.old }
 {
     let owner = owned::made(rt, s, 17);
     match AtomicOwned::from(owner, s) {
@@ -52,8 +52,8 @@ fn owners_come_back<S: Look<u64> + Items<u64> + Cells<u64>>(rt: &impl Abort, s: 
 
 /// Cells that hold nothing are refused.
 fn none_is_made<S: Cells<u64>>(rt: &impl Abort, s: &mut S)
-    requires seated { IsSeated (S.seat s.old) }
-    ensures seat { S.seat s.new ≡ S.seat s.old }
+    requires seated { IsSeated (S.caller s.old) }
+    ensures caller { S.caller s.new ≡ S.caller s.old }
 {
     match AtomicOwned::<u64>::null(s) {
         Ok(_cell) => panic!(rt; "no cell is free"),
@@ -67,8 +67,8 @@ fn none_is_made<S: Cells<u64>>(rt: &impl Abort, s: &mut S)
 
 /// Raw cells are refused.
 fn none_is_bare<S: RawCells<u64>>(rt: &impl Abort, s: &mut S)
-    requires seated { IsSeated (S.seat s.old) }
-    ensures seat { S.seat s.new ≡ S.seat s.old }
+    requires seated { IsSeated (S.caller s.old) }
+    ensures caller { S.caller s.new ≡ S.caller s.old }
 {
     match AtomicRaw::<u64>::null(s) {
         Ok(_cell) => panic!(rt; "no cell is free"),

@@ -1,6 +1,6 @@
 //! Values that hold owners and cells: what they hold goes three changes after them.
 ghost use Rattle.std.specs.Prelude.{◌≡◌};
-ghost use Rattle.sdd_space.specs.OwnerOrCell.{AreOf};
+ghost use Rattle.sdd_world_model.specs.OwnerOrCell.{AreOf};
 ghost use Rattle.sdd_space.specs.CallerId.{IsSeated};
 ghost use Rattle.sdd_world_tests.specs.Value.{holdings_of};
 
@@ -13,8 +13,8 @@ use std::process::Abort;
 
 /// A value with the owner of another is retired.
 fn nests<S: Items<Value>>(rt: &impl Abort, s: &mut S)
-    requires seated { IsSeated (S.seat s.old) }
-    ensures seat { S.seat s.new ≡ S.seat s.old }
+    requires seated { IsSeated (S.caller s.old) }
+    ensures caller { S.caller s.new ≡ S.caller s.old }
 {
     let inner = owned::made(rt, s, Value::Number(7));
     let outer = owned::made(rt, s, Value::Of(inner));
@@ -40,9 +40,9 @@ fn what_a_value_held_goes_three_changes_later(rt: HostRuntime) {
 
 /// A value that holds one item by each kind of owner and of cell that owns, and a raw cell.
 fn with_each<S: Items<Value> + Cells<Value> + RawCells<Value>>(rt: &impl Abort, s: &mut S) -> Value
-    requires seated { IsSeated (S.seat s.old) }
-    ensures seat { S.seat s.new ≡ S.seat s.old }
-    ensures home { AreOf (S.seat s.new).home (holdings_of result) }
+    requires seated { IsSeated (S.caller s.old) }
+    ensures caller { S.caller s.new ≡ S.caller s.old }
+    ensures home { AreOf (S.caller s.new).home (holdings_of result) }
 {
     let first = owned::made(rt, s, Value::Number(1));
     let second = shared::made(rt, s, Value::Number(2));
@@ -54,8 +54,8 @@ fn with_each<S: Items<Value> + Cells<Value> + RawCells<Value>>(rt: &impl Abort, 
 
 /// It is retired.
 fn holds_each<S: Items<Value> + Cells<Value> + RawCells<Value>>(rt: &impl Abort, s: &mut S)
-    requires seated { IsSeated (S.seat s.old) }
-    ensures seat { S.seat s.new ≡ S.seat s.old }
+    requires seated { IsSeated (S.caller s.old) }
+    ensures caller { S.caller s.new ≡ S.caller s.old }
 {
     let value = with_each(rt, s);
     let outer = owned::made(rt, s, value);

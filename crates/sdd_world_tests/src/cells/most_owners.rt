@@ -1,7 +1,7 @@
 //! As many owners of one item as there may be. Most of them come in one piece.
 ghost use Rattle.std.specs.Prelude.{◌≡◌, ◌≤◌};
 ghost use Rattle.sdd_space.specs.CallerId.{IsSeated};
-ghost use Rattle.sdd_space.specs.World.{IsPlaceOf};
+ghost use Rattle.sdd_world_model.specs.World.{IsPlaceOf};
 ghost use Rattle.sdd_world.specs.Place.{index_of};
 ghost use Rattle.sdd_space.specs.Shared.{slots_home, cells_home};
 
@@ -57,7 +57,7 @@ struct Crowd {
 
 impl Model for Crowd {
     ghost use Rattle.std.specs.Prelude.{◌≡◌};
-    ghost use Rattle.sdd_space.specs.World.{IsPlaceOf};
+    ghost use Rattle.sdd_world_model.specs.World.{IsPlaceOf};
     ghost use Rattle.sdd_space.specs.Shared.{slots_home, cells_home};
     ghost use Rattle.sdd_rights.specs.SharedRights.{home_of};
     ghost use Rattle.sdd_world.specs.Place.{index_of};
@@ -145,10 +145,10 @@ fn first_owners<S: Items<u64> + SharedItems<u64> + Cells<u64>>(
     rt: &impl Abort,
     s: &mut S,
 ) -> (Shared<u64>, AtomicShared<u64>)
-    requires seated { IsSeated (S.seat s.old) }
-    ensures seat { S.seat s.new ≡ S.seat s.old }
-    ensures owner { slots_home result.0 ≡ (S.seat s.new).home.slots }
-    ensures cell { cells_home result.1 ≡ (S.seat s.new).home.cells }
+    requires seated { IsSeated (S.caller s.old) }
+    ensures caller { S.caller s.new ≡ S.caller s.old }
+    ensures owner { slots_home result.0 ≡ (S.caller s.new).home.slots }
+    ensures cell { cells_home result.1 ≡ (S.caller s.new).home.cells }
 {
     let owner = shared::made(rt, s, 7);
     let other = shared::copied(rt, s, &owner);
@@ -166,11 +166,11 @@ fn all_go<S: Items<u64> + Cells<u64>>(
     cell: AtomicShared<u64>,
     last: Shared<u64>,
 )
-    requires seated { IsSeated (S.seat s.old) }
-    requires owner { slots_home owner ≡ (S.seat s.old).home.slots }
-    requires cell { cells_home cell ≡ (S.seat s.old).home.cells }
-    requires last { slots_home last ≡ (S.seat s.old).home.slots }
-    ensures seat { S.seat s.new ≡ S.seat s.old }
+    requires seated { IsSeated (S.caller s.old) }
+    requires owner { slots_home owner ≡ (S.caller s.old).home.slots }
+    requires cell { cells_home cell ≡ (S.caller s.old).home.cells }
+    requires last { slots_home last ≡ (S.caller s.old).home.slots }
+    ensures caller { S.caller s.new ≡ S.caller s.old }
 {
     assert!(rt; !shared::release(s, owner));
     shared::close_cell(s, cell);
@@ -184,10 +184,10 @@ fn refusals_of_two<S: Space<u64>>(
     owner: &Shared<u64>,
     cell: &AtomicShared<u64>,
 ) -> (Refusals, Option<Refusals>)
-    requires seated { IsSeated (S.seat s.old) }
-    requires owner { slots_home owner.now ≡ (S.seat s.old).home.slots }
-    requires cell { cells_home cell.now ≡ (S.seat s.old).home.cells }
-    ensures seat { S.seat s.new ≡ S.seat s.old }
+    requires seated { IsSeated (S.caller s.old) }
+    requires owner { slots_home owner.now ≡ (S.caller s.old).home.slots }
+    requires cell { cells_home cell.now ≡ (S.caller s.old).home.cells }
+    ensures caller { S.caller s.new ≡ S.caller s.old }
 {
     let first = refusals_of(rt, s, owner, cell);
     match owner.clone(s) {
@@ -207,10 +207,10 @@ fn refusals_of<S: Space<u64>>(
     owner: &Shared<u64>,
     cell: &AtomicShared<u64>,
 ) -> Refusals
-    requires seated { IsSeated (S.seat s.old) }
-    requires owner { slots_home owner.now ≡ (S.seat s.old).home.slots }
-    requires cell { cells_home cell.now ≡ (S.seat s.old).home.cells }
-    ensures seat { S.seat s.new ≡ S.seat s.old }
+    requires seated { IsSeated (S.caller s.old) }
+    requires owner { slots_home owner.now ≡ (S.caller s.old).home.slots }
+    requires cell { cells_home cell.now ≡ (S.caller s.old).home.cells }
+    ensures caller { S.caller s.new ≡ S.caller s.old }
 {
     let guard = opened(rt, s);
     let ptr = owner.get_guarded_ptr(&guard, s);

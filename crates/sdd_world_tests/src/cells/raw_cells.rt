@@ -17,9 +17,9 @@ fn compares<S: Guards<u64> + RawCells<u64>>(
     cell: &AtomicRaw<u64>,
     ptr: RawPtr<u64>,
 )
-    requires seated { IsSeated (S.seat s.old) }
-    requires home { cells_home cell.now ≡ (S.seat s.old).home.cells }
-    ensures seat { S.seat s.new ≡ S.seat s.old }
+    requires seated { IsSeated (S.caller s.old) }
+    requires home { cells_home cell.now ≡ (S.caller s.old).home.cells }
+    ensures caller { S.caller s.new ≡ S.caller s.old }
 {
     assert!(rt; raw::tag_if(rt, s, cell, Tag::None, Tag::Both));
     assert!(rt; !raw::tag_if(rt, s, cell, Tag::None, Tag::First));
@@ -36,9 +36,9 @@ fn is_given<S: Guards<u64> + RawCells<u64>>(
     cell: &AtomicRaw<u64>,
     ptr: RawPtr<u64>,
 )
-    requires seated { IsSeated (S.seat s.old) }
-    requires home { cells_home cell.now ≡ (S.seat s.old).home.cells }
-    ensures seat { S.seat s.new ≡ S.seat s.old }
+    requires seated { IsSeated (S.caller s.old) }
+    requires home { cells_home cell.now ≡ (S.caller s.old).home.cells }
+    ensures caller { S.caller s.new ≡ S.caller s.old }
 {
     assert!(rt; raw::held(rt, s, cell).is_null());
     assert!(rt; raw::updated(rt, s, cell, ptr) == Err(RawPtr::null()));
@@ -50,8 +50,8 @@ fn is_given<S: Guards<u64> + RawCells<u64>>(
 
 /// A new cell without a pointer has none.
 fn has_none<S: RawCells<u64>>(rt: &impl Abort, s: &mut S)
-    requires seated { IsSeated (S.seat s.old) }
-    ensures seat { S.seat s.new ≡ S.seat s.old }
+    requires seated { IsSeated (S.caller s.old) }
+    ensures caller { S.caller s.new ≡ S.caller s.old }
 {
     let null = AtomicRaw::<u64>::null(s).expect(rt, "a cell is free");
     assert!(rt; null.is_null(s));

@@ -1,4 +1,4 @@
-//! The steps that the examples are made of, over any space. Of the space they say only that its seat stays.
+//! The steps that the examples are made of, over any space. Of the space they say only that its caller stays.
 ghost use Rattle.std.specs.Prelude.{◌≡◌};
 ghost use Rattle.sdd_space.specs.Guard.{reader_of};
 ghost use Rattle.sdd_space.specs.CallerId.{IsSeated};
@@ -17,26 +17,26 @@ pub type Read = (Option<u64>, Option<u64>, Tag);
 
 /// One more guard.
 pub fn opened<T: Item<T>, S: Guards<T>>(rt: &impl Abort, s: &mut S) -> Guard
-    requires seated { IsSeated (S.seat s.old) }
-    ensures seat { S.seat s.new ≡ S.seat s.old }
-    ensures reader { reader_of result ≡ (S.seat s.new).reader }
+    requires seated { IsSeated (S.caller s.old) }
+    ensures caller { S.caller s.new ≡ S.caller s.old }
+    ensures reader { reader_of result ≡ (S.caller s.new).reader }
 {
     Guard::new(s).expect(rt, "a guard may be opened")
 }
 
 /// Closes a guard.
 pub fn close<T: Item<T>, S: Guards<T>>(s: &mut S, guard: Guard)
-    requires seated { IsSeated (S.seat s.old) }
-    requires reader { reader_of guard ≡ (S.seat s.old).reader }
-    ensures seat { S.seat s.new ≡ S.seat s.old }
+    requires seated { IsSeated (S.caller s.old) }
+    requires reader { reader_of guard ≡ (S.caller s.old).reader }
+    ensures caller { S.caller s.new ≡ S.caller s.old }
 {
     guard.close(s);
 }
 
 /// Opens, accelerates and closes a guard, and tells which epoch it showed, and whether something might wait then.
 pub fn accelerated<T: Item<T>, S: Guards<T>>(rt: &impl Abort, s: &mut S) -> (u8, bool)
-    requires seated { IsSeated (S.seat s.old) }
-    ensures seat { S.seat s.new ≡ S.seat s.old }
+    requires seated { IsSeated (S.caller s.old) }
+    ensures caller { S.caller s.new ≡ S.caller s.old }
 {
     let guard = opened(rt, s);
     let epoch = u8::from(guard.epoch(s));
@@ -48,8 +48,8 @@ pub fn accelerated<T: Item<T>, S: Guards<T>>(rt: &impl Abort, s: &mut S) -> (u8,
 
 /// The next accelerated guards show these epochs, and whether something might wait.
 pub fn shows<S: Guards<u64>>(rt: &impl Abort, s: &mut S, table: &[(u8, bool)])
-    requires seated { IsSeated (S.seat s.old) }
-    ensures seat { S.seat s.new ≡ S.seat s.old }
+    requires seated { IsSeated (S.caller s.old) }
+    ensures caller { S.caller s.new ≡ S.caller s.old }
 {
     for (epoch, garbage) in table {
         assert!(rt; accelerated(rt, s) == (*epoch, *garbage));

@@ -1,7 +1,7 @@
 //! Programs of `sdd_examples` over a queue and over a cell, run once.
 ghost use Rattle.std.specs.Prelude.{◌≡◌, ℕ};
 ghost use Rattle.sdd_space.specs.Owned.{cells_home};
-ghost use Rattle.sdd_space.specs.World.{AnyGuardOpen, IsPlaceOf};
+ghost use Rattle.sdd_world_model.specs.World.{AnyGuardOpen, IsPlaceOf};
 ghost use Rattle.sdd_world.specs.Place.{index_of};
 ghost use Rattle.sdd_world_tests.specs.LeavesTime.{LeavesTime};
 

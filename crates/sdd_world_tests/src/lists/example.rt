@@ -36,8 +36,8 @@ impl Lists for Turn<'_, Entry> {}
 /// What one participant does with lists of numbers. It asserts what it is answered.
 pub trait Example {
     fn run<R: Abort, S: Lists>(&self, rt: &R, s: &mut S)
-        requires seated { IsSeated (S.seat s.old) }
-        ensures seat { S.seat s.new ≡ S.seat s.old };
+        requires seated { IsSeated (S.caller s.old) }
+        ensures caller { S.caller s.new ≡ S.caller s.old };
 }
 
 /// A world, and the participant that makes the calls.
@@ -47,7 +47,7 @@ pub struct Setting<T: Item<T>> {
 }
 
 impl<T: Item<T>> Model for Setting<T> {
-    ghost use Rattle.sdd_space.specs.World.{IsPlaceOf};
+    ghost use Rattle.sdd_world_model.specs.World.{IsPlaceOf};
     ghost use Rattle.sdd_world.specs.Place.{index_of};
 
     ghost Value = { Unit {0} };

@@ -23,9 +23,9 @@ impl Railway for Turn<'_, Station> {}
 
 /// A station that is in no line.
 fn station<S: Railway>(rt: &impl Abort, s: &mut S, number: u64) -> Station
-    requires seated { IsSeated (S.seat s.old) }
-    ensures seat { S.seat s.new ≡ S.seat s.old }
-    ensures home { link_home_of result ≡ (S.seat s.new).home.cells }
+    requires seated { IsSeated (S.caller s.old) }
+    ensures caller { S.caller s.new ≡ S.caller s.old }
+    ensures home { link_home_of result ≡ (S.caller s.new).home.cells }
 {
     let next = AtomicShared::null(s).expect(rt, "a cell is free");
     Station { number, next }
@@ -33,9 +33,9 @@ fn station<S: Railway>(rt: &impl Abort, s: &mut S, number: u64) -> Station
 
 /// An owner of such a station.
 fn built<S: Railway>(rt: &impl Abort, s: &mut S, number: u64) -> Shared<Station>
-    requires seated { IsSeated (S.seat s.old) }
-    ensures seat { S.seat s.new ≡ S.seat s.old }
-    ensures home { slots_home result ≡ (S.seat s.new).home.slots }
+    requires seated { IsSeated (S.caller s.old) }
+    ensures caller { S.caller s.new ≡ S.caller s.old }
+    ensures home { slots_home result ≡ (S.caller s.new).home.slots }
 {
     let station = station(rt, s, number);
     match Shared::new(station, s) {
@@ -46,9 +46,9 @@ fn built<S: Railway>(rt: &impl Abort, s: &mut S, number: u64) -> Shared<Station>
 
 /// Ends a line: what its link holds is given up.
 fn torn_down<S: Railway>(s: &mut S, head: Station)
-    requires seated { IsSeated (S.seat s.old) }
-    requires home { link_home_of head ≡ (S.seat s.old).home.cells }
-    ensures seat { S.seat s.new ≡ S.seat s.old }
+    requires seated { IsSeated (S.caller s.old) }
+    requires home { link_home_of head ≡ (S.caller s.old).home.cells }
+    ensures caller { S.caller s.new ≡ S.caller s.old }
 {
     let Station { number: _, next } = head;
     next.close(s);
@@ -56,9 +56,9 @@ fn torn_down<S: Railway>(s: &mut S, head: Station)
 
 /// Whether a station is clear, marked and deleted.
 fn shown<S: Railway>(s: &mut S, station: &Station) -> (bool, bool, bool)
-    requires seated { IsSeated (S.seat s.old) }
-    requires home { link_home_of station.now ≡ (S.seat s.old).home.cells }
-    ensures seat { S.seat s.new ≡ S.seat s.old }
+    requires seated { IsSeated (S.caller s.old) }
+    requires home { link_home_of station.now ≡ (S.caller s.old).home.cells }
+    ensures caller { S.caller s.new ≡ S.caller s.old }
 {
     (
         station.is_clear(s),
@@ -69,9 +69,9 @@ fn shown<S: Railway>(s: &mut S, station: &Station) -> (bool, bool, bool)
 
 /// Marks a station, takes the mark away and deletes it, and tells whether each changed it.
 fn changed<S: Railway>(rt: &impl Abort, s: &mut S, station: &Station) -> (bool, bool, bool)
-    requires seated { IsSeated (S.seat s.old) }
-    requires home { link_home_of station.now ≡ (S.seat s.old).home.cells }
-    ensures seat { S.seat s.new ≡ S.seat s.old }
+    requires seated { IsSeated (S.caller s.old) }
+    requires home { link_home_of station.now ≡ (S.caller s.old).home.cells }
+    ensures caller { S.caller s.new ≡ S.caller s.old }
 {
     let marked = station.mark(s).expect(rt, "nobody else changes it");
     let unmarked = station.unmark(s).expect(rt, "nobody else changes it");
@@ -87,10 +87,10 @@ fn extended<S: Railway>(
     number: u64,
     guard: &Guard,
 ) -> (Option<u64>, Option<u64>)
-    requires seated { IsSeated (S.seat s.old) }
-    requires home { link_home_of station.now ≡ (S.seat s.old).home.cells }
-    requires reader { reader_of guard.now ≡ (S.seat s.old).reader }
-    ensures seat { S.seat s.new ≡ S.seat s.old }
+    requires seated { IsSeated (S.caller s.old) }
+    requires home { link_home_of station.now ≡ (S.caller s.old).home.cells }
+    requires reader { reader_of guard.now ≡ (S.caller s.old).reader }
+    ensures caller { S.caller s.new ≡ S.caller s.old }
 {
     let owner = built(rt, s, number);
     match station.push_back(owner, true, guard, s) {
@@ -110,10 +110,10 @@ fn next_number<S: Railway>(
     station: &Station,
     guard: &Guard,
 ) -> Option<u64>
-    requires seated { IsSeated (S.seat s.old) }
-    requires home { link_home_of station.now ≡ (S.seat s.old).home.cells }
-    requires reader { reader_of guard.now ≡ (S.seat s.old).reader }
-    ensures seat { S.seat s.new ≡ S.seat s.old }
+    requires seated { IsSeated (S.caller s.old) }
+    requires home { link_home_of station.now ≡ (S.caller s.old).home.cells }
+    requires reader { reader_of guard.now ≡ (S.caller s.old).reader }
+    ensures caller { S.caller s.new ≡ S.caller s.old }
 {
     match station.next_ptr(guard, s) {
         Ok(next) => match next.as_ref(&*s) {
@@ -131,10 +131,10 @@ fn next_owned<S: Railway>(
     station: &Station,
     guard: &Guard,
 ) -> Option<u64>
-    requires seated { IsSeated (S.seat s.old) }
-    requires home { link_home_of station.now ≡ (S.seat s.old).home.cells }
-    requires reader { reader_of guard.now ≡ (S.seat s.old).reader }
-    ensures seat { S.seat s.new ≡ S.seat s.old }
+    requires seated { IsSeated (S.caller s.old) }
+    requires home { link_home_of station.now ≡ (S.caller s.old).home.cells }
+    requires reader { reader_of guard.now ≡ (S.caller s.old).reader }
+    ensures caller { S.caller s.new ≡ S.caller s.old }
 {
     match station.next_shared(guard, s) {
         Ok(Some(owner)) => {
@@ -149,8 +149,8 @@ fn next_owned<S: Railway>(
 
 /// A line of three stations, the first of which is in no slot.
 fn runs<S: Railway>(rt: &impl Abort, s: &mut S)
-    requires seated { IsSeated (S.seat s.old) }
-    ensures seat { S.seat s.new ≡ S.seat s.old }
+    requires seated { IsSeated (S.caller s.old) }
+    ensures caller { S.caller s.new ≡ S.caller s.old }
 {
     let guard = Guard::new(s).expect(rt, "a guard may be opened");
     let head = station(rt, s, 0);

@@ -49,8 +49,8 @@ fn rounds<R: Abort + AllocGlobal>(rt: &R, work: Work, turns: u64, sum: u64) {
 }
 
 fn worked<S: Lists>(rt: &impl Abort, s: &mut S, work: Work, turns: u64) -> u64
-    requires { IsSeated (S.seat s.old) }
-    ensures { S.seat s.new ≡ S.seat s.old }
+    requires { IsSeated (S.caller s.old) }
+    ensures { S.caller s.new ≡ S.caller s.old }
 {
     match work {
         Work::Queue => queues(rt, s, turns),
@@ -60,18 +60,18 @@ fn worked<S: Lists>(rt: &impl Abort, s: &mut S, work: Work, turns: u64) -> u64
 }
 
 fn opened<S: Lists>(rt: &impl Abort, s: &mut S) -> Guard
-    requires seated { IsSeated (S.seat s.old) }
-    ensures seat { S.seat s.new ≡ S.seat s.old }
-    ensures reader { reader_of result ≡ (S.seat s.new).reader }
+    requires seated { IsSeated (S.caller s.old) }
+    ensures caller { S.caller s.new ≡ S.caller s.old }
+    ensures reader { reader_of result ≡ (S.caller s.new).reader }
 {
     Guard::new(s).expect(rt, "a guard may be opened")
 }
 
 /// Lets go of an entry that was pushed.
 fn kept<S: Lists>(rt: &impl Abort, s: &mut S, pushed: Result<Shared<Entry>, (u64, Refused)>)
-    requires seated { IsSeated (S.seat s.old) }
-    requires home { IfOk pushed (λ owner. slots_home owner ≡ (S.seat s.old).home.slots) }
-    ensures { S.seat s.new ≡ S.seat s.old }
+    requires seated { IsSeated (S.caller s.old) }
+    requires home { IfOk pushed (λ owner. slots_home owner ≡ (S.caller s.old).home.slots) }
+    ensures { S.caller s.new ≡ S.caller s.old }
 {
     match pushed {
         Ok(owner) => {
@@ -87,9 +87,9 @@ fn number<S: Lists>(
     s: &mut S,
     popped: Result<Option<Shared<Entry>>, Refused>,
 ) -> u64
-    requires seated { IsSeated (S.seat s.old) }
-    requires home { IfOk popped (IsOfSlots (S.seat s.old).home.slots) }
-    ensures { S.seat s.new ≡ S.seat s.old }
+    requires seated { IsSeated (S.caller s.old) }
+    requires home { IfOk popped (IsOfSlots (S.caller s.old).home.slots) }
+    ensures { S.caller s.new ≡ S.caller s.old }
 {
     match popped {
         Ok(Some(owner)) => {
@@ -104,9 +104,9 @@ fn number<S: Lists>(
 
 /// Pushes a number, and pops one, under a guard.
 fn through_queue<S: Lists>(rt: &impl Abort, s: &mut S, queue: &Queue<u64>, value: u64) -> u64
-    requires seated { IsSeated (S.seat s.old) }
-    requires home { AreOfCells (S.seat s.old).home.cells queue.now }
-    ensures { S.seat s.new ≡ S.seat s.old }
+    requires seated { IsSeated (S.caller s.old) }
+    requires home { AreOfCells (S.caller s.old).home.cells queue.now }
+    ensures { S.caller s.new ≡ S.caller s.old }
 {
     let guard = opened(rt, s);
     let pushed = queue.push(value, &guard, s);
@@ -118,8 +118,8 @@ fn through_queue<S: Lists>(rt: &impl Abort, s: &mut S, queue: &Queue<u64>, value
 }
 
 fn queues<S: Lists>(rt: &impl Abort, s: &mut S, turns: u64) -> u64
-    requires { IsSeated (S.seat s.old) }
-    ensures { S.seat s.new ≡ S.seat s.old }
+    requires { IsSeated (S.caller s.old) }
+    ensures { S.caller s.new ≡ S.caller s.old }
 {
     let queue = Queue::new(s).expect(rt, "two cells are free");
     let mut sum = 0u64;
@@ -134,9 +134,9 @@ fn queues<S: Lists>(rt: &impl Abort, s: &mut S, turns: u64) -> u64
 
 /// The same with a stack.
 fn through_stack<S: Lists>(rt: &impl Abort, s: &mut S, stack: &Stack<u64>, value: u64) -> u64
-    requires seated { IsSeated (S.seat s.old) }
-    requires home { home_in stack.now ≡ (S.seat s.old).home.cells }
-    ensures { S.seat s.new ≡ S.seat s.old }
+    requires seated { IsSeated (S.caller s.old) }
+    requires home { home_in stack.now ≡ (S.caller s.old).home.cells }
+    ensures { S.caller s.new ≡ S.caller s.old }
 {
     let guard = opened(rt, s);
     let pushed = stack.push(value, &guard, s);
@@ -148,8 +148,8 @@ fn through_stack<S: Lists>(rt: &impl Abort, s: &mut S, stack: &Stack<u64>, value
 }
 
 fn stacks<S: Lists>(rt: &impl Abort, s: &mut S, turns: u64) -> u64
-    requires { IsSeated (S.seat s.old) }
-    ensures { S.seat s.new ≡ S.seat s.old }
+    requires { IsSeated (S.caller s.old) }
+    ensures { S.caller s.new ≡ S.caller s.old }
 {
     let stack = Stack::new(s).expect(rt, "a cell is free");
     let mut sum = 0u64;
@@ -164,10 +164,10 @@ fn stacks<S: Lists>(rt: &impl Abort, s: &mut S, turns: u64) -> u64
 
 /// Pushes the numbers below this one onto a queue.
 fn fill<S: Lists>(rt: &impl Abort, s: &mut S, queue: &Queue<u64>, guard: &Guard, numbers: u64)
-    requires seated { IsSeated (S.seat s.old) }
-    requires home { AreOfCells (S.seat s.old).home.cells queue.now }
-    requires reader { reader_of guard.now ≡ (S.seat s.old).reader }
-    ensures { S.seat s.new ≡ S.seat s.old }
+    requires seated { IsSeated (S.caller s.old) }
+    requires home { AreOfCells (S.caller s.old).home.cells queue.now }
+    requires reader { reader_of guard.now ≡ (S.caller s.old).reader }
+    ensures { S.caller s.new ≡ S.caller s.old }
 {
     for number in 0..numbers {
         let pushed = queue.push(number, guard, s);
@@ -177,10 +177,10 @@ fn fill<S: Lists>(rt: &impl Abort, s: &mut S, queue: &Queue<u64>, guard: &Guard,
 
 /// The sum of what a walk along a queue shows.
 fn sum_walked<S: Lists>(s: &mut S, queue: &Queue<u64>, guard: &Guard) -> u64
-    requires seated { IsSeated (S.seat s.old) }
-    requires home { AreOfCells (S.seat s.old).home.cells queue.now }
-    requires reader { reader_of guard.now ≡ (S.seat s.old).reader }
-    ensures { S.seat s.new ≡ S.seat s.old }
+    requires seated { IsSeated (S.caller s.old) }
+    requires home { AreOfCells (S.caller s.old).home.cells queue.now }
+    requires reader { reader_of guard.now ≡ (S.caller s.old).reader }
+    ensures { S.caller s.new ≡ S.caller s.old }
 {
     let mut sum = 0u64;
     let mut walk = queue.walk(guard, s);
@@ -192,7 +192,7 @@ fn sum_walked<S: Lists>(s: &mut S, queue: &Queue<u64>, guard: &Guard) -> u64
 
 /// The sum of what an iterator over a queue gives.
 fn sum_given<S: Lists>(s: &S, queue: &Queue<u64>, guard: &Guard) -> u64
-    requires { AreOfCells (S.seat s.now).home.cells queue.now }
+    requires { AreOfCells (S.caller s.now).home.cells queue.now }
 {
     let mut sum = 0u64;
     for value in queue.iter(guard, s) {
@@ -202,8 +202,8 @@ fn sum_given<S: Lists>(s: &S, queue: &Queue<u64>, guard: &Guard) -> u64
 }
 
 fn walks<S: Lists>(rt: &impl Abort, s: &mut S, turns: u64) -> u64
-    requires { IsSeated (S.seat s.old) }
-    ensures { S.seat s.new ≡ S.seat s.old }
+    requires { IsSeated (S.caller s.old) }
+    ensures { S.caller s.new ≡ S.caller s.old }
 {
     let queue = Queue::new(s).expect(rt, "two cells are free");
     let guard = opened(rt, s);

@@ -1,4 +1,4 @@
-//! The steps that the examples are made of. Of the space they say only that its seat stays.
+//! The steps that the examples are made of. Of the space they say only that its caller stays.
 ghost use Rattle.std.specs.Prelude.{◌≡◌};
 ghost use Rattle.sdd_space.specs.Guard.{reader_of};
 ghost use Rattle.sdd_space.specs.CallerId.{IsSeated};
@@ -14,36 +14,36 @@ use std::process::Abort;
 
 /// One more guard.
 pub fn opened<S: Guards<Entry>>(rt: &impl Abort, s: &mut S) -> Guard
-    requires seated { IsSeated (S.seat s.old) }
-    ensures seat { S.seat s.new ≡ S.seat s.old }
-    ensures reader { reader_of result ≡ (S.seat s.new).reader }
+    requires seated { IsSeated (S.caller s.old) }
+    ensures caller { S.caller s.new ≡ S.caller s.old }
+    ensures reader { reader_of result ≡ (S.caller s.new).reader }
 {
     Guard::new(s).expect(rt, "a guard may be opened")
 }
 
 /// Closes a guard.
 pub fn close<S: Guards<Entry>>(s: &mut S, guard: Guard)
-    requires seated { IsSeated (S.seat s.old) }
-    requires reader { reader_of guard ≡ (S.seat s.old).reader }
-    ensures seat { S.seat s.new ≡ S.seat s.old }
+    requires seated { IsSeated (S.caller s.old) }
+    requires reader { reader_of guard ≡ (S.caller s.old).reader }
+    ensures caller { S.caller s.new ≡ S.caller s.old }
 {
     guard.close(s);
 }
 
 /// Gives an owner of an entry up, and tells whether it was the last.
 pub fn release<S: Items<Entry>>(s: &mut S, owner: Shared<Entry>) -> bool
-    requires seated { IsSeated (S.seat s.old) }
-    requires home { slots_home owner ≡ (S.seat s.old).home.slots }
-    ensures seat { S.seat s.new ≡ S.seat s.old }
+    requires seated { IsSeated (S.caller s.old) }
+    requires home { slots_home owner ≡ (S.caller s.old).home.slots }
+    ensures caller { S.caller s.new ≡ S.caller s.old }
 {
     owner.release(s)
 }
 
 /// Gives an owner of an entry up, and tells the entry's number.
 pub fn released<S: Lists>(s: &mut S, owner: Shared<Entry>) -> u64
-    requires seated { IsSeated (S.seat s.old) }
-    requires home { slots_home owner ≡ (S.seat s.old).home.slots }
-    ensures seat { S.seat s.new ≡ S.seat s.old }
+    requires seated { IsSeated (S.caller s.old) }
+    requires home { slots_home owner ≡ (S.caller s.old).home.slots }
+    ensures caller { S.caller s.new ≡ S.caller s.old }
 {
     let number = *owner.get(&*s).as_ref();
     let _ = release(s, owner);

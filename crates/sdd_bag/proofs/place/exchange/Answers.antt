@@ -2,7 +2,7 @@ use Rattle.std.proofs.Common.{map, ap, ◌∙◌, sym, Option}
 use Rattle.core.specs.Mem.{manually_drop_value}
 use Rattle.sdd_bag.specs.KeptValues.{kept_as, inserted, without_at}
 use Rattle.sdd_bag.specs.Storage.{kept_place, with_value_at}
-use Rattle.sdd_bag.proofs.Kept.{name-there, value-there, put-back, same-there}
+use Rattle.sdd_bag.proofs.InsertedKeys.{name-there, value-there, put-back, same-there}
 use Rattle.sdd_bag.proofs.place.exchange.Goals as goal
 
 pub replace-was-requires : goal.replace-was-requires

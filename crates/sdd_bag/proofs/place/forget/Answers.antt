@@ -1,7 +1,7 @@
 use Rattle.std.proofs.Common.{◌+◌, List, map, drop, ap, ◌∙◌, arith, zero}
 use Rattle.sdd_bag.specs.KeptValues.{without_at}
 use Rattle.sdd_bag.specs.Storage.{kept_place}
-use Rattle.sdd_bag.proofs.Kept.{Key, drop-next, map-drop}
+use Rattle.sdd_bag.proofs.InsertedKeys.{Key, drop-next, map-drop}
 use Rattle.sdd_bag.proofs.place.forget.Goals as goal
 
 pub loop-done-preserved : goal.loop-done-preserved

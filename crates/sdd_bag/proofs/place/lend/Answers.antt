@@ -3,7 +3,7 @@ use Rattle.std.proofs.lemmas.List.{length-map}
 use Rattle.sdd_bag.specs.KeyedPlaces.{PlaceName}
 use Rattle.sdd_bag.specs.Storage.{KeptPlace, kept_place, names_of, value_at, with_value_at}
 use Rattle.sdd_bag.proofs.Changing.{with-twice}
-use Rattle.sdd_bag.proofs.Kept.{not-there}
+use Rattle.sdd_bag.proofs.InsertedKeys.{not-there}
 use Rattle.sdd_bag.proofs.Prefixes.{as-long, with-none}
 use Rattle.sdd_bag.proofs.Values.{names-same}
 use Rattle.sdd_bag.proofs.place.lend.Goals as goal

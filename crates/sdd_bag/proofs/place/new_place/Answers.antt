@@ -2,7 +2,7 @@ use Rattle.std.proofs.Common.{◌≡◌, map, ap, ◌∙◌}
 use Rattle.core.specs.Mem.{manually_drop_value}
 use Rattle.sdd_bag.specs.KeptValues.{kept_as, inserted}
 use Rattle.sdd_bag.specs.Storage.{KeptPlace, kept_place}
-use Rattle.sdd_bag.proofs.Kept.{map-inserted}
+use Rattle.sdd_bag.proofs.InsertedKeys.{map-inserted}
 use Rattle.sdd_bag.proofs.place.new_place.Goals as goal
 
 pub returns : goal.returns

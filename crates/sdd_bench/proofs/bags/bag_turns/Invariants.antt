@@ -4,6 +4,6 @@ use Rattle.sdd_bench.proofs.bags.bag_turns.Given as goal
 
 abbrev pub invariant-loop-turn : goal.invariant-loop-turn
 invariant-loop-turn g l = record {
-  seat : g.S.Caller.seat l.space ≡ g.S.Caller.seat l.fn.space;
-  there : IsThere (λ b. Some b) 32 (g.S.Caller.seat l.space) (g.S.Caller.world l.space) l.bag;
+  caller : g.S.Caller.caller l.space ≡ g.S.Caller.caller l.fn.space;
+  there : IsThere (λ b. Some b) 32 (g.S.Caller.caller l.space) (g.S.Caller.world l.space) l.bag;
 }

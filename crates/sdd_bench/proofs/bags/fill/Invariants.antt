@@ -4,6 +4,6 @@ use Rattle.sdd_bench.proofs.bags.fill.Given as goal
 
 abbrev pub invariant-loop-number : goal.invariant-loop-number
 invariant-loop-number g l = record {
-  seat : g.S.Caller.seat l.space ≡ g.S.Caller.seat l.fn.space;
-  there : IsThere (λ b. Some b) 32 (g.S.Caller.seat l.space) (g.S.Caller.world l.space) l.bag;
+  caller : g.S.Caller.caller l.space ≡ g.S.Caller.caller l.fn.space;
+  there : IsThere (λ b. Some b) 32 (g.S.Caller.caller l.space) (g.S.Caller.world l.space) l.bag;
 }

@@ -4,6 +4,6 @@ use Rattle.sdd_bench.proofs.configuration.publish.Goals as goal
 
 pub returns : goal.returns
 returns c = (
-  c.close.ensures.seat ∙ (c.replace-done.ensures.0 ∙ c.in_ok-guard.ensures.seat),
+  c.close.ensures.caller ∙ (c.replace-done.ensures.0 ∙ c.in_ok-guard.ensures.caller),
   guard-over _ _ _ _ c.in_ok-guard.ensures.own.1 c.replace-done.ensures.1 c.close.ensures.own,
 )

@@ -11,7 +11,7 @@ pub loop-number-preserved : goal.loop-number-preserved
 loop-number-preserved g c =
     let own = g.S.Caller.own in
     record {
-      seat = c.kept.ensures.seat ∙ c.push-pushed.ensures.unmoved.seat ∙ c.loop-number.invariant.seat;
+      caller = c.kept.ensures.caller ∙ c.push-pushed.ensures.unmoved.caller ∙ c.loop-number.invariant.caller;
       guards =
           c.kept.ensures.guards ∙ more-guards (own c.loop-number.space) (own c.push-pushed.new.s) c.push-pushed.ensures.own
           ∙ c.loop-number.invariant.guards;

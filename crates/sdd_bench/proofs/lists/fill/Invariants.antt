@@ -3,6 +3,6 @@ use Rattle.sdd_bench.proofs.lists.fill.Given as goal
 
 abbrev pub invariant-loop-number : goal.invariant-loop-number
 invariant-loop-number g l = record {
-  seat : g.S.Caller.seat l.space ≡ g.S.Caller.seat l.fn.space;
+  caller : g.S.Caller.caller l.space ≡ g.S.Caller.caller l.fn.space;
   guards : (g.S.Caller.own l.space).guards ≡ (g.S.Caller.own l.fn.space).guards;
 }

@@ -9,9 +9,9 @@ returns-in_err-queue-clause-guards g c =
 
 pub close_queue-requires-clause-may : goal.close_queue-requires-clause-may
 close_queue-requires-clause-may g c =
-    let own = g.S.Caller.own in let seat = g.S.Caller.seat in
-    nests-on (seat c.args.space.now) (seat c.queue_turns-sum.new.space) (own c.args.space.now) (own c.queue_turns-sum.new.space)
-    (c.queue_turns-sum.ensures.seat ∙ c.in_ok-queue.ensures.unmoved.seat)
+    let own = g.S.Caller.own in let caller = g.S.Caller.caller in
+    nests-on (caller c.args.space.now) (caller c.queue_turns-sum.new.space) (own c.args.space.now) (own c.queue_turns-sum.new.space)
+    (c.queue_turns-sum.ensures.caller ∙ c.in_ok-queue.ensures.unmoved.caller)
     (c.queue_turns-sum.ensures.guards ∙ more-guards (own c.args.space.now) (own c.new.new.s) c.in_ok-queue.ensures.own) c.requires.may
 
 pub returns-clause-guards : goal.returns-clause-guards

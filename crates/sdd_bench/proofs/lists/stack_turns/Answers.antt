@@ -15,7 +15,7 @@ pub loop-turn-preserved : goal.loop-turn-preserved
 loop-turn-preserved g c =
     let own = g.S.Caller.own in
     record {
-      seat = c.close.ensures.seat ∙ c.through_stack-number.ensures.seat ∙ c.in_ok-guard.ensures.seat ∙ c.loop-turn.invariant.seat;
+      caller = c.close.ensures.caller ∙ c.through_stack-number.ensures.caller ∙ c.in_ok-guard.ensures.caller ∙ c.loop-turn.invariant.caller;
       guards =
           guard-over (own c.loop-turn.space) (own c.new.new.s) (own c.through_stack-number.new.space) (own c.close.new.s) c.in_ok-guard.ensures.own.1
           c.through_stack-number.ensures.guards c.close.ensures.own ∙ c.loop-turn.invariant.guards;

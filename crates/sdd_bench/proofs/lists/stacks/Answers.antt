@@ -8,9 +8,9 @@ returns-in_err-stack-clause-guards g c = as-many c.in_err-stack.ensures.undistur
 
 pub close_stack-requires-clause-may : goal.close_stack-requires-clause-may
 close_stack-requires-clause-may g c =
-    let own = g.S.Caller.own in let seat = g.S.Caller.seat in
-    nests-on (seat c.args.space.now) (seat c.stack_turns-sum.new.space) (own c.args.space.now) (own c.stack_turns-sum.new.space)
-    (c.stack_turns-sum.ensures.seat ∙ c.in_ok-stack.ensures.undisturbed.seat)
+    let own = g.S.Caller.own in let caller = g.S.Caller.caller in
+    nests-on (caller c.args.space.now) (caller c.stack_turns-sum.new.space) (own c.args.space.now) (own c.stack_turns-sum.new.space)
+    (c.stack_turns-sum.ensures.caller ∙ c.in_ok-stack.ensures.undisturbed.caller)
     (c.stack_turns-sum.ensures.guards ∙ as-many c.in_ok-stack.ensures.undisturbed.own) c.requires.may
 
 pub returns-clause-guards : goal.returns-clause-guards

@@ -4,9 +4,9 @@ use Rattle.sdd_bench.proofs.lists.sum_walked.Given as goal
 
 abbrev pub invariant-loop-value : goal.invariant-loop-value
 invariant-loop-value g l = record {
-  seat : g.S.Caller.seat l.space ≡ g.S.Caller.seat l.fn.space;
+  caller : g.S.Caller.caller l.space ≡ g.S.Caller.caller l.fn.space;
   guards : (g.S.Caller.own l.space).guards ≡ (g.S.Caller.own l.fn.space).guards;
-  walk : IsWalkOf (g.S.Caller.seat l.fn.space).home.cells l.walk;
+  walk : IsWalkOf (g.S.Caller.caller l.fn.space).home.cells l.walk;
 }
 
 abbrev pub decreases-loop-value : goal.decreases-loop-value

@@ -1,11 +1,11 @@
 use Rattle.std.proofs.Common.{◌≡◌}
 use Rattle.sdd_space.specs.Owned.{slots_home}
-use Rattle.sdd_domain.specs.Space.{seat_of}
+use Rattle.sdd_domain.specs.Space.{caller_of}
 use Rattle.sdd_bench.proofs.local.raws.Given as goal
 
 abbrev pub invariant-loop-turn : goal.invariant-loop-turn
 invariant-loop-turn l = record {
-  seat : seat_of l.local ≡ seat_of l.fn.local;
+  caller : caller_of l.local ≡ caller_of l.fn.local;
   guards : l.local.member.own.guards ≡ l.fn.local.member.own.guards;
-  home : slots_home l.owner ≡ (seat_of l.fn.local).home.slots;
+  home : slots_home l.owner ≡ (caller_of l.fn.local).home.slots;
 }

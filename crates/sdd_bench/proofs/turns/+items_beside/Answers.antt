@@ -8,13 +8,13 @@ returns-in-Ok g n c =
     let world = g.S.Caller.world in
     item-around _ _ _ _ _ _ _ _ (world c.args.space.now) (world c.new.new.s) (world c.items_beside-done.new.space) (world c.retire.new.s)
     (slot_of c.in-Ok.owner) c.args.others
-    making.undisturbed.seat making.undisturbed.own making.exact c.items_beside-done.ensures retiring.unmoved.seat retiring.own retiring.owned retiring.exact
+    making.undisturbed.caller making.undisturbed.own making.exact c.items_beside-done.ensures retiring.unmoved.caller retiring.own retiring.owned retiring.exact
 
 pub returns-in-Err : goal.returns-in-Err
 returns-in-Err g n c =
     let none = c.in-Err.ensures in
     record {
-      seat = none.undisturbed.seat;
+      caller = none.undisturbed.caller;
       guards = as-many none.undisturbed.own;
       kept = λ exact. as-much ((none.exact exact).2);
     }

@@ -7,10 +7,10 @@ loop-turn-preserved g c =
     let own = g.S.Caller.own in let world = g.S.Caller.world in
     in-turn _ _ _ _ _ _ _ _ _ c.loop-turn.invariant
     (under-guard _ _ _ _ _ (own c.new.new.s) (own c.accelerate.new.s) _ _ (world c.new.new.s) (world c.accelerate.new.s) _
-    opening.seat opening.own.1 (λ exact. (opening.exact exact).1)
+    opening.caller opening.own.1 (λ exact. (opening.exact exact).1)
     (record {
-      seat = faster.unmoved.seat;
+      caller = faster.unmoved.caller;
       guards = as-many faster.own;
       kept = λ exact. as-much (faster.exact exact);
     })
-    closing.seat closing.own closing.exact)
+    closing.caller closing.own closing.exact)

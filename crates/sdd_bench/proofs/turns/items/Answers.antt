@@ -8,13 +8,13 @@ returns-in-Err g c =
     let own = g.S.Caller.own in let world = g.S.Caller.world in
     in-turn _ _ _ _ _ _ _ _ _ c.loop-turn.invariant
     (under-guard _ _ _ _ _ (own c.new.new.s) (own c.new-in-loop-turn.new.s) _ _ (world c.new.new.s) (world c.new-in-loop-turn.new.s) _
-    opening.seat opening.own.1 (λ exact. (opening.exact exact).1)
+    opening.caller opening.own.1 (λ exact. (opening.exact exact).1)
     (record {
-      seat = none.undisturbed.seat;
+      caller = none.undisturbed.caller;
       guards = as-many none.undisturbed.own;
       kept = λ exact. as-much ((none.exact exact).2);
     })
-    closing.seat closing.own closing.exact)
+    closing.caller closing.own closing.exact)
 
 pub loop-turn-preserved : goal.loop-turn-preserved
 loop-turn-preserved g c =
@@ -23,7 +23,7 @@ loop-turn-preserved g c =
     let own = g.S.Caller.own in let world = g.S.Caller.world in
     in-turn _ _ _ _ _ _ _ _ _ c.loop-turn.invariant
     (under-guard _ _ _ _ _ (own c.new.new.s) (own c.retire.new.s) _ _ (world c.new.new.s) (world c.retire.new.s) _
-    opening.seat opening.own.1 (λ exact. (opening.exact exact).1)
+    opening.caller opening.own.1 (λ exact. (opening.exact exact).1)
     (item-leaves _ _ _ _ _ _ (world c.new.new.s) (world c.new-in-loop-turn.new.s) (world c.retire.new.s) (slot_of c.in-Ok.owner) c.loop-turn.turn
-    making.undisturbed.seat making.undisturbed.own making.exact retiring.unmoved.seat retiring.own retiring.exact)
-    closing.seat closing.own closing.exact)
+    making.undisturbed.caller making.undisturbed.own making.exact retiring.unmoved.caller retiring.own retiring.exact)
+    closing.caller closing.own closing.exact)

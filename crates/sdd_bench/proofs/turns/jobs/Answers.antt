@@ -9,13 +9,13 @@ returns-in-Err g c =
     let own = g.S.Caller.own in let world = g.S.Caller.world in
     in-turn _ _ _ _ _ _ _ _ _ c.loop.invariant
     (under-guard _ _ _ _ _ (own c.new.new.s) (own c.defer_execute-deferred.new.s) _ _ (world c.new.new.s) (world c.defer_execute-deferred.new.s) _
-    opening.seat opening.own.1 (λ exact. (opening.exact exact).1)
+    opening.caller opening.own.1 (λ exact. (opening.exact exact).1)
     (record {
-      seat = none.unmoved.seat;
+      caller = none.unmoved.caller;
       guards = as-many none.own;
       kept = λ exact. as-much ((none.exact exact).2);
     })
-    closing.seat closing.own closing.exact)
+    closing.caller closing.own closing.exact)
 
 -- a job that waits is nothing that is out
 pub loop-preserved : goal.loop-preserved
@@ -24,10 +24,10 @@ loop-preserved g c =
     let own = g.S.Caller.own in let world = g.S.Caller.world in
     in-turn _ _ _ _ _ _ _ _ _ c.loop.invariant
     (under-guard _ _ _ _ _ (own c.new.new.s) (own c.defer_execute-deferred.new.s) _ _ (world c.new.new.s) (world c.defer_execute-deferred.new.s) _
-    opening.seat opening.own.1 (λ exact. (opening.exact exact).1)
+    opening.caller opening.own.1 (λ exact. (opening.exact exact).1)
     (record {
-      seat = deferring.unmoved.seat;
+      caller = deferring.unmoved.caller;
       guards = ap (λ (p : Participant). p.guards) deferring.own.1;
       kept = λ exact. as-much ((deferring.exact exact).2);
     })
-    closing.seat closing.own closing.exact)
+    closing.caller closing.own closing.exact)

@@ -11,17 +11,17 @@ returns-in-Ok-new g c =
     two-leave _ _ _ _ _ _ _ _ _ _
     (world c.args.space.now) (world c.new.new.s) (world c.new-2.new.s) (world c.retire.new.s) (world c.retire-in-Ok-new.new.s)
     (slot_of c.in-Ok.one) (slot_of c.in-Ok-new.other) 1 3
-    one.undisturbed.seat one.undisturbed.own one.exact other.undisturbed.seat other.undisturbed.own other.exact
-    first.unmoved.seat first.own first.exact second.unmoved.seat second.own second.exact
+    one.undisturbed.caller one.undisturbed.own one.exact other.undisturbed.caller other.undisturbed.own other.exact
+    first.unmoved.caller first.own first.exact second.unmoved.caller second.own second.exact
 
 pub returns-in-Err-new : goal.returns-in-Err-new
 returns-in-Err-new g c =
     let one = c.in-Ok.ensures in let none = c.in-Err-new.ensures in let last = c.retire-in-Err-new.ensures in
     let world = g.S.Caller.world in
     item-leaves _ _ _ _ _ _ (world c.args.space.now) (world c.new-2.new.s) (world c.retire-in-Err-new.new.s) (slot_of c.in-Ok.one) 1
-    (none.undisturbed.seat ∙ one.undisturbed.seat) (none.undisturbed.own ∙ one.undisturbed.own)
+    (none.undisturbed.caller ∙ one.undisturbed.caller) (none.undisturbed.own ∙ one.undisturbed.own)
     (λ exact.
     let is = one.exact exact in
-    let same = (none.exact (subst (λ (s : CallerId). IsExact s) (sym one.undisturbed.seat) exact)).2 in
+    let same = (none.exact (subst (λ (s : CallerId). IsExact s) (sym one.undisturbed.caller) exact)).2 in
     (is.0, same ∙ is.1))
-    last.unmoved.seat last.own last.exact
+    last.unmoved.caller last.own last.exact

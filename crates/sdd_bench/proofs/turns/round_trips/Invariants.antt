@@ -4,9 +4,9 @@ use Rattle.sdd_bench.proofs.turns.round_trips.Given as goal
 
 abbrev pub invariant-loop-turn : goal.invariant-loop-turn
 invariant-loop-turn g l = record {
-  seat : g.S.Caller.seat l.space ≡ g.S.Caller.seat l.fn.space;
+  caller : g.S.Caller.caller l.space ≡ g.S.Caller.caller l.fn.space;
   own : g.S.Caller.own l.space ≡ g.S.Caller.own l.fn.space;
   world : g.S.Caller.world l.space ≡ g.S.Caller.world l.fn.space;
-  home : slots_home l.owner ≡ (g.S.Caller.seat l.fn.space).home.slots;
+  home : slots_home l.owner ≡ (g.S.Caller.caller l.fn.space).home.slots;
   same : slot_of l.owner ≡ slot_of l.fn.owner;
 }

@@ -12,9 +12,9 @@ returns-in-Ok-new g c =
     two-leave _ _ _ _ _ _ _ _ _ _
     (world c.args.space.now) (world c.new.new.s) (world c.sum_found-sum.new.space) (world c.retire.new.s) (world c.retire-in-Ok-new.new.s)
     (slot_of c.in-Ok.one) (slot_of c.in-Ok-new.other) 1 3
-    one.undisturbed.seat one.undisturbed.own one.exact (found.seat ∙ other.undisturbed.seat) (found.own ∙ other.undisturbed.own)
+    one.undisturbed.caller one.undisturbed.own one.exact (found.caller ∙ other.undisturbed.caller) (found.own ∙ other.undisturbed.own)
     (λ exact.
     let is = other.exact exact in
-    let same = found.exact (subst (λ (s : CallerId). IsExact s) (sym other.undisturbed.seat) exact) in
+    let same = found.exact (subst (λ (s : CallerId). IsExact s) (sym other.undisturbed.caller) exact) in
     (is.0, same ∙ is.1))
-    first.unmoved.seat first.own first.exact second.unmoved.seat second.own second.exact
+    first.unmoved.caller first.own first.exact second.unmoved.caller second.own second.exact

@@ -1,9 +1,9 @@
 use Rattle.std.proofs.Common.{rules, ◌∙◌, refl}
-use Rattle.sdd_examples.proofs.Counting.{last-of-two}
-use Rattle.sdd_space.specs.Ledger.{owner_of}
+use Rattle.sdd_examples.proofs.CountedOwners.{last-of-two}
+use Rattle.sdd_world_model.specs.Ledger.{owner_of}
 use Rattle.sdd_space.specs.Shared.{slot_of}
-use Rattle.sdd_space.specs.World.{standing_at}
-use Rattle.sdd_space.specs.WorldChanges.{owner_given}
+use Rattle.sdd_world_model.specs.World.{standing_at}
+use Rattle.sdd_world_model.specs.WorldChanges.{owner_given}
 use Rattle.sdd_world.specs.Place.{index_of}
 use Rattle.sdd_examples.proofs.counts.second_is_the_last.Goals as goal
 

@@ -1,5 +1,5 @@
 use Rattle.std.proofs.Common.{◌∙◌}
-use Rattle.sdd_values.proofs.Stakes.{lent-elsewhere, home-after}
+use Rattle.sdd_values.proofs.Fractions.{lent-elsewhere, home-after}
 use Rattle.sdd_examples.proofs.lent_looks.takes_after.Goals as goal
 
 pub take-requires-clause-home : goal.take-requires-clause-home

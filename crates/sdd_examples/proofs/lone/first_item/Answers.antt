@@ -3,15 +3,15 @@ use denote.Builtin.{u64}
 use Rattle.sdd_space.specs.Owned.{right_of}
 use Rattle.sdd_space.specs.CallerId.{IsExact}
 use Rattle.sdd_domain.specs.Local.{IsLone, one_value}
-use Rattle.sdd_domain.specs.Space.{seat_of}
+use Rattle.sdd_domain.specs.Space.{caller_of}
 use Rattle.sdd_participants.specs.declared.participant.Participant.{Participant}
-use Rattle.sdd_examples.proofs.Opened.{guards-shut}
-use Rattle.sdd_examples.proofs.Emptiness.{full_is_not_blank}
+use Rattle.sdd_examples.proofs.GuardOpened.{guards-shut}
+use Rattle.sdd_examples.proofs.EmptyTable.{full_is_not_blank}
 use Rattle.sdd_examples.proofs.lone.first_item.Goals as goal
 
 pub unreachable-requires : goal.unreachable-requires
 unreachable-requires c = let lone : IsLone c.in_ok-local.local.member = search rules in
-    let exact : IsExact (seat_of c.in_ok-local.local) = search rules in
+    let exact : IsExact (caller_of c.in_ok-local.local) = search rules in
     full_is_not_blank _ _ _ (c.in_ok-local.ensures.blank lone).standings c.requires.slots (c.in_default.ensures.exact exact).0
 
 -- the owner's item has one value

@@ -1,14 +1,14 @@
 use Rattle.std.proofs.Common.{sym, ap, ◌∙◌, subst}
-use Rattle.sdd_space.specs.ReclaimBound.{IsCleared, accelerated_guard}
+use Rattle.sdd_world_model.specs.ReclaimBound.{IsCleared, accelerated_guard}
 use Rattle.sdd_space.specs.CallerId.{CallerId}
-use Rattle.sdd_space.specs.World.{World}
+use Rattle.sdd_world_model.specs.World.{World}
 use Rattle.sdd_examples.proofs.lone.four_guards.Goals as goal
 
 pub returns-clause-passed : goal.returns-clause-passed
 returns-clause-passed g c =
-    let one = ap (λ (s : CallerId). s.place) c.goes_on.ensures.seat in
-    let two = ap (λ (s : CallerId). s.place) c.goes_on-2.ensures.seat ∙ one in
-    let three = ap (λ (s : CallerId). s.place) c.goes_on-3.ensures.seat ∙ two in
+    let one = ap (λ (s : CallerId). s.place) c.goes_on.ensures.caller in
+    let two = ap (λ (s : CallerId). s.place) c.goes_on-2.ensures.caller ∙ one in
+    let three = ap (λ (s : CallerId). s.place) c.goes_on-3.ensures.caller ∙ two in
     c.goes_on-4.ensures.passed ∙ (λ d. accelerated_guard g.T.Item.holds ((c.goes_on-3.ensures.passed
     ∙ (λ d. accelerated_guard g.T.Item.holds ((c.goes_on-2.ensures.passed
     ∙ (λ d. accelerated_guard g.T.Item.holds (c.goes_on.ensures.passed d) (one d))) d) (two d))) d) (three d))

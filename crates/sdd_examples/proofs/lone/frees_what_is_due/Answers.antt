@@ -1,8 +1,8 @@
 use Rattle.std.proofs.Common.{Ok, Err, Result, ap, ◌∙◌}
 use Rattle.std.specs.Prelude.{IfOk, MatchResult}
-use Rattle.sdd_space.specs.World.{World}
+use Rattle.sdd_world_model.specs.World.{World}
 use Rattle.sdd_participants.specs.Slab.{entry_at}
-use Rattle.sdd_domain.proofs.Sound.{lone_true}
+use Rattle.sdd_domain_core.proofs.Sound.{lone_true}
 use Rattle.sdd_examples.proofs.lone.frees_what_is_due.Goals as goal
 
 -- what follows where a call was answered

@@ -1,5 +1,5 @@
 use Rattle.std.proofs.Common.{sym, subst}
-use Rattle.sdd_space.specs.World.{World, AnyGuardOpen}
+use Rattle.sdd_world_model.specs.World.{World, AnyGuardOpen}
 use Rattle.sdd_examples.proofs.lone.goes_on.Goals as goal
 
 pub returns-clause-shut : goal.returns-clause-shut

@@ -1,4 +1,4 @@
-use Rattle.sdd_examples.proofs.Opened.{opened-open}
+use Rattle.sdd_examples.proofs.GuardOpened.{opened-open}
 use Rattle.sdd_examples.proofs.looks.made_and_seen.Goals as goal
 
 pub made_and_seen_under-seen-requires-clause-open : goal.made_and_seen_under-seen-requires-clause-open

@@ -1,6 +1,6 @@
 use Rattle.std.proofs.Common.{◌≡◌, ◌∙◌, ap, arith, length}
 use Rattle.sdd_participants.specs.Tally.{no_items}
-use Rattle.sdd_space.proofs.Passing.{tally_is}
+use Rattle.sdd_world_model.proofs.AcceleratedGuards.{tally_is}
 use Rattle.sdd_examples.proofs.programs.many_items.Goals as goal
 
 pub returns-in-Ok-register : goal.returns-in-Ok-register

@@ -1,5 +1,5 @@
 use Rattle.std.proofs.Common.{◌+◌, ◌≡◌, length, ℕ}
-use Rattle.sdd_space.specs.AcceleratedGuards.{HavePassed}
+use Rattle.sdd_world_model.specs.AcceleratedGuards.{HavePassed}
 use Rattle.sdd_examples.proofs.programs.pass_values.Given as goal
 
 abbrev pub invariant-loop-value : goal.invariant-loop-value

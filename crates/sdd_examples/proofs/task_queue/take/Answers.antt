@@ -2,7 +2,7 @@ use Rattle.std.proofs.Common.{Some, ◌∙◌, ap, sym, subst}
 use Rattle.std.specs.Prelude.{drop}
 use Rattle.sdd_space.specs.CallerId.{CallerId, IsExact}
 use Rattle.sdd_space.specs.Shared.{slot_of}
-use Rattle.sdd_space.specs.World.{World}
+use Rattle.sdd_world_model.specs.World.{World}
 use Rattle.sdd_lists.specs.Entries.{value_of}
 use Rattle.sdd_lists.specs.Values.{QueueHas}
 use Rattle.sdd_examples.proofs.task_queue.take.Goals as goal
@@ -10,8 +10,8 @@ use Rattle.sdd_examples.proofs.task_queue.take.Goals as goal
 pub returns-in-Ok-Some-clause-tasks : goal.returns-in-Ok-Some-clause-tasks
 returns-in-Ok-Some-clause-tasks g c = λ e tasks has.
     let slot = slot_of c.in-Ok-Some.owner in
-    let at1 = c.in-Ok-Some.ensures.unmoved.seat in
-    let at2 = c.get_guarded_ref.ensures.undisturbed.seat ∙ at1 in
+    let at1 = c.in-Ok-Some.ensures.unmoved.caller in
+    let at2 = c.get_guarded_ref.ensures.undisturbed.caller ∙ at1 in
     let popped = rw c.in-Ok-Some.field-0-is at (c.in-Ok-Some.ensures.values e tasks has) in
     let entry = popped.1.0 in
     let seen = c.get_guarded_ref.ensures.undisturbed.shown slot entry popped.1.1 in

@@ -7,4 +7,9 @@ returns-in-Sole-clause-becomes c =
 
 pub returns-in-Share-clause-becomes : goal.returns-in-Share-clause-becomes
 returns-in-Share-clause-becomes c =
-    rw c.in-Of.is (Share c.in-Share.owner, sym c.in_ok-owner-in-Of.ensures.taken ∙ ap Some c.in-Share.is, c.of_shared.ensures, c.in_ok-owner-in-Of.ensures.spent)
+    rw c.in-Of.is (
+      Share c.in-Share.owner,
+      sym c.in_ok-owner-in-Of.ensures.taken ∙ ap Some c.in-Share.is,
+      c.of_shared.ensures,
+      c.in_ok-owner-in-Of.ensures.spent,
+    )

@@ -1,5 +1,5 @@
 use Rattle.sdd_interpreter.proofs.Words.{Some, sym, ap, ◌∙◌, Sole, Share}
-use Rattle.sdd_interpreter.proofs.Filled.{fills-named}
+use Rattle.sdd_interpreter.proofs.FilledCells.{fills-named}
 use Rattle.sdd_interpreter.proofs.owners.take_filling.Goals as goal
 
 pub returns-in-Some-Sole-clause-filled : goal.returns-in-Some-Sole-clause-filled

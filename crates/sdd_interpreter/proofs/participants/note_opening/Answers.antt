@@ -1,4 +1,4 @@
-use Rattle.sdd_interpreter.proofs.Noted.{renoted}
+use Rattle.sdd_interpreter.proofs.NotedOpenings.{renoted}
 use Rattle.sdd_interpreter.proofs.participants.note_opening.Goals as goal
 
 pub returns-in-Some : goal.returns-in-Some

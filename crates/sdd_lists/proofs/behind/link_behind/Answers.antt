@@ -1,12 +1,12 @@
 use Rattle.std.proofs.Common.{◌≡◌, ◌≢◌, inl, inr, ◌∙◌, ap, sym, subst}
 use Rattle.sdd_core.specs.declared.tag.Tag.{Tag}
 use Rattle.sdd_core.specs.declared.tag.Tag.TheVariants as tag
-use Rattle.sdd_space.specs.World.{World}
+use Rattle.sdd_world_model.specs.World.{World}
 use Rattle.sdd_space.specs.CallerId.{CallerId, IsExact}
 use Rattle.sdd_space.specs.Shared.{cell_of, slot_of}
 use Rattle.sdd_lists.specs.Behind.{IsFresh, IsLinkedBehind}
 use Rattle.sdd_lists.specs.Lists.{IsList}
-use Rattle.sdd_lists.proofs.Fronts.{tag_in}
+use Rattle.sdd_lists.proofs.FirstEntries.{tag_in}
 use Rattle.sdd_lists.proofs.behind.link_behind.Goals as goal
 
 pub returns-in-None-clause-list : goal.returns-in-None-clause-list
@@ -16,7 +16,7 @@ returns-in-None-clause-list g c = λ e t es v list fresh.
     let cell = cell_of c.args.link.now in
     let slot = slot_of c.args.entry in
     let new = g.S.Caller.world c.put_behind_link.new.s in
-    let ex = subst (λ (s : CallerId). IsExact s) (sym c.tag.ensures.undisturbed.seat) e in
+    let ex = subst (λ (s : CallerId). IsExact s) (sym c.tag.ensures.undisturbed.caller) e in
     let told = (c.tag.ensures.exact e).1 in
     let tags : t ≡ c.tag.result = ap tag_in (sym list.begins ∙ told.1) ∙ sym told.2 in
     let kept : t ≢ tag.Second = λ same.

@@ -1,12 +1,12 @@
 use Rattle.std.proofs.Common.{◌≡◌, ℕ, ◌∙◌, ap, sym, Some, subst}
-use Rattle.sdd_space.specs.OwnerOrCell.{SpaceId}
-use Rattle.sdd_space.specs.World.{World, value_at}
+use Rattle.sdd_world_model.specs.OwnerOrCell.{SpaceId}
+use Rattle.sdd_world_model.specs.World.{World, value_at}
 use Rattle.sdd_space.specs.CallerId.{IsExact, CallerId}
 use Rattle.sdd_space.specs.Shared.{cell_of, slot_of}
 use Rattle.sdd_participants.specs.Slab.{entry_at}
 use Rattle.sdd_lists.specs.Lists.{first_slot, linked_in}
-use Rattle.sdd_lists.proofs.Linking.{linked-behind}
-use Rattle.sdd_lists.proofs.Grows.{grows-not}
+use Rattle.sdd_lists.proofs.LinkedEntries.{linked-behind}
+use Rattle.sdd_lists.proofs.MoreWaiting.{grows-not}
 use Rattle.sdd_lists.proofs.behind.put_behind_link.Goals as goal
 
 pub put_with_tag-requires-clause-link : goal.put_with_tag-requires-clause-link
@@ -14,7 +14,7 @@ put_with_tag-requires-clause-link g c =
     c.link_ref.ensures.home
     ∙ g.met.T.LinkedList.link_is_held (g.S.Shows.home c.get_guarded_ref-value.new.s) c.get_guarded_ref-value.result.now
     (c.shown_is_of_home.ensures _ c.get_guarded_ref-value.result.now c.get_guarded_ref-value.ensures.shown)
-    ∙ ap (λ (h : SpaceId). h.cells) (g.met.S.Caller.home_is_seat c.get_guarded_ref-value.new.s)
+    ∙ ap (λ (h : SpaceId). h.cells) (g.met.S.Caller.home_is_caller c.get_guarded_ref-value.new.s)
 
 pub returns-clause-list : goal.returns-clause-list
 returns-clause-list g c = λ e t es v list fresh kept.
@@ -22,9 +22,9 @@ returns-clause-list g c = λ e t es v list fresh kept.
     let w = g.S.Caller.world c.args.s.now in
     let cell : ℕ = cell_of c.args.link.now in
     let k : ℕ = slot_of c.args.entry in
-    let at1 = c.get_guarded_ptr-ptr.ensures.undisturbed.seat in
-    let at2 = c.get_guarded_ref-value.ensures.undisturbed.seat ∙ at1 in
-    let ex2 : IsExact (g.S.Caller.seat c.get_guarded_ref-value.new.s) = subst (λ (s : CallerId). IsExact s) (sym at2) e in
+    let at1 = c.get_guarded_ptr-ptr.ensures.undisturbed.caller in
+    let at2 = c.get_guarded_ref-value.ensures.undisturbed.caller ∙ at1 in
+    let ex2 : IsExact (g.S.Caller.caller c.get_guarded_ref-value.new.s) = subst (λ (s : CallerId). IsExact s) (sym at2) e in
     let x = g.S.Caller.world c.get_guarded_ref-value.new.s in
     let same : x ≡ w =
     c.get_guarded_ref-value.ensures.exact (subst (λ (s : CallerId). IsExact s) (sym at1) e) ∙ c.get_guarded_ptr-ptr.ensures.exact e in

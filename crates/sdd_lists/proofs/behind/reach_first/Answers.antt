@@ -1,12 +1,12 @@
 use Rattle.std.proofs.Common.{◌≡◌, ℕ, ◌+◌, ◌∙◌, ap, sym, List, true, false, subst}
-use Rattle.sdd_space.specs.World.{World}
+use Rattle.sdd_world_model.specs.World.{World}
 use Rattle.sdd_space.specs.CallerId.{IsExact, CallerId}
 use Rattle.sdd_space.specs.Shared.{cell_of, slot_of}
-use Rattle.sdd_space.specs.WorldChanges.{with_standing}
+use Rattle.sdd_world_model.specs.WorldChanges.{with_standing}
 use Rattle.sdd_participants.specs.declared.standing.Standing.TheVariants.{Shared as shared_by}
 use Rattle.sdd_lists.specs.Lists.{Entry, IsList, trimmed}
 use Rattle.sdd_lists.proofs.Lists.{list-same}
-use Rattle.sdd_lists.proofs.Grows.{grows-if, grows-not}
+use Rattle.sdd_lists.proofs.MoreWaiting.{grows-if, grows-not}
 use Rattle.sdd_lists.proofs.behind.reach_first.Goals as goal
 
 pub returns-in-Ok-trim-clause-exact : goal.returns-in-Ok-trim-clause-exact
@@ -16,7 +16,7 @@ returns-in-Ok-trim-clause-exact g c = λ e t es list x rest first named shared.
     let cell : ℕ = cell_of c.args.cell.now in
     let kept = c.in-Ok.ensures.exact e x named shared in
     let u : World _ = with_standing w x.slot (shared_by (kept.owners + 1)) in
-    let at_keep = c.in-Ok.ensures.undisturbed.seat in
+    let at_keep = c.in-Ok.ensures.undisturbed.caller in
     let in_u = list-same link w (g.S.Caller.world c.keep_first.new.s) cell t es (ap (λ (y : World _). y.cells) kept.world)
     (ap (λ (y : World _). y.values) kept.world) list in
     let cut = c.in-Ok-trim.ensures.exact (subst (λ (s : CallerId). IsExact s) (sym at_keep) e) t es in_u in
@@ -25,7 +25,7 @@ returns-in-Ok-trim-clause-exact g c = λ e t es list x rest first named shared.
       owners = kept.owners;
       shared = kept.shared;
       few = kept.few;
-      world = cut.3 ∙ ap (λ (y : World _). trimmed link y (g.S.Caller.seat c.keep_first.new.s).place cell t es) kept.world
+      world = cut.3 ∙ ap (λ (y : World _). trimmed link y (g.S.Caller.caller c.keep_first.new.s).place cell t es) kept.world
           ∙ ap (λ (s : CallerId). trimmed link u s.place cell t es) at_keep;
       list = subst (λ (xs : List (Entry _)). IsList link (g.S.Caller.world c.trim.new.s) cell t xs) first cut.2;
     }
@@ -39,7 +39,7 @@ returns-in-Err-trim-clause-exact g c = λ e t es list x rest first named shared.
     let w = g.S.Caller.world c.args.s.now in
     let cell : ℕ = cell_of c.args.cell.now in
     let kept = c.in-Ok.ensures.exact e x named shared in
-    let at_keep = c.in-Ok.ensures.undisturbed.seat in
+    let at_keep = c.in-Ok.ensures.undisturbed.caller in
     let in_u = list-same link w (g.S.Caller.world c.keep_first.new.s) cell t es (ap (λ (y : World _). y.cells) kept.world)
     (ap (λ (y : World _). y.values) kept.world) list in
     let cut = c.in-Err-trim.ensures.exact (subst (λ (s : CallerId). IsExact s) (sym at_keep) e) t es in_u in

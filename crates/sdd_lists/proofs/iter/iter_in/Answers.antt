@@ -1,5 +1,5 @@
 use Rattle.std.proofs.Common.{refl}
-use Rattle.sdd_lists.proofs.Iterating.{gives-all}
+use Rattle.sdd_lists.proofs.IterPositions.{gives-all}
 use Rattle.sdd_lists.proofs.iter.iter_in.Goals as goal
 
 pub returns-clause-exact : goal.returns-clause-exact

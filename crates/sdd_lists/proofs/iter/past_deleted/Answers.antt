@@ -1,21 +1,21 @@
 use Rattle.std.proofs.Common.{◌≡◌, ℕ, ◌∙◌, ap, sym, refl, List, length, subst, arith}
 use Rattle.sdd_participants.specs.Slab.{entry_at}
-use Rattle.sdd_space.specs.WorldChanges.{held_in}
+use Rattle.sdd_world_model.specs.WorldChanges.{held_in}
 use Rattle.sdd_lists.specs.Lists.{Entry, first_slot, is_deleting, left}
-use Rattle.sdd_lists.proofs.Fronts.{undeleting}
-use Rattle.sdd_lists.proofs.Iterating.{ahead, link-home, none-ahead, none-left, passed, stays, tag-at}
+use Rattle.sdd_lists.proofs.FirstEntries.{undeleting}
+use Rattle.sdd_lists.proofs.IterPositions.{ahead, link-home, none-ahead, none-left, passed, stays, tag-at}
 use Rattle.sdd_lists.proofs.iter.past_deleted.Goals as goal
 
 pub tag_held_in-requires : goal.tag_held_in-requires
 tag_held_in-requires g c = record {
   home = c.link_ref-link.ensures.home
-      ∙ link-home g.T.Item.holds (g.S.Caller.seat c.args.s.now).home c.value_of.result.now c.value_of.ensures.held;
+      ∙ link-home g.T.Item.holds (g.S.Caller.caller c.args.s.now).home c.value_of.result.now c.value_of.ensures.held;
 }
 
 pub right_in-at-requires : goal.right_in-at-requires
 right_in-at-requires g c = record {
   home = c.link_ref-link.ensures.home
-      ∙ link-home g.T.Item.holds (g.S.Caller.seat c.args.s.now).home c.value_of.result.now c.value_of.ensures.held;
+      ∙ link-home g.T.Item.holds (g.S.Caller.caller c.args.s.now).home c.value_of.result.now c.value_of.ensures.held;
 }
 
 pub loop-step-init : goal.loop-step-init
@@ -33,7 +33,8 @@ loop-step-preserved g c = record {
         a.rest,
         a.linked,
         c.right_in-at.ensures.exact e ∙ ap (λ (k : ℕ). held_in (entry_at w.cells k)) c.link_ref-link.ensures.link ∙ ap held_in a.cell,
-        sym (passed w c.in-Some.owner c.value_of.result.now (c.value_of.ensures.exact e) c.tag_held_in.result tagged inv.0 a (ap is_deleting c.in-Second.is)) ∙ inv.3,
+        sym (passed w c.in-Some.owner c.value_of.result.now (c.value_of.ensures.exact e) c.tag_held_in.result tagged inv.0 a
+            (ap is_deleting c.in-Second.is)) ∙ inv.3,
         omega (arith, long, inv.4),
       );
 }

@@ -1,5 +1,5 @@
 use Rattle.sdd_space.specs.Shared.{slot_of}
-use Rattle.sdd_lists.proofs.Grows.{grows-if}
+use Rattle.sdd_lists.proofs.MoreWaiting.{grows-if}
 use Rattle.sdd_lists.proofs.moves.give_up.Goals as goal
 
 pub returns-in-Some-clause-own : goal.returns-in-Some-clause-own

@@ -1,19 +1,19 @@
 use Rattle.std.proofs.Common.{◌≡◌, ℕ, List, [], ◌∷◌, length, ◌∙◌, ap, sym, refl, subst, arith}
-use Rattle.sdd_space.specs.World.{World}
+use Rattle.sdd_world_model.specs.World.{World}
 use Rattle.sdd_space.specs.CallerId.{CallerId, IsExact}
 use Rattle.sdd_space.specs.Shared.{cell_of}
 use Rattle.sdd_participants.specs.Slab.{entry_at}
 use Rattle.sdd_participants.specs.declared.standing.CellContents.{CellContents}
 use Rattle.sdd_lists.specs.Lists.{Entry, first_slot, let_go_first, IsList, emptied}
-use Rattle.sdd_lists.proofs.Grows.{grows-not, knows-on, knows-same}
-use Rattle.sdd_lists.proofs.Fronts.{none-of}
+use Rattle.sdd_lists.proofs.MoreWaiting.{grows-not, knows-on, knows-same}
+use Rattle.sdd_lists.proofs.FirstEntries.{none-of}
 use Rattle.sdd_lists.proofs.Lists.{behind}
-use Rattle.sdd_lists.proofs.Popping.{apart-first}
+use Rattle.sdd_lists.proofs.PoppedLists.{apart-first}
 use Rattle.sdd_lists.proofs.moves.let_go_of_all.Goals as goal
 
 pub loop-step-init : goal.loop-step-init
 loop-step-init g c = record {
-  seat = refl;
+  caller = refl;
   own = λ start grown. grown;
   known = knows-same (g.S.Caller.known c.args.s.now);
   keeps = λ k v was. was;
@@ -22,7 +22,7 @@ loop-step-init g c = record {
 
 pub loop-step-preserved : goal.loop-step-preserved
 loop-step-preserved g c = record {
-  seat = c.let_go_of_first.ensures.unmoved.seat ∙ c.in-Some.ensures.undisturbed.seat ∙ c.loop-step.invariant.seat;
+  caller = c.let_go_of_first.ensures.unmoved.caller ∙ c.in-Some.ensures.undisturbed.caller ∙ c.loop-step.invariant.caller;
   own = λ start grown.
       c.let_go_of_first.ensures.own start
       (grows-not (g.S.Caller.own c.loop-step.s) _ c.in-Some.ensures.undisturbed.own start (c.loop-step.invariant.own start grown));
@@ -30,12 +30,12 @@ loop-step-preserved g c = record {
   keeps = λ k v was. c.let_go_of_first.ensures.unmoved.shown k v (c.in-Some.ensures.undisturbed.shown k v (c.loop-step.invariant.keeps k v was));
   list = λ e t es list.
       let link = g.T.LinkedList.link in
-      let place = (g.S.Caller.seat c.args.s.now).place in
+      let place = (g.S.Caller.caller c.args.s.now).place in
       let cell : ℕ = cell_of c.args.cell.now in
       let w = g.S.Caller.world c.loop-step.s in
       let inv = c.loop-step.invariant.list e t es list in
-      let at0 = c.loop-step.invariant.seat in
-      let at1 = c.in-Some.ensures.undisturbed.seat ∙ at0 in
+      let at0 = c.loop-step.invariant.caller in
+      let at1 = c.in-Some.ensures.undisturbed.caller ∙ at0 in
       let ex0 = subst (λ (s : CallerId). IsExact s) (sym at0) e in
       let same = c.in-Some.ensures.world ex0 in
       let held : CellContents = record { held = first_slot inv.0; tag = t } in
@@ -49,7 +49,7 @@ loop-step-preserved g c = record {
       (ap (λ (y : World _). entry_at y.cells (cell_of c.in-Some.front.link.now)) same ∙ ap (λ (k : ℕ). entry_at w.cells k) cell_is ∙ here.linked.0.linked)
       (λ meet. apart-first link w place cell t x rest here (meet ∙ cell_is)) in
       let made : g.S.Caller.world c.let_go_of_first.new.s ≡ let_go_first w place cell t x.slot (link x.value) (first_slot rest) =
-      gone ∙ ap (λ (y : World _). let_go_first y (g.S.Caller.seat c.first_in.new.s).place cell t x.slot (cell_of c.in-Some.front.link.now)
+      gone ∙ ap (λ (y : World _). let_go_first y (g.S.Caller.caller c.first_in.new.s).place cell t x.slot (cell_of c.in-Some.front.link.now)
       (first_slot rest)) same
       ∙ ap (λ (s : CallerId). let_go_first w s.place cell t x.slot (cell_of c.in-Some.front.link.now) (first_slot rest)) at1
       ∙ ap (λ (k : ℕ). let_go_first w place cell t x.slot k (first_slot rest)) cell_is in
@@ -68,11 +68,11 @@ returns-in_default-clause-own g c = λ start grown.
 pub returns-in_default-clause-exact : goal.returns-in_default-clause-exact
 returns-in_default-clause-exact g c = λ e t es list.
     let link = g.T.LinkedList.link in
-    let place = (g.S.Caller.seat c.args.s.now).place in
+    let place = (g.S.Caller.caller c.args.s.now).place in
     let cell : ℕ = cell_of c.args.cell.now in
     let w = g.S.Caller.world c.loop-step.s in
     let inv = c.loop-step.invariant.list e t es list in
-    let ex0 = subst (λ (s : CallerId). IsExact s) (sym c.loop-step.invariant.seat) e in
+    let ex0 = subst (λ (s : CallerId). IsExact s) (sym c.loop-step.invariant.caller) e in
     let same = c.in_default.ensures.world ex0 in
     let held : CellContents = record { held = first_slot inv.0; tag = t } in
     let none = c.in_default.ensures.exact ex0 inv.0 inv.1.linked held inv.1.begins refl in (
@@ -83,7 +83,7 @@ returns-in_default-clause-exact g c = λ e t es list.
 pub returns-clause-exact : goal.returns-clause-exact
 returns-clause-exact g c = λ e t es list.
     let link = g.T.LinkedList.link in
-    let place = (g.S.Caller.seat c.args.s.now).place in
+    let place = (g.S.Caller.caller c.args.s.now).place in
     let cell : ℕ = cell_of c.args.cell.now in
     let w = g.S.Caller.world c.loop-step.s in
     let inv = c.loop-step.invariant.list e t es list in

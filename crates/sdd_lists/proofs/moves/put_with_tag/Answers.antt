@@ -5,10 +5,10 @@ use Rattle.sdd_core.specs.declared.tag.Tag.TheVariants as tag
 use Rattle.sdd_participants.specs.Slab.{entry_at}
 use Rattle.sdd_space.specs.CallerId.{IsExact, CallerId}
 use Rattle.sdd_space.specs.Shared.{cell_of, slot_of}
-use Rattle.sdd_space.specs.WorldChanges.{with_cell}
-use Rattle.sdd_lists.proofs.Moving.{given-none}
-use Rattle.sdd_lists.proofs.Fronts.{tag_in}
-use Rattle.sdd_lists.proofs.Pushing.{put-alone, put-then, rest-none}
+use Rattle.sdd_world_model.specs.WorldChanges.{with_cell}
+use Rattle.sdd_lists.proofs.MovedOwners.{given-none}
+use Rattle.sdd_lists.proofs.FirstEntries.{tag_in}
+use Rattle.sdd_lists.proofs.PushedLists.{put-alone, put-then, rest-none}
 use Rattle.sdd_lists.proofs.moves.put_with_tag.Goals as goal
 
 pub returns-in-Some-clause-exact : goal.returns-in-Some-clause-exact
@@ -21,15 +21,15 @@ returns-in-Some-clause-exact g c = λ e t n holds clear far.
     let k = slot_of c.args.owner in
     let next = option_map slot_of c.swap-next.result.0 in
     let rest = option_map slot_of c.swap-rest.result.0 in
-    let at1 = c.swap-next.ensures.undisturbed.seat in
-    let at2 = c.swap-rest.ensures.undisturbed.seat ∙ at1 in
+    let at1 = c.swap-next.ensures.undisturbed.caller in
+    let at2 = c.swap-rest.ensures.undisturbed.caller ∙ at1 in
     let one = c.swap-next.ensures.exact e in
     let two = c.swap-rest.ensures.exact (subst (λ (s : CallerId). IsExact s) (sym at1) e) in
     let last = c.give_up.ensures.exact (subst (λ (s : CallerId). IsExact s) (sym at2) e) in
     let same : Some (slot_of c.in-Some.next) ≡ next = ap (option_map slot_of) (sym c.in-Some.is) in
     let to2 = two.1 ∙ ap (λ (held : Option ℕ). with_cell u l (record { held = held; tag = tag.None })) same in
     let none = rest-none w u v d l next rest c.swap-next.result.1 c.swap-rest.result.1 c.args.tag k far one.0 one.1 two.0 to2 clear in
-    given-none v (g.S.Caller.world c.give_up.new.s) (g.S.Caller.seat c.swap-rest.new.s).place c.swap-rest.result.0 none last
+    given-none v (g.S.Caller.world c.give_up.new.s) (g.S.Caller.caller c.swap-rest.new.s).place c.swap-rest.result.0 none last
     ∙ put-then w u v d l next rest c.swap-next.result.1 c.swap-rest.result.1 c.args.tag k far one.0 one.1 two.0 to2 n t holds
 
 pub returns-in-None-clause-exact : goal.returns-in-None-clause-exact

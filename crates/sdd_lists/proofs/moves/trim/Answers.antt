@@ -1,14 +1,14 @@
 use Rattle.std.proofs.Common.{◌≡◌, ℕ, ◌∙◌, ap, sym, refl, Some, None, subst, false, true}
-use Rattle.sdd_space.specs.World.{World, value_at}
+use Rattle.sdd_world_model.specs.World.{World, value_at}
 use Rattle.sdd_space.specs.CallerId.{CallerId, IsExact}
-use Rattle.sdd_space.specs.OwnerOrCell.{SpaceId}
+use Rattle.sdd_world_model.specs.OwnerOrCell.{SpaceId}
 use Rattle.sdd_space.specs.Shared.{cell_of}
 use Rattle.sdd_space.specs.Ptr.{cell_seen, slot_named}
 use Rattle.sdd_participants.specs.Slab.{entry_at}
 use Rattle.sdd_core.specs.declared.tag.Tag.{Tag}
 use Rattle.sdd_lists.specs.Lists.{left, trimmed, IsList}
-use Rattle.sdd_lists.proofs.Grows.{grows-not}
-use Rattle.sdd_lists.proofs.Fronts.{null-front, kept-front, names-none, names-some, shows-it}
+use Rattle.sdd_lists.proofs.MoreWaiting.{grows-not}
+use Rattle.sdd_lists.proofs.FirstEntries.{null-front, kept-front, names-none, names-some, shows-it}
 use Rattle.sdd_lists.proofs.moves.trim.Goals as goal
 
 pub tag-requires-clause-home : goal.tag-requires-clause-home
@@ -17,13 +17,13 @@ tag-requires-clause-home g c =
     (names-some c.load-first.result (c.in-Some.ensures.null.0 refl)) (sym c.in-Some.ensures.shown) c.load-first.ensures.shown in
     c.link_ref.ensures.home
     ∙ g.met.T.LinkedList.link_is_held (g.S.Shows.home c.load-first.new.s) c.in-Some.entry.now (c.shown_is_of_home.ensures _ c.in-Some.entry.now shows)
-    ∙ ap (λ (h : SpaceId). h.cells) (g.met.S.Caller.home_is_seat c.load-first.new.s)
+    ∙ ap (λ (h : SpaceId). h.cells) (g.met.S.Caller.home_is_caller c.load-first.new.s)
 
 pub returns-in_default-clause-exact : goal.returns-in_default-clause-exact
 returns-in_default-clause-exact g c = λ e t es list.
     let link = g.T.LinkedList.link in
     let w = g.S.Caller.world c.args.s.now in
-    let place = (g.S.Caller.seat c.args.s.now).place in
+    let place = (g.S.Caller.caller c.args.s.now).place in
     let cell : ℕ = cell_of c.args.cell.now in
     let loaded = c.load-first.ensures.exact e in
     let null : slot_named c.load-first.result ≡ None = names-none c.load-first.result
@@ -38,11 +38,11 @@ returns-in_default-clause-exact g c = λ e t es list.
 pub returns-in_default-tag-clause-exact : goal.returns-in_default-tag-clause-exact
 returns-in_default-tag-clause-exact g c = λ e t es list.
     let link = g.T.LinkedList.link in
-    let place = (g.S.Caller.seat c.args.s.now).place in
+    let place = (g.S.Caller.caller c.args.s.now).place in
     let cell : ℕ = cell_of c.args.cell.now in
     let w = g.S.Caller.world c.args.s.now in
     let v = c.in-Some.entry.now in
-    let at1 = c.load-first.ensures.undisturbed.seat in
+    let at1 = c.load-first.ensures.undisturbed.caller in
     let loaded = c.load-first.ensures.exact e in
     let tagged = c.tag.ensures.exact (subst (λ (s : CallerId). IsExact s) (sym at1) e) in
     let same : g.S.Caller.world c.tag.new.s ≡ w = tagged.0 ∙ loaded.1 in
@@ -69,8 +69,8 @@ returns-in-Second-clause-exact g c = λ e t es list.
     let link = g.T.LinkedList.link in
     let w = g.S.Caller.world c.args.s.now in
     let cell : ℕ = cell_of c.args.cell.now in
-    let at1 = c.load-first.ensures.undisturbed.seat in
-    let at2 = c.tag.ensures.undisturbed.seat ∙ at1 in
+    let at1 = c.load-first.ensures.undisturbed.caller in
+    let at2 = c.tag.ensures.undisturbed.caller ∙ at1 in
     let tagged = c.tag.ensures.exact (subst (λ (s : CallerId). IsExact s) (sym at1) e) in
     let same : g.S.Caller.world c.tag.new.s ≡ w = tagged.0 ∙ (c.load-first.ensures.exact e).1 in
     let cut = c.trim_deleted.ensures.exact (subst (λ (s : CallerId). IsExact s) (sym at2) e) t es
@@ -78,7 +78,7 @@ returns-in-Second-clause-exact g c = λ e t es list.
       cut.0,
       cut.1,
       cut.2,
-      cut.3 ∙ ap (λ (x : World _). trimmed link x (g.S.Caller.seat c.tag.new.s).place cell t es) same
+      cut.3 ∙ ap (λ (x : World _). trimmed link x (g.S.Caller.caller c.tag.new.s).place cell t es) same
           ∙ ap (λ (s : CallerId). trimmed link w s.place cell t es) at2,
     )
 

@@ -1,15 +1,15 @@
 use Rattle.std.proofs.Common.{◌≡◌, ℕ, ◌∙◌, ap, sym, refl, Some, None, subst, arith, false, true}
-use Rattle.sdd_space.specs.World.{World, value_at}
+use Rattle.sdd_world_model.specs.World.{World, value_at}
 use Rattle.sdd_space.specs.CallerId.{CallerId, IsExact}
-use Rattle.sdd_space.specs.OwnerOrCell.{SpaceId}
+use Rattle.sdd_world_model.specs.OwnerOrCell.{SpaceId}
 use Rattle.sdd_space.specs.Shared.{cell_of}
 use Rattle.sdd_space.specs.Ptr.{cell_seen, slot_named}
 use Rattle.sdd_participants.specs.Slab.{entry_at}
 use Rattle.sdd_core.specs.declared.tag.Tag.{Tag}
 use Rattle.sdd_core.specs.declared.tag.Tag.TheVariants.{Second}
 use Rattle.sdd_lists.specs.Lists.{first_slot, left, let_go_first, IsList}
-use Rattle.sdd_lists.proofs.Grows.{grows-not, knows-on, knows-same}
-use Rattle.sdd_lists.proofs.Fronts.{null-front, kept-front, gone-front, names-none, names-some, shows-it, spent, none-there}
+use Rattle.sdd_lists.proofs.MoreWaiting.{grows-not, knows-on, knows-same}
+use Rattle.sdd_lists.proofs.FirstEntries.{null-front, kept-front, gone-front, names-none, names-some, shows-it, spent, none-there}
 use Rattle.sdd_lists.proofs.moves.trim_deleted.Goals as goal
 
 pub tag-requires-clause-home : goal.tag-requires-clause-home
@@ -18,7 +18,7 @@ tag-requires-clause-home g c =
     (names-some c.load-first.result (c.in-Some.ensures.null.0 refl)) (sym c.in-Some.ensures.shown) c.load-first.ensures.shown in
     c.link_ref-link.ensures.home
     ∙ g.met.T.LinkedList.link_is_held (g.S.Shows.home c.load-first.new.s) c.in-Some.entry.now (c.shown_is_of_home.ensures _ c.in-Some.entry.now shows)
-    ∙ ap (λ (h : SpaceId). h.cells) (g.met.S.Caller.home_is_seat c.load-first.new.s)
+    ∙ ap (λ (h : SpaceId). h.cells) (g.met.S.Caller.home_is_caller c.load-first.new.s)
 
 pub let_go_of_first-requires-clause-link : goal.let_go_of_first-requires-clause-link
 let_go_of_first-requires-clause-link g c =
@@ -26,12 +26,12 @@ let_go_of_first-requires-clause-link g c =
     (names-some c.load-first.result (c.in-Some.ensures.null.0 refl)) (sym c.in-Some.ensures.shown) c.load-first.ensures.shown in
     c.link_ref-link.ensures.home
     ∙ g.met.T.LinkedList.link_is_held (g.S.Shows.home c.load-first.new.s) c.in-Some.entry.now (c.shown_is_of_home.ensures _ c.in-Some.entry.now shows)
-    ∙ ap (λ (h : SpaceId). h.cells) (g.met.S.Caller.home_is_seat c.load-first.new.s)
-    ∙ ap (λ (s : CallerId). s.home.cells) (sym c.tag.ensures.undisturbed.seat)
+    ∙ ap (λ (h : SpaceId). h.cells) (g.met.S.Caller.home_is_caller c.load-first.new.s)
+    ∙ ap (λ (s : CallerId). s.home.cells) (sym c.tag.ensures.undisturbed.caller)
 
 pub loop-step-init : goal.loop-step-init
 loop-step-init g c = record {
-  seat = refl;
+  caller = refl;
   own = λ start grown. grown;
   known = knows-same (g.S.Caller.known c.args.s.now);
   keeps = λ k v was. was;
@@ -41,10 +41,10 @@ loop-step-init g c = record {
 pub returns-in_default-clause-exact : goal.returns-in_default-clause-exact
 returns-in_default-clause-exact g c = λ e t es list.
     let link = g.T.LinkedList.link in
-    let place = (g.S.Caller.seat c.args.s.now).place in
+    let place = (g.S.Caller.caller c.args.s.now).place in
     let cell : ℕ = cell_of c.args.cell.now in
     let inv = c.loop-step.invariant.list e t es list in
-    let loaded = c.load-first.ensures.exact (subst (λ (s : CallerId). IsExact s) (sym c.loop-step.invariant.seat) e) in
+    let loaded = c.load-first.ensures.exact (subst (λ (s : CallerId). IsExact s) (sym c.loop-step.invariant.caller) e) in
     let null : slot_named c.load-first.result ≡ None = names-none c.load-first.result
     (λ n. let never : false ≡ true = c.in_default.ensures.null.1 n in absurd (cc)) in
     let front = null-front link (g.S.Caller.world c.loop-step.s) place cell t inv.0 (cell_seen c.load-first.result) inv.1 loaded.0 null in (
@@ -64,19 +64,19 @@ loop-step-preserved g c = record {
       (c.loop-step.invariant.own start grown));
   known = knows-on (knows-on
       (knows-on c.loop-step.invariant.known c.load-first.ensures.undisturbed.known) c.tag.ensures.undisturbed.known) c.let_go_of_first.ensures.unmoved.known;
-  seat = c.let_go_of_first.ensures.unmoved.seat ∙ c.tag.ensures.undisturbed.seat ∙ c.load-first.ensures.undisturbed.seat ∙ c.loop-step.invariant.seat;
+  caller = c.let_go_of_first.ensures.unmoved.caller ∙ c.tag.ensures.undisturbed.caller ∙ c.load-first.ensures.undisturbed.caller ∙ c.loop-step.invariant.caller;
   keeps = λ k v was. c.let_go_of_first.ensures.unmoved.shown k v
       (c.tag.ensures.undisturbed.shown k v (c.load-first.ensures.undisturbed.shown k v (c.loop-step.invariant.keeps k v was)));
   list = λ e t es list.
       let link = g.T.LinkedList.link in
-      let place = (g.S.Caller.seat c.args.s.now).place in
+      let place = (g.S.Caller.caller c.args.s.now).place in
       let cell : ℕ = cell_of c.args.cell.now in
       let w = g.S.Caller.world c.loop-step.s in
       let v = c.in-Some.entry.now in
       let inv = c.loop-step.invariant.list e t es list in
-      let at0 = c.loop-step.invariant.seat in
-      let at1 = c.load-first.ensures.undisturbed.seat ∙ at0 in
-      let at2 = c.tag.ensures.undisturbed.seat ∙ at1 in
+      let at0 = c.loop-step.invariant.caller in
+      let at1 = c.load-first.ensures.undisturbed.caller ∙ at0 in
+      let at2 = c.tag.ensures.undisturbed.caller ∙ at1 in
       let loaded = c.load-first.ensures.exact (subst (λ (s : CallerId). IsExact s) (sym at0) e) in
       let tagged = c.tag.ensures.exact (subst (λ (s : CallerId). IsExact s) (sym at1) e) in
       let same : g.S.Caller.world c.tag.new.s ≡ w = tagged.0 ∙ loaded.1 in
@@ -98,7 +98,7 @@ loop-step-preserved g c = record {
       (ap (λ (x : World _). entry_at x.cells cell) same ∙ front.1) (ap (λ (x : World _). entry_at x.cells (cell_of c.link_ref-link.result.now)) same ∙ at_w)
       (λ meet. front.0 (meet ∙ cell_is)) in
       let made : g.S.Caller.world c.let_go_of_first.new.s ≡ let_go_first w place cell t slot (link v) tagged.1.0.held =
-      gone ∙ ap (λ (x : World _). let_go_first x (g.S.Caller.seat c.tag.new.s).place cell t slot (cell_of c.link_ref-link.result.now) tagged.1.0.held) same
+      gone ∙ ap (λ (x : World _). let_go_first x (g.S.Caller.caller c.tag.new.s).place cell t slot (cell_of c.link_ref-link.result.now) tagged.1.0.held) same
       ∙ ap (λ (x : CallerId). let_go_first w x.place cell t slot (cell_of c.link_ref-link.result.now) tagged.1.0.held) at2
       ∙ ap (λ (x : ℕ). let_go_first w place cell t slot x tagged.1.0.held) cell_is in
       let next = front.2 (g.S.Caller.world c.let_go_of_first.new.s) made in
@@ -108,13 +108,13 @@ loop-step-preserved g c = record {
 pub returns-in_default-tag-clause-exact : goal.returns-in_default-tag-clause-exact
 returns-in_default-tag-clause-exact g c = λ e t es list.
     let link = g.T.LinkedList.link in
-    let place = (g.S.Caller.seat c.args.s.now).place in
+    let place = (g.S.Caller.caller c.args.s.now).place in
     let cell : ℕ = cell_of c.args.cell.now in
     let w = g.S.Caller.world c.loop-step.s in
     let v = c.in-Some.entry.now in
     let inv = c.loop-step.invariant.list e t es list in
-    let at0 = c.loop-step.invariant.seat in
-    let at1 = c.load-first.ensures.undisturbed.seat ∙ at0 in
+    let at0 = c.loop-step.invariant.caller in
+    let at1 = c.load-first.ensures.undisturbed.caller ∙ at0 in
     let loaded = c.load-first.ensures.exact (subst (λ (s : CallerId). IsExact s) (sym at0) e) in
     let tagged = c.tag.ensures.exact (subst (λ (s : CallerId). IsExact s) (sym at1) e) in
     let same : g.S.Caller.world c.tag.new.s ≡ w = tagged.0 ∙ loaded.1 in
@@ -157,11 +157,11 @@ returns-else-is_null-clause-own g c = λ start grown.
 pub returns-then-is_null-clause-exact : goal.returns-then-is_null-clause-exact
 returns-then-is_null-clause-exact g c = λ e t es list.
     let link = g.T.LinkedList.link in
-    let place = (g.S.Caller.seat c.args.s.now).place in
+    let place = (g.S.Caller.caller c.args.s.now).place in
     let cell : ℕ = cell_of c.args.cell.now in
     let w = g.S.Caller.world c.loop-step.s in
     let inv = c.loop-step.invariant.list e t es list in
-    let same = (c.is_null.ensures.exact (subst (λ (s : CallerId). IsExact s) (sym c.loop-step.invariant.seat) e)).0 in
+    let same = (c.is_null.ensures.exact (subst (λ (s : CallerId). IsExact s) (sym c.loop-step.invariant.caller) e)).0 in
     let all = spent link w place cell t inv.0 es _ inv.1 inv.2 inv.3 (omega (arith, inv.4)) in (
       refl,
       c.null.ensures.null ∙ sym all.0,
@@ -172,11 +172,11 @@ returns-then-is_null-clause-exact g c = λ e t es list.
 pub returns-else-is_null-clause-exact : goal.returns-else-is_null-clause-exact
 returns-else-is_null-clause-exact g c = λ e t es list.
     let link = g.T.LinkedList.link in
-    let place = (g.S.Caller.seat c.args.s.now).place in
+    let place = (g.S.Caller.caller c.args.s.now).place in
     let cell : ℕ = cell_of c.args.cell.now in
     let w = g.S.Caller.world c.loop-step.s in
     let inv = c.loop-step.invariant.list e t es list in
-    let seen = c.is_null.ensures.exact (subst (λ (s : CallerId). IsExact s) (sym c.loop-step.invariant.seat) e) in
+    let seen = c.is_null.ensures.exact (subst (λ (s : CallerId). IsExact s) (sym c.loop-step.invariant.caller) e) in
     let none = none-there link w place cell t inv.0 seen.1.0 inv.1 (omega (arith, inv.4)) seen.1.1 in
     let yes : c.is_null.result ≡ true = seen.1.2.1 none in
     let no : c.is_null.result ≡ false = c.if-is_null.false in

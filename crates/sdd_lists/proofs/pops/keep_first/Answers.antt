@@ -1,9 +1,9 @@
 use Rattle.std.proofs.Common.{◌≡◌, ℕ, ◌+◌, ◌^◌, ◌∙◌, ap, sym, Some, None, Option, subst}
 use Rattle.std.specs.Prelude.{IfSome}
-use Rattle.sdd_space.specs.World.{standing_at}
+use Rattle.sdd_world_model.specs.World.{standing_at}
 use Rattle.sdd_space.specs.Shared.{slot_of}
-use Rattle.sdd_space.specs.WorldChanges.{with_standing}
-use Rattle.sdd_standings.specs.Slots.{IsSharedBy, owners_of}
+use Rattle.sdd_world_model.specs.WorldChanges.{with_standing}
+use Rattle.sdd_world_model.specs.Slots.{IsSharedBy, owners_of}
 use Rattle.sdd_participants.specs.declared.standing.Standing.TheVariants.{Shared as shared_by}
 use Rattle.sdd_lists.proofs.pops.keep_first.Goals as goal
 

@@ -1,12 +1,12 @@
 use Rattle.std.proofs.Common.{◌≡◌, ℕ, ◌∙◌, sym, ap, refl, List, ◌∷◌, subst}
-use Rattle.sdd_space.specs.World.{World, standing_at}
+use Rattle.sdd_world_model.specs.World.{World, standing_at}
 use Rattle.sdd_space.specs.CallerId.{IsExact, CallerId}
 use Rattle.sdd_space.specs.Shared.{cell_of}
 use Rattle.sdd_participants.specs.declared.standing.CellContents.{CellContents}
-use Rattle.sdd_standings.specs.Slots.{IsSharedBy}
+use Rattle.sdd_world_model.specs.Slots.{IsSharedBy}
 use Rattle.sdd_lists.specs.Lists.{Entry, IsCrowded, IsList, IsTaken, first_slot}
-use Rattle.sdd_lists.proofs.Fronts.{head-stays, left-head}
-use Rattle.sdd_lists.proofs.Grows.{grows-not}
+use Rattle.sdd_lists.proofs.FirstEntries.{head-stays, left-head}
+use Rattle.sdd_lists.proofs.MoreWaiting.{grows-not}
 use Rattle.sdd_lists.proofs.pops.pop_first.Goals as goal
 
 pub returns-in-Ok-clause-exact : goal.returns-in-Ok-clause-exact
@@ -18,8 +18,8 @@ returns-in-Ok-clause-exact g c = λ e t es list.
     let found = c.in-Some.ensures.exact e es list.linked held list.begins refl in
     let x : Entry _ = found.0 in
     let rest : List (Entry _) = found.1 in
-    let at1 = c.in-Some.ensures.undisturbed.seat in
-    let at2 = c.tag.ensures.undisturbed.seat ∙ at1 in
+    let at1 = c.in-Some.ensures.undisturbed.caller in
+    let at2 = c.tag.ensures.undisturbed.caller ∙ at1 in
     let tagged = c.tag.ensures.exact (subst (λ (s : CallerId). IsExact s) (sym at1) e) in
     let same : g.S.Caller.world c.tag.new.s ≡ w = tagged.0 ∙ c.in-Some.ensures.world e in
     let list_x : IsList link w cell t (x ∷ rest) = subst (λ (xs : List (Entry _)). IsList link w cell t xs) found.2 list in
@@ -33,9 +33,9 @@ returns-in-Ok-clause-exact g c = λ e t es list.
       x,
       rest,
       left-head es x rest found.2 stays,
-      subst (λ (xs : List (Entry _)). IsTaken link w (g.S.Caller.seat c.args.s.now).place cell t xs x rest c.in-Ok.owner new) (sym found.2)
+      subst (λ (xs : List (Entry _)). IsTaken link w (g.S.Caller.caller c.args.s.now).place cell t xs x rest c.in-Ok.owner new) (sym found.2)
           (subst (λ (s : CallerId). IsTaken link w s.place cell t (x ∷ rest) x rest c.in-Ok.owner new) at2
-          (subst (λ (y : World _). IsTaken link y (g.S.Caller.seat c.tag.new.s).place cell t (x ∷ rest) x rest c.in-Ok.owner new) same taken)),
+          (subst (λ (y : World _). IsTaken link y (g.S.Caller.caller c.tag.new.s).place cell t (x ∷ rest) x rest c.in-Ok.owner new) same taken)),
     )
 
 pub returns-in-Err-clause-exact : goal.returns-in-Err-clause-exact
@@ -47,8 +47,8 @@ returns-in-Err-clause-exact g c = λ e t es list.
     let found = c.in-Some.ensures.exact e es list.linked held list.begins refl in
     let x : Entry _ = found.0 in
     let rest : List (Entry _) = found.1 in
-    let at1 = c.in-Some.ensures.undisturbed.seat in
-    let at2 = c.tag.ensures.undisturbed.seat ∙ at1 in
+    let at1 = c.in-Some.ensures.undisturbed.caller in
+    let at2 = c.tag.ensures.undisturbed.caller ∙ at1 in
     let tagged = c.tag.ensures.exact (subst (λ (s : CallerId). IsExact s) (sym at1) e) in
     let same : g.S.Caller.world c.tag.new.s ≡ w = tagged.0 ∙ c.in-Some.ensures.world e in
     let list_x : IsList link w cell t (x ∷ rest) = subst (λ (xs : List (Entry _)). IsList link w cell t xs) found.2 list in

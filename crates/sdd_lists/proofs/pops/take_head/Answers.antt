@@ -1,24 +1,24 @@
 use Rattle.std.proofs.Common.{◌≡◌, ℕ, ◌+◌, ◌∙◌, ap, sym, [], ◌∷◌, true, false, subst}
-use Rattle.sdd_space.specs.World.{World}
+use Rattle.sdd_world_model.specs.World.{World}
 use Rattle.sdd_space.specs.CallerId.{IsExact, CallerId}
 use Rattle.sdd_space.specs.Shared.{cell_of, slot_of}
-use Rattle.sdd_space.specs.WorldChanges.{with_standing}
+use Rattle.sdd_world_model.specs.WorldChanges.{with_standing}
 use Rattle.sdd_participants.specs.declared.standing.Standing.TheVariants.{Shared as shared_by}
 use Rattle.sdd_lists.specs.Lists.{removed}
 use Rattle.sdd_lists.proofs.Lists.{list-same}
-use Rattle.sdd_lists.proofs.Grows.{grows-if, grows-not}
-use Rattle.sdd_lists.proofs.Popping.{removed-head}
+use Rattle.sdd_lists.proofs.MoreWaiting.{grows-if, grows-not}
+use Rattle.sdd_lists.proofs.PoppedLists.{removed-head}
 use Rattle.sdd_lists.proofs.pops.take_head.Goals as goal
 
 pub returns-in-Ok-remove_head-clause-exact : goal.returns-in-Ok-remove_head-clause-exact
 returns-in-Ok-remove_head-clause-exact g c = λ e t x rest list stays named cell_is shared.
     let link = g.T.LinkedList.link in
     let w = g.S.Caller.world c.args.s.now in
-    let place = (g.S.Caller.seat c.args.s.now).place in
+    let place = (g.S.Caller.caller c.args.s.now).place in
     let cell : ℕ = cell_of c.args.cell.now in
     let kept = c.in-Ok.ensures.exact e x named shared in
     let u : World _ = with_standing w x.slot (shared_by (kept.owners + 1)) in
-    let at_keep = c.in-Ok.ensures.undisturbed.seat in
+    let at_keep = c.in-Ok.ensures.undisturbed.caller in
     let in_u = list-same link w (g.S.Caller.world c.keep_first.new.s) cell t (x ∷ rest) (ap (λ (y : World _). y.cells) kept.world)
     (ap (λ (y : World _). y.values) kept.world) list in
     let gone = c.in-Ok-remove_head.ensures.exact (subst (λ (s : CallerId). IsExact s) (sym at_keep) e) t x rest in_u stays cell_is in
@@ -27,7 +27,7 @@ returns-in-Ok-remove_head-clause-exact g c = λ e t x rest list stays named cell
       owners = kept.owners;
       shared = kept.shared;
       few = kept.few;
-      world = gone.1 ∙ ap (λ (y : World _). removed link y (g.S.Caller.seat c.keep_first.new.s).place cell t [] x rest) kept.world
+      world = gone.1 ∙ ap (λ (y : World _). removed link y (g.S.Caller.caller c.keep_first.new.s).place cell t [] x rest) kept.world
           ∙ ap (λ (s : CallerId). removed link u s.place cell t [] x rest) at_keep
           ∙ removed-head link u place cell t x rest stays;
       list = gone.2;
@@ -39,7 +39,7 @@ returns-in-Err-remove_head-clause-exact g c = λ e t x rest list stays named cel
     let w = g.S.Caller.world c.args.s.now in
     let cell : ℕ = cell_of c.args.cell.now in
     let kept = c.in-Ok.ensures.exact e x named shared in
-    let at_keep = c.in-Ok.ensures.undisturbed.seat in
+    let at_keep = c.in-Ok.ensures.undisturbed.caller in
     let in_u = list-same link w (g.S.Caller.world c.keep_first.new.s) cell t (x ∷ rest) (ap (λ (y : World _). y.cells) kept.world)
     (ap (λ (y : World _). y.values) kept.world) list in
     let gone = c.in-Err-remove_head.ensures.exact (subst (λ (s : CallerId). IsExact s) (sym at_keep) e) t x rest in_u stays cell_is in

@@ -1,17 +1,17 @@
 use Rattle.std.proofs.Common.{◌≡◌, ℕ, ◌+◌, ◌∙◌, ap, sym, refl, Bool, true, false, Option, subst}
 use Rattle.std.specs.Prelude.{if◌then◌else◌}
-use Rattle.sdd_space.specs.World.{World, standing_at}
+use Rattle.sdd_world_model.specs.World.{World, standing_at}
 use Rattle.sdd_space.specs.CallerId.{IsExact, CallerId}
 use Rattle.sdd_space.specs.Shared.{cell_of, slot_of}
-use Rattle.sdd_space.specs.WorldChanges.{held_in, with_standing}
+use Rattle.sdd_world_model.specs.WorldChanges.{held_in, with_standing}
 use Rattle.sdd_core.specs.declared.tag.Tag.TheVariants.{None as no_tag}
-use Rattle.sdd_standings.specs.Slots.{IsSharedBy}
+use Rattle.sdd_world_model.specs.Slots.{IsSharedBy}
 use Rattle.sdd_participants.specs.declared.standing.Standing.TheVariants.{Shared as shared_by}
 use Rattle.sdd_lists.specs.Lists.{IsCrowded, IsList, removed}
 use Rattle.sdd_lists.specs.Queue.{IsQueue, QueueCells, cell_emptied, cell_left, lets_go_of}
-use Rattle.sdd_lists.proofs.Grows.{grows-if, grows-not}
-use Rattle.sdd_lists.proofs.Leaving.{left-list, queue-same, rest-queue}
-use Rattle.sdd_space.proofs.Shown.{shown_still}
+use Rattle.sdd_lists.proofs.MoreWaiting.{grows-if, grows-not}
+use Rattle.sdd_lists.proofs.QueuePops.{left-list, queue-same, rest-queue}
+use Rattle.sdd_space.proofs.PtrShown.{shown_still}
 use Rattle.sdd_lists.proofs.pops.take_oldest.Goals as goal
 
 pub keep_first-requires-clause-shown : goal.keep_first-requires-clause-shown
@@ -23,28 +23,28 @@ pub returns-in-Ok-remove_first-clause-exact : goal.returns-in-Ok-remove_first-cl
 returns-in-Ok-remove_first-clause-exact g c = λ e es second queue x rest first named cell_is shared.
     let link = g.T.LinkedList.link in
     let w = g.S.Caller.world c.args.s.now in
-    let place = (g.S.Caller.seat c.args.s.now).place in
+    let place = (g.S.Caller.caller c.args.s.now).place in
     let q : QueueCells = record { oldest = cell_of c.args.oldest.now; newest = cell_of c.args.newest.now } in
     let seen = c.slot_in-second.ensures.exact e in
     let held : c.slot_in-second.result ≡ second = ap held_in (sym seen.1.1 ∙ queue.newest) in
-    let at1 = c.slot_in-second.ensures.undisturbed.seat in
+    let at1 = c.slot_in-second.ensures.undisturbed.caller in
     let ex1 = subst (λ (s : CallerId). IsExact s) (sym at1) e in
     let list1 = subst (λ (y : World _). IsList link y q.oldest no_tag es) (sym seen.0) queue.list in
     let goes : c.is_let_go_of-goes.result ≡ lets_go_of second es =
     c.is_let_go_of-goes.ensures.exact ex1 no_tag es list1 ∙ ap (λ (h : Option ℕ). lets_go_of h es) held in
     let same2 : g.S.Caller.world c.is_let_go_of-goes.new.s ≡ w = c.is_let_go_of-goes.ensures.world ex1 ∙ seen.0 in
-    let at2 = c.is_let_go_of-goes.ensures.undisturbed.seat ∙ at1 in
+    let at2 = c.is_let_go_of-goes.ensures.undisturbed.caller ∙ at1 in
     let shared2 = subst (λ (y : World _). (n : ℕ) × IsSharedBy n (standing_at y x.slot)) (sym same2) shared in
     let kept = c.in-Ok.ensures.exact (subst (λ (s : CallerId). IsExact s) (sym at2) e) x named shared2 in
     let u : World _ = with_standing w x.slot (shared_by (kept.owners + 1)) in
-    let at3 = c.in-Ok.ensures.undisturbed.seat ∙ at2 in
+    let at3 = c.in-Ok.ensures.undisturbed.caller ∙ at2 in
     let world3 = g.S.Caller.world c.keep_first.new.s in
     let world_u : world3 ≡ u = kept.world ∙ ap (λ (y : World _). with_standing y x.slot (shared_by (kept.owners + 1))) same2 in
     let queue_u : IsQueue link u q es second = queue-same link w u q es second refl refl queue in
     let queue3 : IsQueue link world3 q es second = subst (λ (y : World _). IsQueue link y q es second) (sym world_u) queue_u in
     let emptied = c.empty_cell_if.ensures.exact (subst (λ (s : CallerId). IsExact s) (sym at3) e) second no_tag queue3.newest in
-    let at4 = c.empty_cell_if.ensures.unmoved.seat ∙ at3 in
-    let place3 = (g.S.Caller.seat c.keep_first.new.s).place in
+    let at4 = c.empty_cell_if.ensures.unmoved.caller ∙ at3 in
+    let place3 = (g.S.Caller.caller c.keep_first.new.s).place in
     let z : World _ = cell_left u place q.newest second es in
     let world4 : g.S.Caller.world c.empty_cell_if.new.s ≡ z =
     emptied ∙ ap (λ (b : Bool). if b then cell_emptied world3 place3 q.newest second else world3) goes
@@ -54,7 +54,7 @@ returns-in-Ok-remove_first-clause-exact g c = λ e es second queue x rest first 
     let gone = c.in-Ok-remove_first.ensures.exact (subst (λ (s : CallerId). IsExact s) (sym at4) e) no_tag es list4 x rest first cell_is in
     let new = g.S.Caller.world c.remove_first.new.s in
     let world5 : new ≡ removed link z place q.oldest no_tag es x rest =
-    gone.1 ∙ ap (λ (y : World _). removed link y (g.S.Caller.seat c.empty_cell_if.new.s).place q.oldest no_tag es x rest) world4
+    gone.1 ∙ ap (λ (y : World _). removed link y (g.S.Caller.caller c.empty_cell_if.new.s).place q.oldest no_tag es x rest) world4
     ∙ ap (λ (s : CallerId). removed link z s.place q.oldest no_tag es x rest) at4 in
     record {
       slot = kept.slot;
@@ -68,10 +68,10 @@ returns-in-Ok-remove_first-clause-exact g c = λ e es second queue x rest first 
 pub returns-in-Err-clause-exact : goal.returns-in-Err-clause-exact
 returns-in-Err-clause-exact g c = λ e es second queue x rest first named cell_is shared.
     let seen = c.slot_in-second.ensures.exact e in
-    let at1 = c.slot_in-second.ensures.undisturbed.seat in
+    let at1 = c.slot_in-second.ensures.undisturbed.caller in
     let ex1 = subst (λ (s : CallerId). IsExact s) (sym at1) e in
     let same2 = c.is_let_go_of-goes.ensures.world ex1 ∙ seen.0 in
-    let at2 = c.is_let_go_of-goes.ensures.undisturbed.seat ∙ at1 in
+    let at2 = c.is_let_go_of-goes.ensures.undisturbed.caller ∙ at1 in
     let shared2 = subst (λ (y : World _). (n : ℕ) × IsSharedBy n (standing_at y x.slot)) (sym same2) shared in
     subst (λ (y : World _). IsCrowded y x c.in-Err.refused (g.S.Caller.world c.keep_first.new.s)) same2
     (c.in-Err.ensures.exact (subst (λ (s : CallerId). IsExact s) (sym at2) e) x named shared2)
@@ -80,28 +80,28 @@ pub returns-in-Err-remove_first-clause-exact : goal.returns-in-Err-remove_first-
 returns-in-Err-remove_first-clause-exact g c = λ e es second queue x rest first named cell_is shared.
     let link = g.T.LinkedList.link in
     let w = g.S.Caller.world c.args.s.now in
-    let place = (g.S.Caller.seat c.args.s.now).place in
+    let place = (g.S.Caller.caller c.args.s.now).place in
     let q : QueueCells = record { oldest = cell_of c.args.oldest.now; newest = cell_of c.args.newest.now } in
     let seen = c.slot_in-second.ensures.exact e in
     let held : c.slot_in-second.result ≡ second = ap held_in (sym seen.1.1 ∙ queue.newest) in
-    let at1 = c.slot_in-second.ensures.undisturbed.seat in
+    let at1 = c.slot_in-second.ensures.undisturbed.caller in
     let ex1 = subst (λ (s : CallerId). IsExact s) (sym at1) e in
     let list1 = subst (λ (y : World _). IsList link y q.oldest no_tag es) (sym seen.0) queue.list in
     let goes : c.is_let_go_of-goes.result ≡ lets_go_of second es =
     c.is_let_go_of-goes.ensures.exact ex1 no_tag es list1 ∙ ap (λ (h : Option ℕ). lets_go_of h es) held in
     let same2 : g.S.Caller.world c.is_let_go_of-goes.new.s ≡ w = c.is_let_go_of-goes.ensures.world ex1 ∙ seen.0 in
-    let at2 = c.is_let_go_of-goes.ensures.undisturbed.seat ∙ at1 in
+    let at2 = c.is_let_go_of-goes.ensures.undisturbed.caller ∙ at1 in
     let shared2 = subst (λ (y : World _). (n : ℕ) × IsSharedBy n (standing_at y x.slot)) (sym same2) shared in
     let kept = c.in-Ok.ensures.exact (subst (λ (s : CallerId). IsExact s) (sym at2) e) x named shared2 in
     let u : World _ = with_standing w x.slot (shared_by (kept.owners + 1)) in
-    let at3 = c.in-Ok.ensures.undisturbed.seat ∙ at2 in
+    let at3 = c.in-Ok.ensures.undisturbed.caller ∙ at2 in
     let world3 = g.S.Caller.world c.keep_first.new.s in
     let world_u : world3 ≡ u = kept.world ∙ ap (λ (y : World _). with_standing y x.slot (shared_by (kept.owners + 1))) same2 in
     let queue_u : IsQueue link u q es second = queue-same link w u q es second refl refl queue in
     let queue3 : IsQueue link world3 q es second = subst (λ (y : World _). IsQueue link y q es second) (sym world_u) queue_u in
     let emptied = c.empty_cell_if.ensures.exact (subst (λ (s : CallerId). IsExact s) (sym at3) e) second no_tag queue3.newest in
-    let at4 = c.empty_cell_if.ensures.unmoved.seat ∙ at3 in
-    let place3 = (g.S.Caller.seat c.keep_first.new.s).place in
+    let at4 = c.empty_cell_if.ensures.unmoved.caller ∙ at3 in
+    let place3 = (g.S.Caller.caller c.keep_first.new.s).place in
     let world4 : g.S.Caller.world c.empty_cell_if.new.s ≡ cell_left world3 place3 q.newest second es =
     emptied ∙ ap (λ (b : Bool). if b then cell_emptied world3 place3 q.newest second else world3) goes in
     let list4 = subst (λ (y : World _). IsList link y q.oldest no_tag es) (sym world4) (left-list link world3 place3 q es second queue3) in

@@ -1,10 +1,10 @@
 use Rattle.std.proofs.Common.{◌≡◌, inl, ℕ, ◌<◌, ◌∙◌, ap, sym, refl, List, ◌∷◌, [], ◌++◌, length, Option, Some, None, subst, arith}
 use Rattle.std.specs.Prelude.{option_map, slice_index_or}
 use Rattle.std.proofs.lemmas.List.{get_or-set_same, get_or-set_other}
-use Rattle.sdd_space.specs.World.{World, value_at}
+use Rattle.sdd_world_model.specs.World.{World, value_at}
 use Rattle.sdd_space.specs.CallerId.{IsExact, CallerId}
 use Rattle.sdd_space.specs.Shared.{cell_of, right_of, slot_of}
-use Rattle.sdd_space.specs.WorldChanges.{held_in, made_as, spilled, with_cell}
+use Rattle.sdd_world_model.specs.WorldChanges.{held_in, made_as, spilled, with_cell}
 use Rattle.sdd_core.specs.declared.tag.Tag.TheVariants.{None as no_tag}
 use Rattle.sdd_participants.specs.Slab.{Entries, entry_at}
 use Rattle.sdd_participants.specs.declared.standing.CellContents.{CellContents}
@@ -12,25 +12,25 @@ use Rattle.sdd_participants.specs.declared.standing.Standing.TheVariants.{Shared
 use Rattle.sdd_lists.specs.Ends.{appended, through_last}
 use Rattle.sdd_lists.specs.Lists.{Entry, IsList}
 use Rattle.sdd_lists.specs.Queue.{QueueCells, made_newest}
-use Rattle.sdd_lists.proofs.Ending.{among-last, apart-last, apart-through, appended-list, appended-other}
-use Rattle.sdd_lists.proofs.Grows.{grows-not}
-use Rattle.sdd_lists.proofs.Leaving.{given-spilled, list-apart, spilled-cells, spilled-values}
+use Rattle.sdd_lists.proofs.Ends.{among-last, apart-last, apart-through, appended-list, appended-other}
+use Rattle.sdd_lists.proofs.MoreWaiting.{grows-not}
+use Rattle.sdd_lists.proofs.QueuePops.{given-spilled, list-apart, spilled-cells, spilled-values}
 use Rattle.sdd_lists.proofs.Lists.{inside}
-use Rattle.sdd_lists.proofs.Pushing.{list-made}
+use Rattle.sdd_lists.proofs.PushedLists.{list-made}
 use Rattle.sdd_lists.proofs.pushes.push_last.Goals as goal
 
 pub returns-clause-exact : goal.returns-clause-exact
 returns-clause-exact g c = λ e es second queue last clear far farn all.
     let link = g.T.LinkedList.link in
     let w = g.S.Caller.world c.args.s.now in
-    let place = (g.S.Caller.seat c.args.s.now).place in
+    let place = (g.S.Caller.caller c.args.s.now).place in
     let q : QueueCells = record { oldest = cell_of c.args.oldest.now; newest = cell_of c.args.newest.now } in
     let value = c.args.value in
     let l : ℕ = link value in
     let k : ℕ = slot_of c.in-Ok.owners.0 in
-    let at1 = c.in-Ok.ensures.undisturbed.seat in
-    let at2 = c.swap-was.ensures.undisturbed.seat ∙ at1 in
-    let at3 = c.give_up.ensures.unmoved.seat ∙ at2 in
+    let at1 = c.in-Ok.ensures.undisturbed.caller in
+    let at2 = c.swap-was.ensures.undisturbed.caller ∙ at1 in
+    let at3 = c.give_up.ensures.unmoved.caller ∙ at2 in
     let made = c.in-Ok.ensures.exact e in
     let bare = c.values_fit_slots.ensures.bare e k made.0.1 in
     let m : World _ = made_as w k value (shared_by 3) in
@@ -46,9 +46,9 @@ returns-clause-exact g c = λ e es second queue last clear far farn all.
     let given = c.give_up.ensures.exact (subst (λ (s : CallerId). IsExact s) (sym at2) e) in
     let z : World _ = made_newest w place q.newest k value second in
     let world_z : g.S.Caller.world c.give_up.new.s ≡ z =
-    given-spilled (g.S.Caller.world c.swap-was.new.s) (g.S.Caller.world c.give_up.new.s) (g.S.Caller.seat c.swap-was.new.s).place c.swap-was.result.0 given
-    ∙ ap (λ (h : Option ℕ). spilled (g.S.Caller.world c.swap-was.new.s) (g.S.Caller.seat c.swap-was.new.s).place h) was
-    ∙ ap (λ (y : World _). spilled y (g.S.Caller.seat c.swap-was.new.s).place second) world_x
+    given-spilled (g.S.Caller.world c.swap-was.new.s) (g.S.Caller.world c.give_up.new.s) (g.S.Caller.caller c.swap-was.new.s).place c.swap-was.result.0 given
+    ∙ ap (λ (h : Option ℕ). spilled (g.S.Caller.world c.swap-was.new.s) (g.S.Caller.caller c.swap-was.new.s).place h) was
+    ∙ ap (λ (y : World _). spilled y (g.S.Caller.caller c.swap-was.new.s).place second) world_x
     ∙ ap (λ (s : CallerId). spilled x s.place second) at2 in
     let cells : z.cells ≡ x.cells = spilled-cells x place second in
     let values : z.values ≡ m.values = spilled-values x place second in
@@ -68,7 +68,7 @@ returns-clause-exact g c = λ e es second queue last clear far farn all.
     let new = g.S.Caller.world c.put_last.new.s in
     let entry : Entry _ = record { slot = k; value = value; tag = no_tag } in
     let world_new : new ≡ appended link z place q.oldest no_tag es l k =
-    put ∙ ap (λ (u : World _). appended link u (g.S.Caller.seat c.give_up.new.s).place q.oldest no_tag es l k) world_z
+    put ∙ ap (λ (u : World _). appended link u (g.S.Caller.caller c.give_up.new.s).place q.oldest no_tag es l k) world_z
     ∙ ap (λ (s : CallerId). appended link z s.place q.oldest no_tag es l k) at3 in
     record {
       free = made.0;
@@ -86,10 +86,10 @@ returns-clause-exact g c = λ e es second queue last clear far farn all.
 
 pub returns-clause-value : goal.returns-clause-value
 returns-clause-value g c =
-    let at1 = c.in-Ok.ensures.undisturbed.seat in
-    let at4 = c.put_last.ensures.unmoved.seat ∙ c.give_up.ensures.unmoved.seat ∙ c.swap-was.ensures.undisturbed.seat ∙ at1 in
+    let at1 = c.in-Ok.ensures.undisturbed.caller in
+    let at4 = c.put_last.ensures.unmoved.caller ∙ c.give_up.ensures.unmoved.caller ∙ c.swap-was.ensures.undisturbed.caller ∙ at1 in
     g.met.S.Shows.keeps_owned c.make_three.new.s c.put_last.new.s
-    (g.met.S.Caller.home_is_seat c.make_three.new.s ∙ ap (λ (s : CallerId). s.home) (at1 ∙ sym at4) ∙ sym (g.met.S.Caller.home_is_seat c.put_last.new.s))
+    (g.met.S.Caller.home_is_caller c.make_three.new.s ∙ ap (λ (s : CallerId). s.home) (at1 ∙ sym at4) ∙ sym (g.met.S.Caller.home_is_caller c.put_last.new.s))
     (λ k v was. c.put_last.ensures.unmoved.shown k v (c.give_up.ensures.unmoved.shown k v (c.swap-was.ensures.undisturbed.shown k v was)))
     (right_of c.in-Ok.owners.0) c.args.value c.in-Ok.ensures.shown
 

@@ -1,14 +1,14 @@
 use Rattle.std.proofs.Common.{◌≡◌, ℕ, ◌∙◌, ap, sym, List, Option, Some, None, subst}
 use Rattle.std.specs.Prelude.{slice_index_or}
-use Rattle.sdd_space.specs.OwnerOrCell.{SpaceId}
-use Rattle.sdd_space.specs.World.{World, value_at}
+use Rattle.sdd_world_model.specs.OwnerOrCell.{SpaceId}
+use Rattle.sdd_world_model.specs.World.{World, value_at}
 use Rattle.sdd_space.specs.CallerId.{IsExact, CallerId}
 use Rattle.sdd_space.specs.Shared.{cell_of, slot_of}
 use Rattle.sdd_core.specs.declared.tag.Tag.TheVariants.{None as no_tag}
 use Rattle.sdd_participants.specs.Slab.{entry_at}
 use Rattle.sdd_lists.specs.Lists.{first_slot, left, linked_in, trimmed}
-use Rattle.sdd_lists.proofs.Grows.{grows-not}
-use Rattle.sdd_lists.proofs.Pushing.{trim-other, trim-values}
+use Rattle.sdd_lists.proofs.MoreWaiting.{grows-not}
+use Rattle.sdd_lists.proofs.PushedLists.{trim-other, trim-values}
 use Rattle.sdd_lists.proofs.pushes.put_behind.Goals as goal
 
 pub put_in_front-requires-clause-link : goal.put_in_front-requires-clause-link
@@ -16,19 +16,19 @@ put_in_front-requires-clause-link g c =
     c.link_ref.ensures.home
     ∙ g.met.T.LinkedList.link_is_held (g.S.Shows.home c.get_guarded_ref-entry.new.s) c.get_guarded_ref-entry.result.now
     (c.shown_is_of_home.ensures _ c.get_guarded_ref-entry.result.now c.get_guarded_ref-entry.ensures.shown)
-    ∙ ap (λ (h : SpaceId). h.cells) (g.met.S.Caller.home_is_seat c.get_guarded_ref-entry.new.s)
+    ∙ ap (λ (h : SpaceId). h.cells) (g.met.S.Caller.home_is_caller c.get_guarded_ref-entry.new.s)
 
 pub returns-clause-exact : goal.returns-clause-exact
 returns-clause-exact g c = λ e t es v list same_slot there clear far all.
     let link = g.T.LinkedList.link in
     let w = g.S.Caller.world c.args.s.now in
-    let place = (g.S.Caller.seat c.args.s.now).place in
+    let place = (g.S.Caller.caller c.args.s.now).place in
     let cell : ℕ = cell_of c.args.cell.now in
     let l : ℕ = link v in
     let k : ℕ = slot_of c.args.owner.now in
-    let at1 = c.trim.ensures.unmoved.seat in
-    let at2 = c.get_guarded_ref-entry.ensures.undisturbed.seat ∙ at1 in
-    let ex2 : IsExact (g.S.Caller.seat c.get_guarded_ref-entry.new.s) = subst (λ (s : CallerId). IsExact s) (sym at2) e in
+    let at1 = c.trim.ensures.unmoved.caller in
+    let at2 = c.get_guarded_ref-entry.ensures.undisturbed.caller ∙ at1 in
+    let ex2 : IsExact (g.S.Caller.caller c.get_guarded_ref-entry.new.s) = subst (λ (s : CallerId). IsExact s) (sym at2) e in
     let cut = c.trim.ensures.exact e t es list in
     let u = g.S.Caller.world c.trim.new.s in
     let x = g.S.Caller.world c.get_guarded_ref-entry.new.s in

@@ -3,14 +3,14 @@ use Rattle.std.specs.Prelude.{true}
 use Rattle.sdd_space.specs.Shared.{cell_of, slot_of}
 use Rattle.sdd_lists.specs.Ends.{End, IsLastOf, is_spent, put_at}
 use Rattle.sdd_lists.specs.Lists.{Entry, IsList, first_slot, left, linked_in, trimmed}
-use Rattle.sdd_lists.proofs.Ending.{apart-ends, end-last, end-spent, left-none, list-ends}
+use Rattle.sdd_lists.proofs.Ends.{apart-ends, end-last, end-spent, left-none, list-ends}
 use Rattle.sdd_lists.proofs.pushes.put_last.Goals as goal
 
 pub returns-in-Some-clause-exact : goal.returns-in-Some-clause-exact
 returns-in-Some-clause-exact g c = λ e t es v list last same_slot there clear far all.
     let link = g.T.LinkedList.link in
     let w = g.S.Caller.world c.args.s.now in
-    let place = (g.S.Caller.seat c.args.s.now).place in
+    let place = (g.S.Caller.caller c.args.s.now).place in
     let cell : ℕ = cell_of c.args.cell.now in
     let l : ℕ = link v in
     let k : ℕ = slot_of c.args.owner.now in
@@ -32,7 +32,7 @@ pub returns-in-None-clause-exact : goal.returns-in-None-clause-exact
 returns-in-None-clause-exact g c = λ e t es v list last same_slot there clear far all.
     let link = g.T.LinkedList.link in
     let w = g.S.Caller.world c.args.s.now in
-    let place = (g.S.Caller.seat c.args.s.now).place in
+    let place = (g.S.Caller.caller c.args.s.now).place in
     let cell : ℕ = cell_of c.args.cell.now in
     let l : ℕ = link v in
     let k : ℕ = slot_of c.args.owner.now in

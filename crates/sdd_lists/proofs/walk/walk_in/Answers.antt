@@ -1,11 +1,11 @@
 use Rattle.std.proofs.Common.{refl, sym, subst}
-use Rattle.sdd_space.specs.World.{World}
+use Rattle.sdd_world_model.specs.World.{World}
 use Rattle.sdd_participants.specs.declared.standing.CellContents.{CellContents}
 use Rattle.sdd_lists.specs.Entries.{link_of}
 use Rattle.sdd_lists.specs.Lists.{first_slot, left}
 use Rattle.sdd_lists.specs.Walk.{StandsBefore}
 use Rattle.sdd_lists.specs.declared.walk.Walk.{Walk}
-use Rattle.sdd_lists.proofs.Walking.{linked-left, stands}
+use Rattle.sdd_lists.proofs.WalkPositions.{linked-left, stands}
 use Rattle.sdd_lists.proofs.walk.walk_in.Goals as goal
 
 pub returns-clause-exact : goal.returns-clause-exact

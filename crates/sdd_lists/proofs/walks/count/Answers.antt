@@ -1,18 +1,18 @@
 use Rattle.std.proofs.Common.{◌≡◌, ℕ, ◌∙◌, ap, sym, refl, List, length, Some, subst, arith}
-use Rattle.sdd_space.specs.World.{World}
+use Rattle.sdd_world_model.specs.World.{World}
 use Rattle.sdd_space.specs.CallerId.{IsExact, CallerId}
 use Rattle.sdd_space.specs.Shared.{cell_of}
 use Rattle.sdd_core.specs.declared.tag.Tag.{Tag}
 use Rattle.sdd_participants.specs.Slab.{entry_at}
 use Rattle.sdd_participants.specs.declared.standing.CellContents.{CellContents}
 use Rattle.sdd_lists.specs.Lists.{AreLinked, Entry, content, first_slot, is_deleted, is_deleting}
-use Rattle.sdd_lists.proofs.Fronts.{counted, one_for, tag_in}
-use Rattle.sdd_lists.proofs.Grows.{knows-on}
+use Rattle.sdd_lists.proofs.FirstEntries.{counted, one_for, tag_in}
+use Rattle.sdd_lists.proofs.MoreWaiting.{knows-on}
 use Rattle.sdd_lists.proofs.walks.count.Goals as goal
 
 pub loop-step-init : goal.loop-step-init
 loop-step-init g c = record {
-  seat = c.in-Some.ensures.undisturbed.seat;
+  caller = c.in-Some.ensures.undisturbed.caller;
   own = c.in-Some.ensures.undisturbed.own;
   known = c.in-Some.ensures.undisturbed.known;
   keeps = c.in-Some.ensures.undisturbed.shown;
@@ -48,22 +48,22 @@ returns-clause-exact g c = λ e t es list.
 
 pub loop-step-preserved : goal.loop-step-preserved
 loop-step-preserved g c = record {
-  seat = c.in-Some-first_in.ensures.undisturbed.seat ∙ c.one_if_kept-count.ensures.undisturbed.seat ∙ c.loop-step.invariant.seat;
+  caller = c.in-Some-first_in.ensures.undisturbed.caller ∙ c.one_if_kept-count.ensures.undisturbed.caller ∙ c.loop-step.invariant.caller;
   own = c.in-Some-first_in.ensures.undisturbed.own ∙ c.one_if_kept-count.ensures.undisturbed.own ∙ c.loop-step.invariant.own;
   known = knows-on (knows-on c.loop-step.invariant.known c.one_if_kept-count.ensures.undisturbed.known) c.in-Some-first_in.ensures.undisturbed.known;
   keeps = λ k v was. c.in-Some-first_in.ensures.undisturbed.shown k v (c.one_if_kept-count.ensures.undisturbed.shown k v (c.loop-step.invariant.keeps k v was));
   world = λ e.
-      let at_loop = c.loop-step.invariant.seat in
-      c.in-Some-first_in.ensures.world (subst (λ (s : CallerId). IsExact s) (sym (c.one_if_kept-count.ensures.undisturbed.seat ∙ at_loop)) e)
+      let at_loop = c.loop-step.invariant.caller in
+      c.in-Some-first_in.ensures.world (subst (λ (s : CallerId). IsExact s) (sym (c.one_if_kept-count.ensures.undisturbed.caller ∙ at_loop)) e)
       ∙ (c.one_if_kept-count.ensures.exact (subst (λ (s : CallerId). IsExact s) (sym at_loop) e)).0 ∙ c.loop-step.invariant.world e;
-  home = c.in-Some-first_in.ensures.home ∙ ap (λ (s : CallerId). s.home.cells) (c.one_if_kept-count.ensures.undisturbed.seat ∙ c.loop-step.invariant.seat);
+  home = c.in-Some-first_in.ensures.home ∙ ap (λ (s : CallerId). s.home.cells) (c.one_if_kept-count.ensures.undisturbed.caller ∙ c.loop-step.invariant.caller);
   link = c.in-Some-first_in.ensures.link;
   few = omega (arith, c.loop-step.invariant.few, c.one_if_kept-count.ensures.most);
   found = λ e t es list.
       let link = g.T.LinkedList.link in
       let w = g.S.Caller.world c.args.s.now in
       let inv = c.loop-step.invariant.found e t es list in
-      let at_loop = c.loop-step.invariant.seat in
+      let at_loop = c.loop-step.invariant.caller in
       let seen = c.one_if_kept-count.ensures.exact (subst (λ (s : CallerId). IsExact s) (sym at_loop) e) in
       let same : g.S.Caller.world c.one_if_kept-count.new.s ≡ w = seen.0 ∙ c.loop-step.invariant.world e in
       let cell_is : cell_of c.loop-step.at.link.now ≡ link inv.0.value = c.loop-step.invariant.link ∙ ap link inv.4 in
@@ -74,8 +74,8 @@ loop-step-preserved g c = record {
       let one : c.one_if_kept-count.result ≡ one_for (is_deleted inv.0) = seen.1.2 ∙ ap (λ (x : Tag). one_for (is_deleting x)) tags in
       let sum = counted inv.0 inv.1 in
       let behind : CellContents = record { held = first_slot inv.1; tag = inv.0.tag } in
-      let at_one : IsExact (g.S.Caller.seat c.one_if_kept-count.new.s) = subst (λ (s : CallerId). IsExact s)
-      (sym (c.one_if_kept-count.ensures.undisturbed.seat ∙ at_loop)) e in
+      let at_one : IsExact (g.S.Caller.caller c.one_if_kept-count.new.s) = subst (λ (s : CallerId). IsExact s)
+      (sym (c.one_if_kept-count.ensures.undisturbed.caller ∙ at_loop)) e in
       let linked_now = subst (λ (x : World _). AreLinked link x inv.1) (sym same) inv.2.1 in
       let there_now : entry_at (g.S.Caller.world c.one_if_kept-count.new.s).cells (cell_of c.loop-step.at.link.now) ≡ Some behind =
       ap (λ (x : World _). entry_at x.cells (cell_of c.loop-step.at.link.now)) same ∙ here in
@@ -96,7 +96,7 @@ returns-in_default-first_in-clause-exact g c = λ e t es list.
     let link = g.T.LinkedList.link in
     let w = g.S.Caller.world c.args.s.now in
     let inv = c.loop-step.invariant.found e t es list in
-    let at_loop = c.loop-step.invariant.seat in
+    let at_loop = c.loop-step.invariant.caller in
     let seen = c.one_if_kept-count.ensures.exact (subst (λ (s : CallerId). IsExact s) (sym at_loop) e) in
     let same : g.S.Caller.world c.one_if_kept-count.new.s ≡ w = seen.0 ∙ c.loop-step.invariant.world e in
     let cell_is : cell_of c.loop-step.at.link.now ≡ link inv.0.value = c.loop-step.invariant.link ∙ ap link inv.4 in
@@ -107,8 +107,8 @@ returns-in_default-first_in-clause-exact g c = λ e t es list.
     let one : c.one_if_kept-count.result ≡ one_for (is_deleted inv.0) = seen.1.2 ∙ ap (λ (x : Tag). one_for (is_deleting x)) tags in
     let sum = counted inv.0 inv.1 in
     let behind : CellContents = record { held = first_slot inv.1; tag = inv.0.tag } in
-    let at_one : IsExact (g.S.Caller.seat c.one_if_kept-count.new.s) = subst (λ (s : CallerId). IsExact s)
-    (sym (c.one_if_kept-count.ensures.undisturbed.seat ∙ at_loop)) e in
+    let at_one : IsExact (g.S.Caller.caller c.one_if_kept-count.new.s) = subst (λ (s : CallerId). IsExact s)
+    (sym (c.one_if_kept-count.ensures.undisturbed.caller ∙ at_loop)) e in
     let linked_now = subst (λ (x : World _). AreLinked link x inv.1) (sym same) inv.2.1 in
     let there_now : entry_at (g.S.Caller.world c.one_if_kept-count.new.s).cells (cell_of c.loop-step.at.link.now) ≡ Some behind =
     ap (λ (x : World _). entry_at x.cells (cell_of c.loop-step.at.link.now)) same ∙ here in

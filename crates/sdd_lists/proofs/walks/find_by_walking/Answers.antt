@@ -1,20 +1,20 @@
 use Rattle.std.proofs.Common.{◌≡◌, ℕ, ◌∙◌, ap, sym, refl, List, length, Some, subst, arith}
-use Rattle.sdd_space.specs.World.{World, standing_at}
+use Rattle.sdd_world_model.specs.World.{World, standing_at}
 use Rattle.sdd_space.specs.CallerId.{IsExact, CallerId}
 use Rattle.sdd_participants.specs.declared.standing.CellContents.{CellContents}
-use Rattle.sdd_standings.specs.Slots.{IsSharedBy}
+use Rattle.sdd_world_model.specs.Slots.{IsSharedBy}
 use Rattle.sdd_space.specs.Shared.{cell_of}
 use Rattle.sdd_participants.specs.Slab.{entry_at}
 use Rattle.sdd_core.specs.declared.tag.Tag.{Tag}
 use Rattle.sdd_core.specs.declared.tag.Tag.TheVariants.{Second}
 use Rattle.sdd_lists.specs.Lists.{AreLinked, Entry, first_slot, left}
-use Rattle.sdd_lists.proofs.Grows.{knows-on}
-use Rattle.sdd_lists.proofs.Fronts.{left-gone, left-stays}
+use Rattle.sdd_lists.proofs.MoreWaiting.{knows-on}
+use Rattle.sdd_lists.proofs.FirstEntries.{left-gone, left-stays}
 use Rattle.sdd_lists.proofs.walks.find_by_walking.Goals as goal
 
 pub loop-step-init : goal.loop-step-init
 loop-step-init g c = record {
-  seat = c.in-Some.ensures.undisturbed.seat;
+  caller = c.in-Some.ensures.undisturbed.caller;
   own = c.in-Some.ensures.undisturbed.own;
   known = c.in-Some.ensures.undisturbed.known;
   link = c.in-Some.ensures.link;
@@ -45,7 +45,7 @@ returns-clause-exact g c = λ e es linked held there first.
 
 pub loop-step-preserved : goal.loop-step-preserved
 loop-step-preserved g c = record {
-  seat = c.in-Some-first_in.ensures.undisturbed.seat ∙ c.tag.ensures.undisturbed.seat ∙ c.loop-step.invariant.seat;
+  caller = c.in-Some-first_in.ensures.undisturbed.caller ∙ c.tag.ensures.undisturbed.caller ∙ c.loop-step.invariant.caller;
   own = c.in-Some-first_in.ensures.undisturbed.own ∙ c.tag.ensures.undisturbed.own ∙ c.loop-step.invariant.own;
   known = knows-on (knows-on c.loop-step.invariant.known c.tag.ensures.undisturbed.known) c.in-Some-first_in.ensures.undisturbed.known;
   link = c.in-Some-first_in.ensures.link;
@@ -53,15 +53,15 @@ loop-step-preserved g c = record {
   value = c.in-Some-first_in.ensures.value;
   keeps = λ k v was. c.in-Some-first_in.ensures.undisturbed.shown k v (c.tag.ensures.undisturbed.shown k v (c.loop-step.invariant.keeps k v was));
   world = λ e.
-      let at_loop = c.loop-step.invariant.seat in
-      c.in-Some-first_in.ensures.world (subst (λ (s : CallerId). IsExact s) (sym (c.tag.ensures.undisturbed.seat ∙ at_loop)) e)
+      let at_loop = c.loop-step.invariant.caller in
+      c.in-Some-first_in.ensures.world (subst (λ (s : CallerId). IsExact s) (sym (c.tag.ensures.undisturbed.caller ∙ at_loop)) e)
       ∙ (c.tag.ensures.exact (subst (λ (s : CallerId). IsExact s) (sym at_loop) e)).0 ∙ c.loop-step.invariant.world e;
-  home = c.in-Some-first_in.ensures.home ∙ ap (λ (s : CallerId). s.home.cells) (c.tag.ensures.undisturbed.seat ∙ c.loop-step.invariant.seat);
+  home = c.in-Some-first_in.ensures.home ∙ ap (λ (s : CallerId). s.home.cells) (c.tag.ensures.undisturbed.caller ∙ c.loop-step.invariant.caller);
   found = λ e es linked held there first.
       let link = g.T.LinkedList.link in
       let w = g.S.Caller.world c.args.s.now in
       let inv = c.loop-step.invariant.found e es linked held there first in
-      let at_loop = c.loop-step.invariant.seat in
+      let at_loop = c.loop-step.invariant.caller in
       let cell_is : cell_of c.loop-step.at.link.now ≡ link inv.0.value = c.loop-step.invariant.link ∙ ap link inv.5 in
       let tagged = c.tag.ensures.exact (subst (λ (s : CallerId). IsExact s) (sym at_loop) e) in
       let same : g.S.Caller.world c.tag.new.s ≡ w = tagged.0 ∙ c.loop-step.invariant.world e in
@@ -73,7 +73,7 @@ loop-step-preserved g c = record {
       here ∙ ap (λ (x : Tag). Some (record { held = tagged.1.0.held; tag = x })) c.in-Second.is in
       let lefts = left-gone link w inv.0 inv.1 tagged.1.0.held inv.2 deleted in
       let behind : CellContents = record { held = first_slot inv.1; tag = inv.0.tag } in
-      let at_tag : IsExact (g.S.Caller.seat c.tag.new.s) = subst (λ (s : CallerId). IsExact s) (sym (c.tag.ensures.undisturbed.seat ∙ at_loop)) e in
+      let at_tag : IsExact (g.S.Caller.caller c.tag.new.s) = subst (λ (s : CallerId). IsExact s) (sym (c.tag.ensures.undisturbed.caller ∙ at_loop)) e in
       let linked_now = subst (λ (x : World _). AreLinked link x inv.1) (sym same) inv.2.1 in
       let there_now : entry_at (g.S.Caller.world c.tag.new.s).cells (cell_of c.loop-step.at.link.now) ≡ Some behind =
       ap (λ (x : World _). entry_at x.cells (cell_of c.loop-step.at.link.now)) same ∙ ap (λ (x : ℕ). entry_at w.cells x) cell_is ∙ inv.2.0.linked in
@@ -95,7 +95,7 @@ returns-in_default-first_in-clause-exact g c = λ e es linked held there first.
     let link = g.T.LinkedList.link in
     let w = g.S.Caller.world c.args.s.now in
     let inv = c.loop-step.invariant.found e es linked held there first in
-    let at_loop = c.loop-step.invariant.seat in
+    let at_loop = c.loop-step.invariant.caller in
     let cell_is : cell_of c.loop-step.at.link.now ≡ link inv.0.value = c.loop-step.invariant.link ∙ ap link inv.5 in
     let tagged = c.tag.ensures.exact (subst (λ (s : CallerId). IsExact s) (sym at_loop) e) in
     let same : g.S.Caller.world c.tag.new.s ≡ w = tagged.0 ∙ c.loop-step.invariant.world e in
@@ -107,7 +107,7 @@ returns-in_default-first_in-clause-exact g c = λ e es linked held there first.
     here ∙ ap (λ (x : Tag). Some (record { held = tagged.1.0.held; tag = x })) c.in-Second.is in
     let lefts = left-gone link w inv.0 inv.1 tagged.1.0.held inv.2 deleted in
     let behind : CellContents = record { held = first_slot inv.1; tag = inv.0.tag } in
-    let at_tag : IsExact (g.S.Caller.seat c.tag.new.s) = subst (λ (s : CallerId). IsExact s) (sym (c.tag.ensures.undisturbed.seat ∙ at_loop)) e in
+    let at_tag : IsExact (g.S.Caller.caller c.tag.new.s) = subst (λ (s : CallerId). IsExact s) (sym (c.tag.ensures.undisturbed.caller ∙ at_loop)) e in
     let linked_now = subst (λ (x : World _). AreLinked link x inv.1) (sym same) inv.2.1 in
     let there_now : entry_at (g.S.Caller.world c.tag.new.s).cells (cell_of c.loop-step.at.link.now) ≡ Some behind =
     ap (λ (x : World _). entry_at x.cells (cell_of c.loop-step.at.link.now)) same ∙ ap (λ (x : ℕ). entry_at w.cells x) cell_is ∙ inv.2.0.linked in
@@ -119,7 +119,7 @@ returns-in_default-tag-clause-exact g c = λ e es linked held there first.
     let link = g.T.LinkedList.link in
     let w = g.S.Caller.world c.args.s.now in
     let inv = c.loop-step.invariant.found e es linked held there first in
-    let at_loop = c.loop-step.invariant.seat in
+    let at_loop = c.loop-step.invariant.caller in
     let cell_is : cell_of c.loop-step.at.link.now ≡ link inv.0.value = c.loop-step.invariant.link ∙ ap link inv.5 in
     let tagged = c.tag.ensures.exact (subst (λ (s : CallerId). IsExact s) (sym at_loop) e) in
     let here : entry_at w.cells (link inv.0.value) ≡ Some (record { held = tagged.1.0.held; tag = c.tag.result }) =

@@ -1,20 +1,20 @@
 use Rattle.std.proofs.Common.{◌≡◌, ℕ, ◌∙◌, ap, sym, List, Some, subst}
-use Rattle.sdd_space.specs.World.{World}
+use Rattle.sdd_world_model.specs.World.{World}
 use Rattle.sdd_space.specs.CallerId.{IsExact, CallerId}
 use Rattle.sdd_space.specs.Shared.{cell_of}
 use Rattle.sdd_participants.specs.Slab.{entry_at}
 use Rattle.sdd_core.specs.declared.tag.Tag.{Tag}
 use Rattle.sdd_lists.specs.Lists.{AreLinked, Entry, left}
-use Rattle.sdd_lists.proofs.Fronts.{left-stays}
+use Rattle.sdd_lists.proofs.FirstEntries.{left-stays}
 use Rattle.sdd_lists.proofs.walks.find_first.Goals as goal
 
 pub returns-in-Second-clause-exact : goal.returns-in-Second-clause-exact
 returns-in-Second-clause-exact g c = λ e es linked held there first.
     let w = g.S.Caller.world c.args.s.now in
-    let at1 = c.in-Some.ensures.undisturbed.seat in
+    let at1 = c.in-Some.ensures.undisturbed.caller in
     let tagged = c.tag.ensures.exact (subst (λ (s : CallerId). IsExact s) (sym at1) e) in
     let same : g.S.Caller.world c.tag.new.s ≡ w = tagged.0 ∙ c.in-Some.ensures.world e in
-    let at2 = c.tag.ensures.undisturbed.seat ∙ at1 in
+    let at2 = c.tag.ensures.undisturbed.caller ∙ at1 in
     let linked2 = subst (λ (x : World _). AreLinked g.T.LinkedList.link x es) (sym same) linked in
     let there2 : entry_at (g.S.Caller.world c.tag.new.s).cells (cell_of c.args.cell.now) ≡ Some held =
     ap (λ (x : World _). entry_at x.cells (cell_of c.args.cell.now)) same ∙ there in
@@ -27,7 +27,7 @@ returns-in_default-tag-clause-exact g c = λ e es linked held there first.
     let f = c.in-Some.ensures.exact e es linked held there first in
     let linked_f = subst (λ (xs : List (Entry _)). AreLinked link w xs) f.2 linked in
     let cell_is : cell_of c.in-Some.front.link.now ≡ link f.0.value = c.in-Some.ensures.link ∙ ap link f.4 in
-    let tagged = c.tag.ensures.exact (subst (λ (s : CallerId). IsExact s) (sym c.in-Some.ensures.undisturbed.seat) e) in
+    let tagged = c.tag.ensures.exact (subst (λ (s : CallerId). IsExact s) (sym c.in-Some.ensures.undisturbed.caller) e) in
     let here : entry_at w.cells (link f.0.value) ≡ Some (record { held = tagged.1.0.held; tag = c.tag.result }) =
     ap (λ (x : ℕ). entry_at w.cells x) (sym cell_is)
     ∙ ap (λ (x : World _). entry_at x.cells (cell_of c.in-Some.front.link.now)) (sym (c.in-Some.ensures.world e)) ∙ tagged.1.1

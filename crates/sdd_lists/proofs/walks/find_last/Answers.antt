@@ -1,20 +1,20 @@
 use Rattle.std.proofs.Common.{ℕ, ◌∙◌, ap, sym, refl, subst}
-use Rattle.sdd_space.specs.World.{World}
+use Rattle.sdd_world_model.specs.World.{World}
 use Rattle.sdd_space.specs.CallerId.{IsExact, CallerId}
 use Rattle.sdd_space.specs.Shared.{cell_of}
 use Rattle.sdd_core.specs.declared.tag.Tag.TheVariants.{None as no_tag}
 use Rattle.sdd_participants.specs.Slab.{entry_at}
 use Rattle.sdd_participants.specs.declared.standing.CellContents.{CellContents}
 use Rattle.sdd_lists.specs.Lists.{AreLinked, first_slot}
-use Rattle.sdd_lists.proofs.Ending.{left-ends, spent-of}
-use Rattle.sdd_lists.proofs.Popping.{stays-of}
+use Rattle.sdd_lists.proofs.Ends.{left-ends, spent-of}
+use Rattle.sdd_lists.proofs.PoppedLists.{stays-of}
 use Rattle.sdd_lists.proofs.walks.find_last.Goals as goal
 
 pub returns-in-Ok-clause-exact : goal.returns-in-Ok-clause-exact
 returns-in-Ok-clause-exact g c = λ e es second queue.
     let link = g.T.LinkedList.link in
     let second_held : CellContents = record { held = second; tag = no_tag } in
-    let at1 = c.in-Some.ensures.undisturbed.seat in
+    let at1 = c.in-Some.ensures.undisturbed.caller in
     let kept = c.in-Some.ensures.exact e es queue.list.linked second_held queue.newest queue.among in
     let same = c.in-Some.ensures.world e in
     let linked = subst (λ (y : World _). AreLinked link y es) (sym same) queue.list.linked in
@@ -26,7 +26,7 @@ pub returns-in-Err-clause-exact : goal.returns-in-Err-clause-exact
 returns-in-Err-clause-exact g c = λ e es second queue.
     let link = g.T.LinkedList.link in
     let second_held : CellContents = record { held = second; tag = no_tag } in
-    let at1 = c.in-Some.ensures.undisturbed.seat in
+    let at1 = c.in-Some.ensures.undisturbed.caller in
     let kept = c.in-Some.ensures.exact e es queue.list.linked second_held queue.newest queue.among in
     let same = c.in-Some.ensures.world e in
     let linked = subst (λ (y : World _). AreLinked link y es) (sym same) queue.list.linked in
@@ -38,13 +38,13 @@ returns-in-Ok-last_from-clause-exact g c = λ e es second queue.
     let link = g.T.LinkedList.link in
     let oldest : ℕ = cell_of c.args.oldest.now in
     let first_held : CellContents = record { held = first_slot es; tag = no_tag } in
-    let at1 = c.kept_in.ensures.undisturbed.seat in
+    let at1 = c.kept_in.ensures.undisturbed.caller in
     let same1 = c.kept_in.ensures.world e in
     let ex1 = subst (λ (s : CallerId). IsExact s) (sym at1) e in
     let linked1 = subst (λ (y : World _). AreLinked link y es) (sym same1) queue.list.linked in
     let there1 = ap (λ (y : World _). entry_at y.cells oldest) same1 ∙ queue.list.begins in
     let found = rw c.in-Ok-Some.field-0-is at (c.in-Ok-Some.ensures.exact ex1 es linked1 first_held there1 refl) in
-    let at2 = c.in-Ok-Some.ensures.undisturbed.seat ∙ at1 in
+    let at2 = c.in-Ok-Some.ensures.undisturbed.caller ∙ at1 in
     let same2 = c.in-Ok-Some.ensures.world ex1 ∙ same1 in
     let linked2 = subst (λ (y : World _). AreLinked link y es) (sym same2) queue.list.linked in
     let ex2 = subst (λ (s : CallerId). IsExact s) (sym at2) e in
@@ -58,13 +58,13 @@ returns-in-Err-last_from-clause-exact g c = λ e es second queue.
     let link = g.T.LinkedList.link in
     let oldest : ℕ = cell_of c.args.oldest.now in
     let first_held : CellContents = record { held = first_slot es; tag = no_tag } in
-    let at1 = c.kept_in.ensures.undisturbed.seat in
+    let at1 = c.kept_in.ensures.undisturbed.caller in
     let same1 = c.kept_in.ensures.world e in
     let ex1 = subst (λ (s : CallerId). IsExact s) (sym at1) e in
     let linked1 = subst (λ (y : World _). AreLinked link y es) (sym same1) queue.list.linked in
     let there1 = ap (λ (y : World _). entry_at y.cells oldest) same1 ∙ queue.list.begins in
     let found = rw c.in-Ok-Some.field-0-is at (c.in-Ok-Some.ensures.exact ex1 es linked1 first_held there1 refl) in
-    let at2 = c.in-Ok-Some.ensures.undisturbed.seat ∙ at1 in
+    let at2 = c.in-Ok-Some.ensures.undisturbed.caller ∙ at1 in
     let same2 = c.in-Ok-Some.ensures.world ex1 ∙ same1 in
     let linked2 = subst (λ (y : World _). AreLinked link y es) (sym same2) queue.list.linked in
     let ex2 = subst (λ (s : CallerId). IsExact s) (sym at2) e in
@@ -77,7 +77,7 @@ returns-in-Ok-None-clause-exact g c = λ e es second queue.
     let link = g.T.LinkedList.link in
     let oldest : ℕ = cell_of c.args.oldest.now in
     let first_held : CellContents = record { held = first_slot es; tag = no_tag } in
-    let at1 = c.kept_in.ensures.undisturbed.seat in
+    let at1 = c.kept_in.ensures.undisturbed.caller in
     let same1 = c.kept_in.ensures.world e in
     let ex1 = subst (λ (s : CallerId). IsExact s) (sym at1) e in
     let linked1 = subst (λ (y : World _). AreLinked link y es) (sym same1) queue.list.linked in

@@ -1,7 +1,7 @@
 use Rattle.std.proofs.Common.{refl, sym, ap, ◌∙◌}
 use Rattle.sdd_participants.specs.declared.standing.CellContents.{CellContents}
 use Rattle.sdd_lists.specs.Lists.{first_slot}
-use Rattle.sdd_lists.proofs.Fronts.{shown-as}
+use Rattle.sdd_lists.proofs.FirstEntries.{shown-as}
 use Rattle.sdd_lists.proofs.walks.first_ptr_in.Goals as goal
 
 pub returns-in-Ok-None-clause-exact : goal.returns-in-Ok-None-clause-exact

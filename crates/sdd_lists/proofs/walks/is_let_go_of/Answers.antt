@@ -1,14 +1,14 @@
 use Rattle.std.proofs.Common.{◌≡◌, ℕ, ◌∙◌, ap, sym, refl, List, length, Some, true, false, subst, arith}
-use Rattle.sdd_space.specs.World.{World}
+use Rattle.sdd_world_model.specs.World.{World}
 use Rattle.sdd_space.specs.CallerId.{IsExact, CallerId}
 use Rattle.sdd_space.specs.Shared.{cell_of}
 use Rattle.sdd_participants.specs.Slab.{entry_at}
 use Rattle.sdd_participants.specs.declared.standing.CellContents.{CellContents}
 use Rattle.sdd_lists.specs.Lists.{AreLinked, Entry, first_slot, is_deleted, is_deleting}
 use Rattle.sdd_lists.specs.Queue.{lets_go_of}
-use Rattle.sdd_lists.proofs.Fronts.{tag_in, undeleting}
-use Rattle.sdd_lists.proofs.Grows.{knows-on}
-use Rattle.sdd_lists.proofs.Leaving.{goes-here, goes-on, goes-not}
+use Rattle.sdd_lists.proofs.FirstEntries.{tag_in, undeleting}
+use Rattle.sdd_lists.proofs.MoreWaiting.{knows-on}
+use Rattle.sdd_lists.proofs.QueuePops.{goes-here, goes-on, goes-not}
 use Rattle.sdd_lists.proofs.walks.is_let_go_of.Goals as goal
 
 pub returns-in_default-clause-exact : goal.returns-in_default-clause-exact
@@ -19,7 +19,7 @@ returns-in_default-clause-exact g c = λ e t es list.
 
 pub loop-step-init : goal.loop-step-init
 loop-step-init g c = record {
-  seat = c.in-Some.ensures.undisturbed.seat;
+  caller = c.in-Some.ensures.undisturbed.caller;
   own = c.in-Some.ensures.undisturbed.own;
   known = c.in-Some.ensures.undisturbed.known;
   keeps = c.in-Some.ensures.undisturbed.shown;
@@ -56,7 +56,7 @@ returns-in_default-tag-clause-exact g c = λ e t es list.
     let link = g.T.LinkedList.link in
     let w = g.S.Caller.world c.args.s.now in
     let inv = c.loop-step.invariant.found e t es list in
-    let at_loop = c.loop-step.invariant.seat in
+    let at_loop = c.loop-step.invariant.caller in
     let cell_is : cell_of c.loop-step.seen.link.now ≡ link inv.0.value = c.loop-step.invariant.link ∙ ap link inv.5 in
     let tagged = c.tag.ensures.exact (subst (λ (s : CallerId). IsExact s) (sym at_loop) e) in
     let tags : inv.0.tag ≡ c.tag.result =
@@ -68,21 +68,21 @@ returns-in_default-tag-clause-exact g c = λ e t es list.
 
 pub loop-step-preserved : goal.loop-step-preserved
 loop-step-preserved g c = record {
-  seat = c.in-Some-first_in.ensures.undisturbed.seat ∙ c.tag.ensures.undisturbed.seat ∙ c.loop-step.invariant.seat;
+  caller = c.in-Some-first_in.ensures.undisturbed.caller ∙ c.tag.ensures.undisturbed.caller ∙ c.loop-step.invariant.caller;
   own = c.in-Some-first_in.ensures.undisturbed.own ∙ c.tag.ensures.undisturbed.own ∙ c.loop-step.invariant.own;
   known = knows-on (knows-on c.loop-step.invariant.known c.tag.ensures.undisturbed.known) c.in-Some-first_in.ensures.undisturbed.known;
   keeps = λ k v was. c.in-Some-first_in.ensures.undisturbed.shown k v (c.tag.ensures.undisturbed.shown k v (c.loop-step.invariant.keeps k v was));
   world = λ e.
-      let at_loop = c.loop-step.invariant.seat in
-      c.in-Some-first_in.ensures.world (subst (λ (s : CallerId). IsExact s) (sym (c.tag.ensures.undisturbed.seat ∙ at_loop)) e)
+      let at_loop = c.loop-step.invariant.caller in
+      c.in-Some-first_in.ensures.world (subst (λ (s : CallerId). IsExact s) (sym (c.tag.ensures.undisturbed.caller ∙ at_loop)) e)
       ∙ (c.tag.ensures.exact (subst (λ (s : CallerId). IsExact s) (sym at_loop) e)).0 ∙ c.loop-step.invariant.world e;
-  home = c.in-Some-first_in.ensures.home ∙ ap (λ (s : CallerId). s.home.cells) (c.tag.ensures.undisturbed.seat ∙ c.loop-step.invariant.seat);
+  home = c.in-Some-first_in.ensures.home ∙ ap (λ (s : CallerId). s.home.cells) (c.tag.ensures.undisturbed.caller ∙ c.loop-step.invariant.caller);
   link = c.in-Some-first_in.ensures.link;
   found = λ e t es list.
       let link = g.T.LinkedList.link in
       let w = g.S.Caller.world c.args.s.now in
       let inv = c.loop-step.invariant.found e t es list in
-      let at_loop = c.loop-step.invariant.seat in
+      let at_loop = c.loop-step.invariant.caller in
       let cell_is : cell_of c.loop-step.seen.link.now ≡ link inv.0.value = c.loop-step.invariant.link ∙ ap link inv.5 in
       let tagged = c.tag.ensures.exact (subst (λ (s : CallerId). IsExact s) (sym at_loop) e) in
       let same : g.S.Caller.world c.tag.new.s ≡ w = tagged.0 ∙ c.loop-step.invariant.world e in
@@ -94,7 +94,7 @@ loop-step-preserved g c = record {
       let gone : is_deleted inv.0 ≡ true = ap is_deleting (tags ∙ c.in-Second.is) in
       let on = goes-on c.args.watched inv.0 inv.1 (sym (c.is_named.ensures inv.0 inv.4) ∙ c.if-is_named.false) gone in
       let behind : CellContents = record { held = first_slot inv.1; tag = inv.0.tag } in
-      let at_tag : IsExact (g.S.Caller.seat c.tag.new.s) = subst (λ (s : CallerId). IsExact s) (sym (c.tag.ensures.undisturbed.seat ∙ at_loop)) e in
+      let at_tag : IsExact (g.S.Caller.caller c.tag.new.s) = subst (λ (s : CallerId). IsExact s) (sym (c.tag.ensures.undisturbed.caller ∙ at_loop)) e in
       let linked_now = subst (λ (x : World _). AreLinked link x inv.1) (sym same) inv.2.1 in
       let there_now : entry_at (g.S.Caller.world c.tag.new.s).cells (cell_of c.loop-step.seen.link.now) ≡ Some behind =
       ap (λ (x : World _). entry_at x.cells (cell_of c.loop-step.seen.link.now)) same ∙ here in
@@ -115,7 +115,7 @@ returns-in_default-first_in-clause-exact g c = λ e t es list.
     let link = g.T.LinkedList.link in
     let w = g.S.Caller.world c.args.s.now in
     let inv = c.loop-step.invariant.found e t es list in
-    let at_loop = c.loop-step.invariant.seat in
+    let at_loop = c.loop-step.invariant.caller in
     let cell_is : cell_of c.loop-step.seen.link.now ≡ link inv.0.value = c.loop-step.invariant.link ∙ ap link inv.5 in
     let tagged = c.tag.ensures.exact (subst (λ (s : CallerId). IsExact s) (sym at_loop) e) in
     let same : g.S.Caller.world c.tag.new.s ≡ w = tagged.0 ∙ c.loop-step.invariant.world e in
@@ -127,7 +127,7 @@ returns-in_default-first_in-clause-exact g c = λ e t es list.
     let gone : is_deleted inv.0 ≡ true = ap is_deleting (tags ∙ c.in-Second.is) in
     let on = goes-on c.args.watched inv.0 inv.1 (sym (c.is_named.ensures inv.0 inv.4) ∙ c.if-is_named.false) gone in
     let behind : CellContents = record { held = first_slot inv.1; tag = inv.0.tag } in
-    let at_tag : IsExact (g.S.Caller.seat c.tag.new.s) = subst (λ (s : CallerId). IsExact s) (sym (c.tag.ensures.undisturbed.seat ∙ at_loop)) e in
+    let at_tag : IsExact (g.S.Caller.caller c.tag.new.s) = subst (λ (s : CallerId). IsExact s) (sym (c.tag.ensures.undisturbed.caller ∙ at_loop)) e in
     let linked_now = subst (λ (x : World _). AreLinked link x inv.1) (sym same) inv.2.1 in
     let there_now : entry_at (g.S.Caller.world c.tag.new.s).cells (cell_of c.loop-step.seen.link.now) ≡ Some behind =
     ap (λ (x : World _). entry_at x.cells (cell_of c.loop-step.seen.link.now)) same ∙ here in

@@ -1,6 +1,6 @@
 use Rattle.std.proofs.Common.{◌≡◌, ◌+◌, ◌≤◌, List, ◌∷◌, Some, length}
 use Rattle.sdd_space.specs.CallerId.{IsExact}
-use Rattle.sdd_space.specs.KnownEpochs.{KnowsOn}
+use Rattle.sdd_world_model.specs.KnownEpochs.{KnowsOn}
 use Rattle.sdd_space.specs.Ptr.{KeepsShown, slot_named}
 use Rattle.sdd_space.specs.Shared.{cell_of, cells_home}
 use Rattle.sdd_core.specs.declared.tag.Tag.{Tag}
@@ -11,14 +11,14 @@ use Rattle.sdd_lists.proofs.walks.is_let_go_of.Given as goal
 -- what is looked for is none of the deleted entries that were passed
 abbrev pub invariant-loop-step : goal.invariant-loop-step
 invariant-loop-step g l = record {
-  seat : g.S.Caller.seat l.s ≡ g.S.Caller.seat l.fn.s;
+  caller : g.S.Caller.caller l.s ≡ g.S.Caller.caller l.fn.s;
   own : g.S.Caller.own l.s ≡ g.S.Caller.own l.fn.s;
   known : KnowsOn (g.S.Caller.known l.fn.s) (g.S.Caller.known l.s);
   keeps : KeepsShown (g.S.Shows.shows l.fn.s) (g.S.Shows.shows l.s);
-  world : IsExact (g.S.Caller.seat l.fn.s) → g.S.Caller.world l.s ≡ g.S.Caller.world l.fn.s;
-  home : cells_home l.seen.link.now ≡ (g.S.Caller.seat l.fn.s).home.cells;
+  world : IsExact (g.S.Caller.caller l.fn.s) → g.S.Caller.world l.s ≡ g.S.Caller.world l.fn.s;
+  home : cells_home l.seen.link.now ≡ (g.S.Caller.caller l.fn.s).home.cells;
   link : cell_of l.seen.link.now ≡ g.T.LinkedList.link l.seen.entry.now;
-  found : IsExact (g.S.Caller.seat l.fn.s) → (t : Tag) (es : List (Entry _)) →
+  found : IsExact (g.S.Caller.caller l.fn.s) → (t : Tag) (es : List (Entry _)) →
       IsList g.T.LinkedList.link (g.S.Caller.world l.fn.s) (cell_of l.cell) t es →
       (e : Entry _) × (rest : List (Entry _)) × AreLinked g.T.LinkedList.link (g.S.Caller.world l.fn.s) (e ∷ rest) ×
       (lets_go_of l.watched (e ∷ rest) ≡ lets_go_of l.watched es) × (slot_named l.seen.ptr ≡ Some e.slot) × (l.seen.entry.now ≡ e.value) ×

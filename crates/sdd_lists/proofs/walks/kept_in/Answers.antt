@@ -1,12 +1,12 @@
 use Rattle.std.proofs.Common.{◌≡◌, inl, inr, ℕ, ◌∙◌, ap, sym, List, [], ◌∷◌, true, false, subst}
-use Rattle.sdd_space.specs.World.{World}
+use Rattle.sdd_world_model.specs.World.{World}
 use Rattle.sdd_space.specs.CallerId.{IsExact, CallerId}
 use Rattle.sdd_space.specs.Shared.{cell_of}
 use Rattle.sdd_participants.specs.Slab.{entry_at}
 use Rattle.sdd_lists.specs.Ends.{EndsWith}
 use Rattle.sdd_lists.specs.Lists.{AreLinked, Entry, is_deleted, is_deleting}
-use Rattle.sdd_lists.proofs.Ending.{first-or, none-or-entry, rest-of}
-use Rattle.sdd_lists.proofs.Fronts.{tag_in, undeleting}
+use Rattle.sdd_lists.proofs.Ends.{first-or, none-or-entry, rest-of}
+use Rattle.sdd_lists.proofs.FirstEntries.{tag_in, undeleting}
 use Rattle.sdd_lists.proofs.walks.kept_in.Goals as goal
 
 pub returns-in_default-tag-clause-exact : goal.returns-in_default-tag-clause-exact
@@ -25,7 +25,7 @@ returns-in_default-tag-clause-exact g c = λ e es linked held there among.
           let tails : at.1 ≡ found.1 = ap rest-of found.2 in
           let linked_x : AreLinked link w (x ∷ found.1) = subst (λ (xs : List (Entry _)). AreLinked link w xs) found.2 at.2 in
           let cell_is : cell_of c.in-Some.front.link.now ≡ link x.value = c.in-Some.ensures.link ∙ ap link found.4 in
-          let at1 = c.in-Some.ensures.undisturbed.seat in
+          let at1 = c.in-Some.ensures.undisturbed.caller in
           let tagged = c.tag.ensures.exact (subst (λ (s : CallerId). IsExact s) (sym at1) e) in
           let same = c.in-Some.ensures.world e in
           let tags : x.tag ≡ c.tag.result =

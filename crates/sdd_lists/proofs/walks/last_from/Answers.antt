@@ -1,18 +1,18 @@
 use Rattle.std.proofs.Common.{◌≡◌, ℕ, ◌∙◌, ap, sym, refl, Some, subst, arith}
-use Rattle.sdd_space.specs.World.{World}
+use Rattle.sdd_world_model.specs.World.{World}
 use Rattle.sdd_space.specs.CallerId.{IsExact, CallerId}
 use Rattle.sdd_space.specs.Shared.{cell_of}
 use Rattle.sdd_participants.specs.Slab.{entry_at}
 use Rattle.sdd_participants.specs.declared.standing.CellContents.{CellContents}
 use Rattle.sdd_lists.specs.Lists.{AreLinked, first_slot}
-use Rattle.sdd_lists.proofs.Ending.{ends-behind, left-ends, linked-ends, shorter, shorter-left, spent-of}
-use Rattle.sdd_lists.proofs.Grows.{knows-on, knows-same}
-use Rattle.sdd_lists.proofs.Popping.{stays-of}
+use Rattle.sdd_lists.proofs.Ends.{ends-behind, left-ends, linked-ends, shorter, shorter-left, spent-of}
+use Rattle.sdd_lists.proofs.MoreWaiting.{knows-on, knows-same}
+use Rattle.sdd_lists.proofs.PoppedLists.{stays-of}
 use Rattle.sdd_lists.proofs.walks.last_from.Goals as goal
 
 pub loop-step-init : goal.loop-step-init
 loop-step-init g c = record {
-  seat = refl;
+  caller = refl;
   own = refl;
   known = knows-same (g.S.Caller.known c.args.s.now);
   keeps = λ k v was. was;
@@ -26,13 +26,13 @@ loop-step-init g c = record {
 
 pub loop-step-preserved : goal.loop-step-preserved
 loop-step-preserved g c =
-    let same_seat = c.in-Ok-Some.ensures.undisturbed.seat in record {
-      seat = same_seat ∙ c.loop-step.invariant.seat;
+    let same_caller = c.in-Ok-Some.ensures.undisturbed.caller in record {
+      caller = same_caller ∙ c.loop-step.invariant.caller;
       own = c.in-Ok-Some.ensures.undisturbed.own ∙ c.loop-step.invariant.own;
       known = knows-on c.loop-step.invariant.known c.in-Ok-Some.ensures.undisturbed.known;
       keeps = λ k v was. c.in-Ok-Some.ensures.undisturbed.shown k v (c.loop-step.invariant.keeps k v was);
-      world = λ e. c.in-Ok-Some.ensures.world (subst (λ (s : CallerId). IsExact s) (sym c.loop-step.invariant.seat) e) ∙ c.loop-step.invariant.world e;
-      home = rw c.in-Ok-Some.field-0-is at c.in-Ok-Some.ensures.home ∙ ap (λ (s : CallerId). s.home.cells) c.loop-step.invariant.seat;
+      world = λ e. c.in-Ok-Some.ensures.world (subst (λ (s : CallerId). IsExact s) (sym c.loop-step.invariant.caller) e) ∙ c.loop-step.invariant.world e;
+      home = rw c.in-Ok-Some.field-0-is at c.in-Ok-Some.ensures.home ∙ ap (λ (s : CallerId). s.home.cells) c.loop-step.invariant.caller;
       link = rw c.in-Ok-Some.field-0-is at c.in-Ok-Some.ensures.link;
       shown = rw c.in-Ok-Some.field-0-is at c.in-Ok-Some.ensures.shown;
       value = rw c.in-Ok-Some.field-0-is at c.in-Ok-Some.ensures.value;
@@ -40,7 +40,7 @@ loop-step-preserved g c =
           let link = g.T.LinkedList.link in
           let w = g.S.Caller.world c.args.s.now in
           let inv = c.loop-step.invariant.found e es linked x rest ends stays first in
-          let ex = subst (λ (s : CallerId). IsExact s) (sym c.loop-step.invariant.seat) e in
+          let ex = subst (λ (s : CallerId). IsExact s) (sym c.loop-step.invariant.caller) e in
           let same = c.loop-step.invariant.world e in
           let here = linked-ends link w es inv.0 inv.1 inv.2 linked in
           let cell_is : cell_of c.loop-step.at.link.now ≡ link inv.0.value = c.loop-step.invariant.link ∙ ap link inv.4 in
@@ -63,7 +63,7 @@ returns-in-Ok-None-clause-exact g c = λ e es linked x rest ends stays first.
     let link = g.T.LinkedList.link in
     let w = g.S.Caller.world c.args.s.now in
     let inv = c.loop-step.invariant.found e es linked x rest ends stays first in
-    let ex = subst (λ (s : CallerId). IsExact s) (sym c.loop-step.invariant.seat) e in
+    let ex = subst (λ (s : CallerId). IsExact s) (sym c.loop-step.invariant.caller) e in
     let same = c.loop-step.invariant.world e in
     let here = linked-ends link w es inv.0 inv.1 inv.2 linked in
     let cell_is : cell_of c.loop-step.at.link.now ≡ link inv.0.value = c.loop-step.invariant.link ∙ ap link inv.4 in
@@ -79,7 +79,7 @@ returns-in-Err-clause-exact g c = λ e es linked x rest ends stays first.
     let link = g.T.LinkedList.link in
     let w = g.S.Caller.world c.args.s.now in
     let inv = c.loop-step.invariant.found e es linked x rest ends stays first in
-    let ex = subst (λ (s : CallerId). IsExact s) (sym c.loop-step.invariant.seat) e in
+    let ex = subst (λ (s : CallerId). IsExact s) (sym c.loop-step.invariant.caller) e in
     let same = c.loop-step.invariant.world e in
     let here = linked-ends link w es inv.0 inv.1 inv.2 linked in
     let cell_is : cell_of c.loop-step.at.link.now ≡ link inv.0.value = c.loop-step.invariant.link ∙ ap link inv.4 in

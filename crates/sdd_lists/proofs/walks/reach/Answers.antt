@@ -1,5 +1,5 @@
 use Rattle.std.proofs.Common.{arith}
-use Rattle.sdd_lists.proofs.Few.{no-longer}
+use Rattle.sdd_lists.proofs.ListLength.{no-longer}
 use Rattle.sdd_lists.proofs.walks.reach.Goals as goal
 
 pub returns : goal.returns

@@ -2,7 +2,7 @@ use Rattle.sdd_machine.specs.Sizes.{size_for}
 use Rattle.sdd_machine.specs.History.{Safe, Exact}
 use Rattle.sdd_machine.specs.Laws.{ReclaimsWhatWasDue, WaitsWithOneHolder, IsRaisedAtMostOnce, KeepsGenerations}
 use Rattle.std.proofs.Common.{refl, ◌∙◌}
-use Rattle.sdd_machine.proofs.Theorem.{safe, exact, reclaimed_then, waits_with_one, raised_at_most_once, generations, at_each, taken_more}
+use Rattle.sdd_machine.proofs.Laws.{safe, exact, reclaimed_then, waits_with_one, raised_at_most_once, generations, at_each, taken_more}
 use Rattle.sdd_machine.proofs.machine.safety.Goals as goal
 
 pub returns-in_err-machine-clause-safe : goal.returns-in_err-machine-clause-safe

@@ -1,5 +1,5 @@
 use Rattle.std.proofs.Common.{arith, ap, sym, ◌∙◌, ◌++◌, ◌∷◌, []}
-use Rattle.sdd_participants.proofs.Fresh.{one_more}
+use Rattle.sdd_participants.proofs.NewSlab.{one_more}
 use Rattle.sdd_participants.proofs.slab.numbers_below.Goals as goal
 
 pub loop-number-preserved : goal.loop-number-preserved

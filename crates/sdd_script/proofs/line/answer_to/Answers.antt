@@ -5,7 +5,7 @@ use Rattle.sdd_script.proofs.line.answer_to.Goals as goal
 
 pub returns-in-Tally : goal.returns-in-Tally
 returns-in-Tally c =
-    let d = c.args.stage.now in
+    let d = c.args.interpreter.now in
     let given = reply.Tally d.world.tally in
     record {
       answers = rw (c.in-Tally.is, c.answer-in-Tally.ensures, c.tally-tally.ensures, c.world.ensures)

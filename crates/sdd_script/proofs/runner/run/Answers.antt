@@ -20,10 +20,10 @@ pub returns-clause-run : goal.returns-clause-run
 returns-clause-run c =
     let done = c.loop-call-test.false in
     let all = rw (take_all c.loop-call.call-index c.args.calls.now (omega (arith, done))) at c.loop-call.invariant.runs in
-    let runs : Runs c.in_ok-stage.stage c.args.calls.now c.loop-call.answers.items c.of.result = rw (← c.of.ensures) at all in
+    let runs : Runs c.in_ok-interpreter.interpreter c.args.calls.now c.loop-call.answers.items c.of.result = rw (← c.of.ensures) at all in
     record {
-      start = c.in_ok-stage.stage;
-      begins = c.in_ok-stage.ensures.start;
+      start = c.in_ok-interpreter.interpreter;
+      begins = c.in_ok-interpreter.ensures.start;
       runs = runs;
-      due = run-due c.args.limits c.in_ok-stage.stage c.args.calls.now c.loop-call.answers.items c.of.result c.in_ok-stage.ensures.start runs;
+      due = run-due c.args.limits c.in_ok-interpreter.interpreter c.args.calls.now c.loop-call.answers.items c.of.result c.in_ok-interpreter.ensures.start runs;
     }

@@ -1,4 +1,4 @@
--- `settle` opens all that the seat carries, and takes back what was lent, by the end of the tenure.
+-- `settle` opens all that the seat carries, and takes back what was lent, by the end of the section.
 use Rattle.atomic_table.proofs.Names.{◌≡◌, [], ◌∷◌, refl, sym, List, ℕ, a_type, named, Val, vptr, vunit, inst_fn, SProp, emp, later, await, ‵, raw, ◌⊛◌, ◌$◌, ◌∵◌, !, qed, by, keep, drop, split, split3, fjoin, use0, use1, use3, move, fsplit, fsplit3, fjoin3, join, feq_i, of_opd, unit_lit, returns, enter, alloc_all, pass_all, free_all, look_at, sets, tables, RattleType, RefOf, owns, types_at, plain, nothing, opens, closes, heard, param, bounded, dcons, dnil, Stays, stay_dropped, stay_ref, walk_of, Goes-dropped, Goes-ref, fact, fact_i, ftrue, Fml, fsep, flft, Lft, yes, mut_vals, mut_Tells, shr_vals, shr_Tells, unhide, lent_out, hidden_shr, Ptr, block_ptr, Coded, Tuple, rewrite, shr_bor-open, obor_close, tokens_halve, sem}
 use base.Fml.{fhide, fdead}
 use denote.Builtin.{u64}
@@ -11,12 +11,12 @@ use Rattle.atomic_table.proofs.Fields.{HandData}
 use base.Share.{three_quarters}
 use Rattle.sdd_values.specs.ReadSection.{ended_shares}
 use Rattle.sdd_shared_values.specs.ValueFractions.{FractionContent, AllFreeFor, settled}
-use Rattle.sdd_shared_values.specs.CarriedFractions.{lots, with_lots}
-use Rattle.sdd_shared_values.proofs.Ghost.{with_end}
-use Rattle.sdd_shared_values.proofs.Carried.{with_all, same_length}
+use Rattle.sdd_shared_values.specs.CarriedFractions.{contents, with_contents}
+use Rattle.sdd_shared_values.proofs.LentUnits.{with_end}
+use Rattle.sdd_shared_values.proofs.CarriedFractions.{with_all, same_length}
 use Rattle.atomic_table.specs.contracts.shared.Shared as table
 use Rattle.atomic_table.specs.contracts.shared.Seat as seat
-use Rattle.sdd_shared_values.specs.contracts.value_fraction.ValueFraction as stake
+use Rattle.sdd_shared_values.specs.contracts.value_fraction.ValueFraction as fraction
 use Rattle.sdd_values.specs.contracts.ended_section.EndedSection as over
 use Rattle.sdd_shared_values.specs.contracts.seats.settle.{ended, clauses}
 use Rattle.sdd_shared_values.specs.contracts.seats.settle.Key.{name as #self}
@@ -26,7 +26,7 @@ use Rattle.sdd_shared_values.proofs.seats.settle.Code as code
 pub settle_spec : {M : Type 1} → statement M
 unfolding Rattle.atomic_table.specs.Seated.seal
 settle_spec 𝓤 𝓛 𝓜 𝓡 wired V K P _ _ _ g d _ =
-    let H = 𝓛.H in let A = 𝓛.A in let 𝓣 = tables 𝓤 H 𝓜 𝓡 𝓡.env in let R : RattleType = stake.the_row in let W : RattleType = param 0 V in
+    let H = 𝓛.H in let A = 𝓛.A in let 𝓣 = tables 𝓤 H 𝓜 𝓡 𝓡.env in let R : RattleType = fraction.the_row in let W : RattleType = param 0 V in
     let X : RattleType = param 1 K in let Y : RattleType = param 2 P in let En = ended V K P g d in
     let inst = bounded (a_type ∷ a_type ∷ a_type ∷ []) (V, (K, (P, tt))) (dcons d dnil) in let fn = inst_fn inst code.function in
     let Row : RattleType = table.the_row R W X Y g in let Sr : RattleType = seat.the_row R W in let Er : RattleType = over.the_row in
@@ -43,11 +43,11 @@ settle_spec 𝓤 𝓛 𝓜 𝓡 wired V K P _ _ _ g d _ =
     let κ : Lft = κs.0 in let κ' : Lft = κs.1.0 in let κ″ : Lft = κs.1.1.0 in let h : Sr.Denot = a.0.now in let t : Row.Denot = a.1.0.now in
     let e : Er.Denot = a.1.1.0.now in
     let w : Ptr = t.words in let p : Ptr = t.slots in let z : TableId = t.table_id in let α : Lft = age z in let cv : Coded V.Denot = W.coded in
-    let xs = h.me.1 in let ls : List FractionContent = settled (lots xs) in let ys = with_lots xs ls in
+    let xs = h.me.1 in let ls : List FractionContent = settled (contents xs) in let ys = with_contents xs ls in
     let half : Fml = seen cv.code h.table_id.views_name h.id three_quarters h.me.0 in
     let others : Fml = fsep (flft κ″ qs.1.1.0) (fsep (flft κs.1.1.1.0 qs.1.1.1.0) (fsep (flft κs.1.1.1.1.0 qs.1.1.1.1.0)
     (fsep (flft κs.1.1.1.1.1.0 qs.1.1.1.1.1.0) ftrue))) in
-    let h' : Sr.Denot = record h { me = (h.me.0, ys) } in let AtTable : Type 0 = h.table_id ≡ z in let Lent : Type 0 = AllFreeFor e.name (lots xs) in
+    let h' : Sr.Denot = record h { me = (h.me.0, ys) } in let AtTable : Type 0 = h.table_id ≡ z in let Lent : Type 0 = AllFreeFor e.name (contents xs) in
     let Told : Type 0 = h' ≡ h' in let Dead : Fml = fdead (e.name ∷ []) in
     let bag : TableId → List (ℕ × R.Denot) → Fml = λ u us. carried (age u) R (place u) (names u) u.slots us in
     let y : (walk_of 𝓛 En hs c).Ghost = ((κs, qs, bounds, a, (vptr b o ∷ [], (vptr b' o' ∷ [], (vptr b″ o″ ∷ [], tt)))), gh) in
@@ -75,7 +75,7 @@ settle_spec 𝓤 𝓛 𝓜 𝓡 wired V K P _ _ _ g d _ =
     rewrite ! 0 (λ (u : TableId). ‵ (bag u xs)) at_table refl $
     -- [what is carried; the view; the field; the cell; the open borrow; the names; the open token; the token; the end; the others]
     move ! (0 ∷ 8 ∷ 9 ∷ []) $ use3 𝓛 (later (‵ (bag z ys) ⊛ ‵ (flft α s) ⊛ ‵ ftrue)) (with_all 𝓛 α (place z) (names z) z.slots xs ls s (sem 𝓛 Dead)
-    (sem 𝓛 ftrue) (same_length xs) (with_end 𝓛 e.name (lots xs) lent)) $ await ! tt $ split3 ! $
+    (sem 𝓛 ftrue) (same_length xs) (with_end 𝓛 e.name (contents xs) lent)) $ await ! tt $ split3 ! $
     rewrite ! 0 (λ (u : TableId). ‵ (bag u ys)) (sym at_table) refl $ move ! (3 ∷ 0 ∷ []) $ fjoin ! $ move ! (3 ∷ 0 ∷ []) $ fjoin ! $
     move ! (3 ∷ 0 ∷ 4 ∷ 5 ∷ 6 ∷ []) $
     closes ! tt Sr h' vs b o $ feq_i ! (List Val) (vptr b o ∷ []) (vptr b o ∷ []) refl $ fjoin3 ! $

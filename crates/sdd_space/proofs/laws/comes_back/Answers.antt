@@ -4,8 +4,8 @@ use Rattle.sdd_participants.specs.Slab.{Entries}
 use Rattle.sdd_participants.specs.declared.standing.Standing.{Standing}
 use Rattle.sdd_participants.specs.declared.standing.Standing.TheVariants.{Owned, Raw}
 use Rattle.sdd_space.specs.Owned.{slot_of}
-use Rattle.sdd_space.specs.WorldChanges.{with_standing}
-use Rattle.sdd_space.specs.World.{World, standing_at}
+use Rattle.sdd_world_model.specs.WorldChanges.{with_standing}
+use Rattle.sdd_world_model.specs.World.{World, standing_at}
 use Rattle.sdd_space.proofs.laws.comes_back.Goals as goal
 
 -- raw and back is as it was
@@ -21,7 +21,7 @@ returns-clause-world g c =
     let here : slot_of c.in-Some.owner ≡ slot =
     ap (λ (o : Option ℕ). unwrap_or o 0) (sym c.in-Some.ensures.slot ∙ c.into_raw-ptr.ensures.slot) in
     let out = c.into_raw-ptr.ensures.exact c.requires.exact in
-    let there = (c.in-Some.ensures.exact (rw c.into_raw-ptr.ensures.undisturbed.seat c.requires.exact)).1 in
+    let there = (c.in-Some.ensures.exact (rw c.into_raw-ptr.ensures.undisturbed.caller c.requires.exact)).1 in
     there
     ∙ ap (λ (k : ℕ). with_standing (g.S.Caller.world c.into_raw-ptr.new.s) k Owned) here
     ∙ ap (λ (u : World _). with_standing u slot Owned) out

@@ -10,6 +10,7 @@ returns-clause-seen g c =
     let seen = c.get_guarded_ref-seen in
     let made = c.in_ok-owner in
     let caller = g.met.S.Caller in
-    let home = caller.home_is_seat c.new.new.s ∙ (ap (λ (x : CallerId). x.home) (sym seen.ensures.undisturbed.seat) ∙ sym (caller.home_is_seat seen.new.s)) in
+    let home = caller.home_is_caller c.new.new.s ∙ (ap (λ (x : CallerId). x.home) (sym seen.ensures.undisturbed.caller)
+    ∙ sym (caller.home_is_caller seen.new.s)) in
     let kept = items.keeps_owned c.new.new.s seen.new.s home seen.ensures.undisturbed.shown (right_of made.owner) c.args.value made.ensures.shown in
     items.one_owned seen.new.s (right_of made.owner) seen.result.now c.args.value seen.ensures.value kept

@@ -1,6 +1,6 @@
 use Rattle.std.proofs.Common.{◌≡◌, length, arith}
 use Rattle.core.specs.Mem.Slots.{slots_items}
-use Rattle.sdd_values.proofs.Stakes.{all-none}
+use Rattle.sdd_values.proofs.Fractions.{all-none}
 use Rattle.sdd_values.proofs.lent_values.empty.Goals as goal
 
 pub returns-clause-items : goal.returns-clause-items

@@ -7,7 +7,7 @@ use Rattle.atomic_table.specs.Table.{Me, Splits}
 use Rattle.atomic_table.specs.Seated.{TableId, age, mine}
 use Rattle.atomic_table.proofs.Fields.{HandData}
 use Rattle.sdd_witness.proofs.Fields.{Pin, pin_made, token_val}
-use Rattle.sdd_witness.proofs.Opened.{parts, two}
+use Rattle.sdd_witness.proofs.TableInvariant.{parts, two}
 use Rattle.atomic_table.specs.contracts.shared.Shared as table
 use Rattle.atomic_table.specs.contracts.shared.Seat as seat
 use Rattle.sdd_witness.specs.contracts.witness.Witness as wit

@@ -7,7 +7,7 @@ use Rattle.atomic_table.specs.Table.{Me}
 use Rattle.atomic_table.specs.Seated.{TableId, age, lasts, common, mine}
 use Rattle.atomic_table.proofs.Fields.{HandData}
 use Rattle.sdd_witness.specs.Steps.{AllowsAlone}
-use Rattle.sdd_witness.proofs.Opened.{alone, after}
+use Rattle.sdd_witness.proofs.TableInvariant.{alone, after}
 use Rattle.atomic_table.specs.contracts.shared.Shared as table
 use Rattle.atomic_table.specs.contracts.shared.Seat as seat
 use Rattle.sdd_witness.specs.contracts.steps.step_alone.{ended, clauses}

@@ -11,8 +11,8 @@ use Rattle.atomic_table.proofs.Fields.{HandData}
 use Rattle.sdd_witness.specs.Steps.{AllowsBeside}
 use Rattle.sdd_witness.specs.Witness.{view_of, witness_shares}
 use Rattle.sdd_witness.proofs.Fields.{Pin}
-use Rattle.sdd_witness.proofs.Shown.{halves_at}
-use Rattle.sdd_witness.proofs.Opened.{beside, after}
+use Rattle.sdd_witness.proofs.WitnessShares.{halves_at}
+use Rattle.sdd_witness.proofs.TableInvariant.{beside, after}
 use Rattle.atomic_table.specs.contracts.shared.Shared as table
 use Rattle.atomic_table.specs.contracts.shared.Seat as seat
 use Rattle.sdd_witness.specs.contracts.witness.Witness as wit

@@ -1,5 +1,5 @@
 use Rattle.std.proofs.Common.{◌≡◌, ◌≤◌, vec_len, vec_capacity, replicate, None}
-use Rattle.sdd_standings.specs.Cells.{null_pointer}
+use Rattle.sdd_world_model.specs.Cells.{null_pointer}
 use Rattle.sdd_world_slots.proofs.cells.nothing_held.Given as goal
 
 abbrev pub invariant-loop-cell : goal.invariant-loop-cell

@@ -1,6 +1,6 @@
 use Rattle.std.proofs.Common.{ℕ, false, List, Bool, subst, sym, arith}
 use Rattle.std.specs.Prelude.{IsTrue, slice_index_or}
-use Rattle.sdd_space.specs.World.{World, IsPlaceOf}
+use Rattle.sdd_world_model.specs.World.{World, IsPlaceOf}
 use Rattle.sdd_world.specs.Place.{index_of}
 use Rattle.sdd_world_tests.specs.Stays.{Stays}
 use Rattle.sdd_world_tests.proofs.ending.a_world_does_not_end_while_an_owner_is_out.Goals as goal

@@ -2,4 +2,4 @@ use Rattle.std.specs.Prelude.{◌≡◌}
 use Rattle.sdd_world_tests.proofs.jobs.shows.Given as goal
 
 abbrev pub invariant-loop-epoch : goal.invariant-loop-epoch
-invariant-loop-epoch g l = let seat = g.S.Caller.seat in seat l.s ≡ seat l.fn.s
+invariant-loop-epoch g l = let caller = g.S.Caller.caller in caller l.s ≡ caller l.fn.s

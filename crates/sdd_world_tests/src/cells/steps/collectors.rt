@@ -11,9 +11,9 @@ use std::process::Abort;
 
 /// A collector for which nothing waits.
 pub fn made<S: RawCells<u64> + Collectors<u64>>(rt: &impl Abort, s: &mut S) -> PrivateCollector<u64>
-    requires seated { IsSeated (S.seat s.old) }
-    ensures seat { S.seat s.new ≡ S.seat s.old }
-    ensures home { cells_home result ≡ (S.seat s.new).home.cells }
+    requires seated { IsSeated (S.caller s.old) }
+    ensures caller { S.caller s.new ≡ S.caller s.old }
+    ensures home { cells_home result ≡ (S.caller s.new).home.cells }
 {
     PrivateCollector::new(s).expect(rt, "a cell is free")
 }
@@ -25,9 +25,9 @@ pub fn collect<S: Guards<u64> + Items<u64> + Collectors<u64>>(
     collector: &PrivateCollector<u64>,
     value: u64,
 )
-    requires seated { IsSeated (S.seat s.old) }
-    requires collector { cells_home collector.now ≡ (S.seat s.old).home.cells }
-    ensures seat { S.seat s.new ≡ S.seat s.old }
+    requires seated { IsSeated (S.caller s.old) }
+    requires collector { cells_home collector.now ≡ (S.caller s.old).home.cells }
+    ensures caller { S.caller s.new ≡ S.caller s.old }
 {
     let owner = owned::made(rt, s, value);
     let guard = opened(rt, s);
@@ -42,10 +42,10 @@ pub fn collect_shared<S: Guards<u64> + Collectors<u64>>(
     collector: &PrivateCollector<u64>,
     owner: Shared<u64>,
 ) -> bool
-    requires seated { IsSeated (S.seat s.old) }
-    requires collector { cells_home collector.now ≡ (S.seat s.old).home.cells }
-    requires home { shared.slots_home owner ≡ (S.seat s.old).home.slots }
-    ensures seat { S.seat s.new ≡ S.seat s.old }
+    requires seated { IsSeated (S.caller s.old) }
+    requires collector { cells_home collector.now ≡ (S.caller s.old).home.cells }
+    requires home { shared.slots_home owner ≡ (S.caller s.old).home.slots }
+    ensures caller { S.caller s.new ≡ S.caller s.old }
 {
     let guard = opened(rt, s);
     let was_last = collector.collect_shared(owner, &guard, s);
@@ -55,9 +55,9 @@ pub fn collect_shared<S: Guards<u64> + Collectors<u64>>(
 
 /// The collector is closed.
 pub fn closed<S: Collectors<u64>>(rt: &impl Abort, s: &mut S, collector: PrivateCollector<u64>)
-    requires seated { IsSeated (S.seat s.old) }
-    requires collector { cells_home collector ≡ (S.seat s.old).home.cells }
-    ensures seat { S.seat s.new ≡ S.seat s.old }
+    requires seated { IsSeated (S.caller s.old) }
+    requires collector { cells_home collector ≡ (S.caller s.old).home.cells }
+    ensures caller { S.caller s.new ≡ S.caller s.old }
 {
     match collector.close(s) {
         Ok(()) => {}
@@ -71,10 +71,10 @@ pub fn refused_close<S: Collectors<u64>>(
     s: &mut S,
     collector: PrivateCollector<u64>,
 ) -> (PrivateCollector<u64>, Refused)
-    requires seated { IsSeated (S.seat s.old) }
-    requires collector { cells_home collector ≡ (S.seat s.old).home.cells }
-    ensures seat { S.seat s.new ≡ S.seat s.old }
-    ensures home { cells_home result.0 ≡ (S.seat s.new).home.cells }
+    requires seated { IsSeated (S.caller s.old) }
+    requires collector { cells_home collector ≡ (S.caller s.old).home.cells }
+    ensures caller { S.caller s.new ≡ S.caller s.old }
+    ensures home { cells_home result.0 ≡ (S.caller s.new).home.cells }
 {
     match collector.close(s) {
         Ok(()) => panic!(rt; "the collector is closed"),
@@ -84,8 +84,8 @@ pub fn refused_close<S: Collectors<u64>>(
 
 /// A slot is free: one more item is made, and retired.
 pub fn has_slot<S: Items<u64>>(s: &mut S) -> bool
-    requires seated { IsSeated (S.seat s.old) }
-    ensures seat { S.seat s.new ≡ S.seat s.old }
+    requires seated { IsSeated (S.caller s.old) }
+    ensures caller { S.caller s.new ≡ S.caller s.old }
 {
     match Owned::new(0, s) {
         Ok(owner) => {

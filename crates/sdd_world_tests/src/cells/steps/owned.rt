@@ -1,7 +1,7 @@
 //! Owners that are alone, and cells of them.
 ghost use Rattle.std.specs.Prelude.{◌≡◌, IfErr};
 ghost use Rattle.sdd_space.specs.Guard.{reader_of};
-ghost use Rattle.sdd_space.specs.OwnerOrCell.{AreOf};
+ghost use Rattle.sdd_world_model.specs.OwnerOrCell.{AreOf};
 ghost use Rattle.sdd_space.specs.Owned.{slot_of, slots_home, cells_home, IsOfSlots};
 ghost use Rattle.sdd_space.specs.CallerId.{IsSeated};
 
@@ -15,10 +15,10 @@ use std::process::Abort;
 
 /// The owner of a new item.
 pub fn made<T: Item<T>, S: Items<T>>(rt: &impl Abort, s: &mut S, value: T) -> Owned<T>
-    requires seated { IsSeated (S.seat s.old) }
-    requires home { AreOf (S.seat s.old).home (T.holds value) }
-    ensures seat { S.seat s.new ≡ S.seat s.old }
-    ensures home { slots_home result ≡ (S.seat s.new).home.slots }
+    requires seated { IsSeated (S.caller s.old) }
+    requires home { AreOf (S.caller s.old).home (T.holds value) }
+    ensures caller { S.caller s.new ≡ S.caller s.old }
+    ensures home { slots_home result ≡ (S.caller s.new).home.slots }
 {
     match Owned::new(value, s) {
         Ok(owner) => owner,
@@ -28,9 +28,9 @@ pub fn made<T: Item<T>, S: Items<T>>(rt: &impl Abort, s: &mut S, value: T) -> Ow
 
 /// The owner of a new item, or of none.
 fn made_if<S: Items<u64>>(rt: &impl Abort, s: &mut S, value: Option<u64>) -> Option<Owned<u64>>
-    requires seated { IsSeated (S.seat s.old) }
-    ensures seat { S.seat s.new ≡ S.seat s.old }
-    ensures home { IsOfSlots (S.seat s.new).home.slots result }
+    requires seated { IsSeated (S.caller s.old) }
+    ensures caller { S.caller s.new ≡ S.caller s.old }
+    ensures home { IsOfSlots (S.caller s.new).home.slots result }
 {
     match value {
         Some(value) => Some(made(rt, s, value)),
@@ -40,18 +40,18 @@ fn made_if<S: Items<u64>>(rt: &impl Abort, s: &mut S, value: Option<u64>) -> Opt
 
 /// The item waits from now on.
 pub fn retire<T: Item<T>, S: Items<T>>(s: &mut S, owner: Owned<T>)
-    requires seated { IsSeated (S.seat s.old) }
-    requires home { slots_home owner ≡ (S.seat s.old).home.slots }
-    ensures seat { S.seat s.new ≡ S.seat s.old }
+    requires seated { IsSeated (S.caller s.old) }
+    requires home { slots_home owner ≡ (S.caller s.old).home.slots }
+    ensures caller { S.caller s.new ≡ S.caller s.old }
 {
     owner.retire(s);
 }
 
 /// The number of the owner's item, which waits from now on.
 pub fn spent<S: Look<u64> + Items<u64>>(s: &mut S, owner: Option<Owned<u64>>) -> Option<u64>
-    requires seated { IsSeated (S.seat s.old) }
-    requires home { IsOfSlots (S.seat s.old).home.slots owner }
-    ensures seat { S.seat s.new ≡ S.seat s.old }
+    requires seated { IsSeated (S.caller s.old) }
+    requires home { IsOfSlots (S.caller s.old).home.slots owner }
+    ensures caller { S.caller s.new ≡ S.caller s.old }
 {
     let owner = owner?;
     let value = *owner.get(s);
@@ -61,10 +61,10 @@ pub fn spent<S: Look<u64> + Items<u64>>(s: &mut S, owner: Option<Owned<u64>>) ->
 
 /// A cell that holds the owner of a new item.
 pub fn cell<T: Item<T>, S: Cells<T>>(rt: &impl Abort, s: &mut S, value: T) -> AtomicOwned<T>
-    requires seated { IsSeated (S.seat s.old) }
-    requires home { AreOf (S.seat s.old).home (T.holds value) }
-    ensures seat { S.seat s.new ≡ S.seat s.old }
-    ensures home { cells_home result ≡ (S.seat s.new).home.cells }
+    requires seated { IsSeated (S.caller s.old) }
+    requires home { AreOf (S.caller s.old).home (T.holds value) }
+    ensures caller { S.caller s.new ≡ S.caller s.old }
+    ensures home { cells_home result ≡ (S.caller s.new).home.cells }
 {
     match AtomicOwned::new(value, s) {
         Ok(cell) => cell,
@@ -74,19 +74,19 @@ pub fn cell<T: Item<T>, S: Cells<T>>(rt: &impl Abort, s: &mut S, value: T) -> At
 
 /// The cell is free again, and what it held waits.
 pub fn close_cell<S: Items<u64> + Cells<u64>>(s: &mut S, cell: AtomicOwned<u64>)
-    requires seated { IsSeated (S.seat s.old) }
-    requires home { cells_home cell ≡ (S.seat s.old).home.cells }
-    ensures seat { S.seat s.new ≡ S.seat s.old }
+    requires seated { IsSeated (S.caller s.old) }
+    requires home { cells_home cell ≡ (S.caller s.old).home.cells }
+    ensures caller { S.caller s.new ≡ S.caller s.old }
 {
     cell.close(s);
 }
 
 /// A pointer to what the cell holds.
 pub fn load<'g, S: Cells<u64>>(s: &mut S, cell: &AtomicOwned<u64>, guard: &'g Guard) -> Ptr<'g, u64>
-    requires seated { IsSeated (S.seat s.old) }
-    requires home { cells_home cell.now ≡ (S.seat s.old).home.cells }
-    requires reader { reader_of guard.now ≡ (S.seat s.old).reader }
-    ensures seat { S.seat s.new ≡ S.seat s.old }
+    requires seated { IsSeated (S.caller s.old) }
+    requires home { cells_home cell.now ≡ (S.caller s.old).home.cells }
+    requires reader { reader_of guard.now ≡ (S.caller s.old).reader }
+    ensures caller { S.caller s.new ≡ S.caller s.old }
 {
     cell.load(guard, s)
 }
@@ -99,9 +99,9 @@ pub fn swapped<S: Look<u64> + Items<u64> + Cells<u64>>(
     next: Option<u64>,
     tag: Tag,
 ) -> (Option<u64>, Tag)
-    requires seated { IsSeated (S.seat s.old) }
-    requires home { cells_home cell.now ≡ (S.seat s.old).home.cells }
-    ensures seat { S.seat s.new ≡ S.seat s.old }
+    requires seated { IsSeated (S.caller s.old) }
+    requires home { cells_home cell.now ≡ (S.caller s.old).home.cells }
+    ensures caller { S.caller s.new ≡ S.caller s.old }
 {
     let owner = made_if(rt, s, next);
     let (old, old_tag) = cell.swap((owner, tag), s);
@@ -118,10 +118,10 @@ pub fn exchanged<'g, S: Look<u64> + Items<u64> + Cells<u64>>(
     tag: Tag,
     guard: &'g Guard,
 ) -> Result<Read, Read>
-    requires seated { IsSeated (S.seat s.old) }
-    requires home { cells_home cell.now ≡ (S.seat s.old).home.cells }
-    requires reader { reader_of guard.now ≡ (S.seat s.old).reader }
-    ensures seat { S.seat s.new ≡ S.seat s.old }
+    requires seated { IsSeated (S.caller s.old) }
+    requires home { cells_home cell.now ≡ (S.caller s.old).home.cells }
+    requires reader { reader_of guard.now ≡ (S.caller s.old).reader }
+    ensures caller { S.caller s.new ≡ S.caller s.old }
 {
     let owner = made(rt, s, next);
     match cell.compare_exchange(current, (Some(owner), tag), guard, s) {
@@ -136,9 +136,9 @@ pub fn read<S: Look<u64> + Guards<u64> + Cells<u64>>(
     s: &mut S,
     cell: &AtomicOwned<u64>,
 ) -> (Option<u64>, Tag)
-    requires seated { IsSeated (S.seat s.old) }
-    requires home { cells_home cell.now ≡ (S.seat s.old).home.cells }
-    ensures seat { S.seat s.new ≡ S.seat s.old }
+    requires seated { IsSeated (S.caller s.old) }
+    requires home { cells_home cell.now ≡ (S.caller s.old).home.cells }
+    ensures caller { S.caller s.new ≡ S.caller s.old }
 {
     let guard = opened(rt, s);
     let ptr = load(s, cell, &guard);
@@ -154,9 +154,9 @@ pub fn emptied_weakly<S: Look<u64> + Guards<u64> + Items<u64> + Cells<u64>>(
     cell: &AtomicOwned<u64>,
     tag: Tag,
 ) -> Option<u64>
-    requires seated { IsSeated (S.seat s.old) }
-    requires home { cells_home cell.now ≡ (S.seat s.old).home.cells }
-    ensures seat { S.seat s.new ≡ S.seat s.old }
+    requires seated { IsSeated (S.caller s.old) }
+    requires home { cells_home cell.now ≡ (S.caller s.old).home.cells }
+    ensures caller { S.caller s.new ≡ S.caller s.old }
 {
     let guard = opened(rt, s);
     let ptr = load(s, cell, &guard);
@@ -176,9 +176,9 @@ pub fn asked<S: Cells<u64>>(
     tag: Tag,
     holds: bool,
 ) -> (u8, RawPtr<u64>)
-    requires seated { IsSeated (S.seat s.old) }
-    requires home { cells_home cell.now ≡ (S.seat s.old).home.cells }
-    ensures seat { S.seat s.new ≡ S.seat s.old }
+    requires seated { IsSeated (S.caller s.old) }
+    requires home { cells_home cell.now ≡ (S.caller s.old).home.cells }
+    ensures caller { S.caller s.new ≡ S.caller s.old }
 {
     let mut times = 0u8;
     let mut last = RawPtr::null();
@@ -194,9 +194,9 @@ pub fn asked<S: Cells<u64>>(
 
 /// Sets the tag where the cell has none, and tells whether it did.
 pub fn tagged<S: Cells<u64>>(rt: &impl Abort, s: &mut S, cell: &AtomicOwned<u64>, tag: Tag) -> bool
-    requires seated { IsSeated (S.seat s.old) }
-    requires home { cells_home cell.now ≡ (S.seat s.old).home.cells }
-    ensures seat { S.seat s.new ≡ S.seat s.old }
+    requires seated { IsSeated (S.caller s.old) }
+    requires home { cells_home cell.now ≡ (S.caller s.old).home.cells }
+    ensures caller { S.caller s.new ≡ S.caller s.old }
 {
     let condition = |ptr: RawPtr<u64>| ptr.tag() == Tag::None;
     cell.update_tag_if(tag, condition, s)
@@ -205,19 +205,19 @@ pub fn tagged<S: Cells<u64>>(rt: &impl Abort, s: &mut S, cell: &AtomicOwned<u64>
 
 /// A cell that holds nothing.
 pub fn null<S: Cells<u64>>(rt: &impl Abort, s: &mut S) -> AtomicOwned<u64>
-    requires seated { IsSeated (S.seat s.old) }
-    ensures seat { S.seat s.new ≡ S.seat s.old }
-    ensures home { cells_home result ≡ (S.seat s.new).home.cells }
+    requires seated { IsSeated (S.caller s.old) }
+    ensures caller { S.caller s.new ≡ S.caller s.old }
+    ensures home { cells_home result ≡ (S.caller s.new).home.cells }
 {
     AtomicOwned::null(s).expect(rt, "a cell is free")
 }
 
 /// A cell that holds this owner.
 pub fn cell_from<S: Cells<u64>>(rt: &impl Abort, s: &mut S, owner: Owned<u64>) -> AtomicOwned<u64>
-    requires seated { IsSeated (S.seat s.old) }
-    requires home { slots_home owner ≡ (S.seat s.old).home.slots }
-    ensures seat { S.seat s.new ≡ S.seat s.old }
-    ensures home { cells_home result ≡ (S.seat s.new).home.cells }
+    requires seated { IsSeated (S.caller s.old) }
+    requires home { slots_home owner ≡ (S.caller s.old).home.slots }
+    ensures caller { S.caller s.new ≡ S.caller s.old }
+    ensures home { cells_home result ≡ (S.caller s.new).home.cells }
 {
     match AtomicOwned::from(owner, s) {
         Ok(cell) => cell,
@@ -227,10 +227,10 @@ pub fn cell_from<S: Cells<u64>>(rt: &impl Abort, s: &mut S, owner: Owned<u64>) -
 
 /// The cell is free again, and what it held comes back.
 pub fn into_owned<S: Cells<u64>>(s: &mut S, cell: AtomicOwned<u64>) -> Option<Owned<u64>>
-    requires seated { IsSeated (S.seat s.old) }
-    requires home { cells_home cell ≡ (S.seat s.old).home.cells }
-    ensures seat { S.seat s.new ≡ S.seat s.old }
-    ensures home { IsOfSlots (S.seat s.new).home.slots result }
+    requires seated { IsSeated (S.caller s.old) }
+    requires home { cells_home cell ≡ (S.caller s.old).home.cells }
+    ensures caller { S.caller s.new ≡ S.caller s.old }
+    ensures home { IsOfSlots (S.caller s.new).home.slots result }
 {
     cell.into_owned(s)
 }
@@ -248,9 +248,9 @@ pub fn put<S: InPlaceItems<u64>>(
     owner: &mut Owned<u64>,
     value: u64,
 ) -> Result<u64, Refused>
-    requires seated { IsSeated (S.seat s.old) }
-    requires home { slots_home owner.old ≡ (S.seat s.old).home.slots }
-    ensures seat { S.seat s.new ≡ S.seat s.old }
+    requires seated { IsSeated (S.caller s.old) }
+    requires home { slots_home owner.old ≡ (S.caller s.old).home.slots }
+    ensures caller { S.caller s.new ≡ S.caller s.old }
     ensures home { slots_home owner.new ≡ slots_home owner.old }
     ensures slot { slot_of owner.new ≡ slot_of owner.old }
     ensures same { S.keeps_right → owner.new ≡ owner.old }
@@ -266,37 +266,37 @@ pub fn drop_in_place<S: InPlaceItems<u64>>(
     s: &mut S,
     owner: Owned<u64>,
 ) -> Result<(), (Owned<u64>, Refused)>
-    requires seated { IsSeated (S.seat s.old) }
-    requires home { slots_home owner ≡ (S.seat s.old).home.slots }
-    ensures seat { S.seat s.new ≡ S.seat s.old }
-    ensures home { IfErr result (λ e. slots_home e.0 ≡ (S.seat s.new).home.slots) }
+    requires seated { IsSeated (S.caller s.old) }
+    requires home { slots_home owner ≡ (S.caller s.old).home.slots }
+    ensures caller { S.caller s.new ≡ S.caller s.old }
+    ensures home { IfErr result (λ e. slots_home e.0 ≡ (S.caller s.new).home.slots) }
 {
     owner.drop_in_place(s)
 }
 
 /// The item is out as raw.
 pub fn raw<S: RawItems<u64>>(s: &mut S, owner: Owned<u64>) -> RawPtr<u64>
-    requires seated { IsSeated (S.seat s.old) }
-    requires home { slots_home owner ≡ (S.seat s.old).home.slots }
-    ensures seat { S.seat s.new ≡ S.seat s.old }
+    requires seated { IsSeated (S.caller s.old) }
+    requires home { slots_home owner ≡ (S.caller s.old).home.slots }
+    ensures caller { S.caller s.new ≡ S.caller s.old }
 {
     owner.into_raw(s)
 }
 
 /// The owner of an item that is out as raw.
 pub fn unraw<S: RawItems<u64>>(s: &mut S, ptr: RawPtr<u64>) -> Option<Owned<u64>>
-    requires seated { IsSeated (S.seat s.old) }
-    ensures seat { S.seat s.new ≡ S.seat s.old }
-    ensures home { IsOfSlots (S.seat s.new).home.slots result }
+    requires seated { IsSeated (S.caller s.old) }
+    ensures caller { S.caller s.new ≡ S.caller s.old }
+    ensures home { IsOfSlots (S.caller s.new).home.slots result }
 {
     Owned::from_raw(ptr, s)
 }
 
 /// The number that a raw pointer names, where that is out as raw.
 pub fn see<S: Look<u64> + RawItems<u64>>(s: &mut S, ptr: RawPtr<u64>, guard: &Guard) -> Option<u64>
-    requires seated { IsSeated (S.seat s.old) }
-    requires reader { reader_of guard.now ≡ (S.seat s.old).reader }
-    ensures seat { S.seat s.new ≡ S.seat s.old }
+    requires seated { IsSeated (S.caller s.old) }
+    requires reader { reader_of guard.now ≡ (S.caller s.old).reader }
+    ensures caller { S.caller s.new ≡ S.caller s.old }
 {
     let ptr = ptr.into_ptr(s, guard)?;
     seen(s, ptr)

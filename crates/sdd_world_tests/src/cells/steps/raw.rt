@@ -10,9 +10,9 @@ use std::process::Abort;
 
 /// A cell with this pointer.
 pub fn cell<T: Item<T>, S: RawCells<T>>(rt: &impl Abort, s: &mut S, ptr: RawPtr<T>) -> AtomicRaw<T>
-    requires seated { IsSeated (S.seat s.old) }
-    ensures seat { S.seat s.new ≡ S.seat s.old }
-    ensures home { cells_home result ≡ (S.seat s.new).home.cells }
+    requires seated { IsSeated (S.caller s.old) }
+    ensures caller { S.caller s.new ≡ S.caller s.old }
+    ensures home { cells_home result ≡ (S.caller s.new).home.cells }
 {
     AtomicRaw::new(ptr, s).expect(rt, "a cell is free")
 }
@@ -23,9 +23,9 @@ pub fn held<S: Guards<u64> + RawCells<u64>>(
     s: &mut S,
     cell: &AtomicRaw<u64>,
 ) -> RawPtr<u64>
-    requires seated { IsSeated (S.seat s.old) }
-    requires home { cells_home cell.now ≡ (S.seat s.old).home.cells }
-    ensures seat { S.seat s.new ≡ S.seat s.old }
+    requires seated { IsSeated (S.caller s.old) }
+    requires home { cells_home cell.now ≡ (S.caller s.old).home.cells }
+    ensures caller { S.caller s.new ≡ S.caller s.old }
 {
     let guard = opened(rt, s);
     let ptr = cell.load(&guard, s);
@@ -42,9 +42,9 @@ pub fn swapped<S: Guards<u64> + RawCells<u64>>(
     cell: &AtomicRaw<u64>,
     ptr: RawPtr<u64>,
 ) -> RawPtr<u64>
-    requires seated { IsSeated (S.seat s.old) }
-    requires home { cells_home cell.now ≡ (S.seat s.old).home.cells }
-    ensures seat { S.seat s.new ≡ S.seat s.old }
+    requires seated { IsSeated (S.caller s.old) }
+    requires home { cells_home cell.now ≡ (S.caller s.old).home.cells }
+    ensures caller { S.caller s.new ≡ S.caller s.old }
 {
     let guard = opened(rt, s);
     let old = cell.swap(ptr, &guard, s);
@@ -60,9 +60,9 @@ pub fn tag_if<S: RawCells<u64>>(
     old: Tag,
     new: Tag,
 ) -> bool
-    requires seated { IsSeated (S.seat s.old) }
-    requires home { cells_home cell.now ≡ (S.seat s.old).home.cells }
-    ensures seat { S.seat s.new ≡ S.seat s.old }
+    requires seated { IsSeated (S.caller s.old) }
+    requires home { cells_home cell.now ≡ (S.caller s.old).home.cells }
+    ensures caller { S.caller s.new ≡ S.caller s.old }
 {
     cell.update_tag_if(new, |ptr| ptr.tag() == old, s)
         .expect(rt, "in a world the condition is asked once")
@@ -76,9 +76,9 @@ pub fn exchanged<S: Guards<u64> + RawCells<u64>>(
     current: RawPtr<u64>,
     new: RawPtr<u64>,
 ) -> Result<RawPtr<u64>, RawPtr<u64>>
-    requires seated { IsSeated (S.seat s.old) }
-    requires home { cells_home cell.now ≡ (S.seat s.old).home.cells }
-    ensures seat { S.seat s.new ≡ S.seat s.old }
+    requires seated { IsSeated (S.caller s.old) }
+    requires home { cells_home cell.now ≡ (S.caller s.old).home.cells }
+    ensures caller { S.caller s.new ≡ S.caller s.old }
 {
     let guard = opened(rt, s);
     let result = cell.compare_exchange(current, new, &guard, s);
@@ -93,9 +93,9 @@ pub fn updated<S: Guards<u64> + RawCells<u64>>(
     cell: &AtomicRaw<u64>,
     next: RawPtr<u64>,
 ) -> Result<RawPtr<u64>, RawPtr<u64>>
-    requires seated { IsSeated (S.seat s.old) }
-    requires home { cells_home cell.now ≡ (S.seat s.old).home.cells }
-    ensures seat { S.seat s.new ≡ S.seat s.old }
+    requires seated { IsSeated (S.caller s.old) }
+    requires home { cells_home cell.now ≡ (S.caller s.old).home.cells }
+    ensures caller { S.caller s.new ≡ S.caller s.old }
 {
     let guard = opened(rt, s);
     let update = |ptr: RawPtr<u64>| if ptr.is_null() { None } else { Some(next) };
@@ -112,9 +112,9 @@ pub fn asked<S: RawCells<u64>>(
     tag: Tag,
     holds: bool,
 ) -> u8
-    requires seated { IsSeated (S.seat s.old) }
-    requires home { cells_home cell.now ≡ (S.seat s.old).home.cells }
-    ensures seat { S.seat s.new ≡ S.seat s.old }
+    requires seated { IsSeated (S.caller s.old) }
+    requires home { cells_home cell.now ≡ (S.caller s.old).home.cells }
+    ensures caller { S.caller s.new ≡ S.caller s.old }
 {
     let mut times = 0u8;
     let condition = |_ptr: RawPtr<u64>| {
@@ -133,9 +133,9 @@ pub fn called<S: Guards<u64> + RawCells<u64>>(
     cell: &AtomicRaw<u64>,
     next: Option<RawPtr<u64>>,
 ) -> u8
-    requires seated { IsSeated (S.seat s.old) }
-    requires home { cells_home cell.now ≡ (S.seat s.old).home.cells }
-    ensures seat { S.seat s.new ≡ S.seat s.old }
+    requires seated { IsSeated (S.caller s.old) }
+    requires home { cells_home cell.now ≡ (S.caller s.old).home.cells }
+    ensures caller { S.caller s.new ≡ S.caller s.old }
 {
     let guard = opened(rt, s);
     let mut times = 0u8;

@@ -1,7 +1,7 @@
 //! Owners that may have others beside them, and cells of them.
 ghost use Rattle.std.specs.Prelude.{◌≡◌};
 ghost use Rattle.sdd_space.specs.Guard.{reader_of};
-ghost use Rattle.sdd_space.specs.OwnerOrCell.{AreOf};
+ghost use Rattle.sdd_world_model.specs.OwnerOrCell.{AreOf};
 ghost use Rattle.sdd_space.specs.Shared.{slot_of, slots_home, cells_home, IsOfSlots};
 ghost use Rattle.sdd_space.specs.CallerId.{IsSeated};
 ghost use Rattle.sdd_space.specs.Ptr.{KeepsShown, PtrIsShown};
@@ -16,10 +16,10 @@ use std::process::Abort;
 
 /// The owner of a new item.
 pub fn made<T: Item<T>, S: Items<T>>(rt: &impl Abort, s: &mut S, value: T) -> Shared<T>
-    requires seated { IsSeated (S.seat s.old) }
-    requires home { AreOf (S.seat s.old).home (T.holds value) }
-    ensures seat { S.seat s.new ≡ S.seat s.old }
-    ensures home { slots_home result ≡ (S.seat s.new).home.slots }
+    requires seated { IsSeated (S.caller s.old) }
+    requires home { AreOf (S.caller s.old).home (T.holds value) }
+    ensures caller { S.caller s.new ≡ S.caller s.old }
+    ensures home { slots_home result ≡ (S.caller s.new).home.slots }
 {
     match Shared::new(value, s) {
         Ok(owner) => owner,
@@ -29,9 +29,9 @@ pub fn made<T: Item<T>, S: Items<T>>(rt: &impl Abort, s: &mut S, value: T) -> Sh
 
 /// The owner of an item that a closure makes.
 pub fn made_by_closure<S: Items<u64>>(rt: &impl Abort, s: &mut S, value: u64) -> Shared<u64>
-    requires seated { IsSeated (S.seat s.old) }
-    ensures seat { S.seat s.new ≡ S.seat s.old }
-    ensures home { slots_home result ≡ (S.seat s.new).home.slots }
+    requires seated { IsSeated (S.caller s.old) }
+    ensures caller { S.caller s.new ≡ S.caller s.old }
+    ensures home { slots_home result ≡ (S.caller s.new).home.slots }
 {
     match Shared::new_with(|| value, s) {
         Ok(owner) => owner,
@@ -41,9 +41,9 @@ pub fn made_by_closure<S: Items<u64>>(rt: &impl Abort, s: &mut S, value: u64) ->
 
 /// Gives the owner up, and tells whether it was the last.
 pub fn release<S: Items<u64>>(s: &mut S, owner: Shared<u64>) -> bool
-    requires seated { IsSeated (S.seat s.old) }
-    requires home { slots_home owner ≡ (S.seat s.old).home.slots }
-    ensures seat { S.seat s.new ≡ S.seat s.old }
+    requires seated { IsSeated (S.caller s.old) }
+    requires home { slots_home owner ≡ (S.caller s.old).home.slots }
+    ensures caller { S.caller s.new ≡ S.caller s.old }
     ensures shown { KeepsShown (S.shows s.old) (S.shows s.new) }
 {
     owner.release(s)
@@ -51,25 +51,25 @@ pub fn release<S: Items<u64>>(s: &mut S, owner: Shared<u64>) -> bool
 
 /// One owner more.
 pub fn copied<S: SharedOwners<u64>>(rt: &impl Abort, s: &mut S, owner: &Shared<u64>) -> Shared<u64>
-    requires seated { IsSeated (S.seat s.old) }
-    requires home { slots_home owner.now ≡ (S.seat s.old).home.slots }
-    ensures seat { S.seat s.new ≡ S.seat s.old }
+    requires seated { IsSeated (S.caller s.old) }
+    requires home { slots_home owner.now ≡ (S.caller s.old).home.slots }
+    ensures caller { S.caller s.new ≡ S.caller s.old }
     ensures shown { KeepsShown (S.shows s.old) (S.shows s.new) }
-    ensures home { slots_home result ≡ (S.seat s.new).home.slots }
+    ensures home { slots_home result ≡ (S.caller s.new).home.slots }
 {
     owner.clone(s).expect(rt, "another owner may be had")
 }
 
 /// Whether one owner more can be had of the pointer's item; if so it is given up again, and tells whether it was the last.
-#[tactic(auto, using(sdd_space::proofs::Shown::shown_still))]
+#[tactic(auto, using(sdd_space::proofs::PtrShown::shown_still))]
 pub fn upgraded<S: Items<u64> + SharedItems<u64>>(
     rt: &impl Abort,
     s: &mut S,
     ptr: Ptr<'_, u64>,
 ) -> Option<bool>
-    requires seated { IsSeated (S.seat s.old) }
+    requires seated { IsSeated (S.caller s.old) }
     requires shown { PtrIsShown (S.shows s.old) ptr }
-    ensures seat { S.seat s.new ≡ S.seat s.old }
+    ensures caller { S.caller s.new ≡ S.caller s.old }
     ensures still { PtrIsShown (S.shows s.new) ptr.entry }
 {
     let owner = ptr.get_shared(s).expect(rt, "another owner may be had")?;
@@ -82,9 +82,9 @@ pub fn had_of<S: Look<u64> + Guards<u64> + Items<u64> + SharedItems<u64> + Cells
     s: &mut S,
     cell: &AtomicShared<u64>,
 ) -> Option<u64>
-    requires seated { IsSeated (S.seat s.old) }
-    requires home { cells_home cell.now ≡ (S.seat s.old).home.cells }
-    ensures seat { S.seat s.new ≡ S.seat s.old }
+    requires seated { IsSeated (S.caller s.old) }
+    requires home { cells_home cell.now ≡ (S.caller s.old).home.cells }
+    ensures caller { S.caller s.new ≡ S.caller s.old }
 {
     let guard = opened(rt, s);
     let had = cell
@@ -98,15 +98,15 @@ pub fn had_of<S: Look<u64> + Guards<u64> + Items<u64> + SharedItems<u64> + Cells
 }
 
 /// The same by a call that gives the pointer back where there is none.
-#[tactic(auto, using(sdd_space::proofs::Shown::shown_still))]
+#[tactic(auto, using(sdd_space::proofs::PtrShown::shown_still))]
 pub fn converted<S: Items<u64> + SharedItems<u64>>(
     rt: &impl Abort,
     s: &mut S,
     ptr: Ptr<'_, u64>,
 ) -> Option<bool>
-    requires seated { IsSeated (S.seat s.old) }
+    requires seated { IsSeated (S.caller s.old) }
     requires shown { PtrIsShown (S.shows s.old) ptr }
-    ensures seat { S.seat s.new ≡ S.seat s.old }
+    ensures caller { S.caller s.new ≡ S.caller s.old }
     ensures still { PtrIsShown (S.shows s.new) ptr.entry }
 {
     match Shared::try_from_ptr(ptr, s) {
@@ -123,9 +123,9 @@ pub fn refused_copy<S: Items<u64> + SharedItems<u64>>(
     s: &mut S,
     owner: &Shared<u64>,
 ) -> Option<Refused>
-    requires seated { IsSeated (S.seat s.old) }
-    requires home { slots_home owner.now ≡ (S.seat s.old).home.slots }
-    ensures seat { S.seat s.new ≡ S.seat s.old }
+    requires seated { IsSeated (S.caller s.old) }
+    requires home { slots_home owner.now ≡ (S.caller s.old).home.slots }
+    ensures caller { S.caller s.new ≡ S.caller s.old }
     ensures shown { KeepsShown (S.shows s.old) (S.shows s.new) }
 {
     match owner.clone(s) {
@@ -142,9 +142,9 @@ pub fn refused_upgrade<S: Look<u64> + Items<u64> + SharedItems<u64>>(
     s: &mut S,
     ptr: Ptr<'_, u64>,
 ) -> Option<Refused>
-    requires seated { IsSeated (S.seat s.old) }
+    requires seated { IsSeated (S.caller s.old) }
     requires shown { PtrIsShown (S.shows s.old) ptr }
-    ensures seat { S.seat s.new ≡ S.seat s.old }
+    ensures caller { S.caller s.new ≡ S.caller s.old }
 {
     match ptr.get_shared(s) {
         Ok(owner) => {
@@ -161,10 +161,10 @@ pub fn refused_owner<S: Space<u64>>(
     cell: &AtomicShared<u64>,
     guard: &Guard,
 ) -> Option<Refused>
-    requires seated { IsSeated (S.seat s.old) }
-    requires home { cells_home cell.now ≡ (S.seat s.old).home.cells }
-    requires reader { reader_of guard.now ≡ (S.seat s.old).reader }
-    ensures seat { S.seat s.new ≡ S.seat s.old }
+    requires seated { IsSeated (S.caller s.old) }
+    requires home { cells_home cell.now ≡ (S.caller s.old).home.cells }
+    requires reader { reader_of guard.now ≡ (S.caller s.old).reader }
+    ensures caller { S.caller s.new ≡ S.caller s.old }
 {
     match cell.get_shared(guard, s) {
         Ok(owner) => {
@@ -181,10 +181,10 @@ pub fn refused_cell<S: Items<u64> + Cells<u64>>(
     cell: &AtomicShared<u64>,
     guard: &Guard,
 ) -> Option<Refused>
-    requires seated { IsSeated (S.seat s.old) }
-    requires home { cells_home cell.now ≡ (S.seat s.old).home.cells }
-    requires reader { reader_of guard.now ≡ (S.seat s.old).reader }
-    ensures seat { S.seat s.new ≡ S.seat s.old }
+    requires seated { IsSeated (S.caller s.old) }
+    requires home { cells_home cell.now ≡ (S.caller s.old).home.cells }
+    requires reader { reader_of guard.now ≡ (S.caller s.old).reader }
+    ensures caller { S.caller s.new ≡ S.caller s.old }
 {
     match cell.clone(guard, s) {
         Ok(copy) => {
@@ -197,9 +197,9 @@ pub fn refused_cell<S: Items<u64> + Cells<u64>>(
 
 /// The number of the owner's item. The owner is given up.
 pub fn spent<S: Look<u64> + Items<u64>>(s: &mut S, owner: Option<Shared<u64>>) -> Option<u64>
-    requires seated { IsSeated (S.seat s.old) }
-    requires home { IsOfSlots (S.seat s.old).home.slots owner }
-    ensures seat { S.seat s.new ≡ S.seat s.old }
+    requires seated { IsSeated (S.caller s.old) }
+    requires home { IsOfSlots (S.caller s.old).home.slots owner }
+    ensures caller { S.caller s.new ≡ S.caller s.old }
 {
     let owner = owner?;
     let value = *owner.get(s);
@@ -209,10 +209,10 @@ pub fn spent<S: Look<u64> + Items<u64>>(s: &mut S, owner: Option<Shared<u64>>) -
 
 /// A cell that holds the owner of a new item.
 pub fn cell<T: Item<T>, S: Cells<T>>(rt: &impl Abort, s: &mut S, value: T) -> AtomicShared<T>
-    requires seated { IsSeated (S.seat s.old) }
-    requires home { AreOf (S.seat s.old).home (T.holds value) }
-    ensures seat { S.seat s.new ≡ S.seat s.old }
-    ensures home { cells_home result ≡ (S.seat s.new).home.cells }
+    requires seated { IsSeated (S.caller s.old) }
+    requires home { AreOf (S.caller s.old).home (T.holds value) }
+    ensures caller { S.caller s.new ≡ S.caller s.old }
+    ensures home { cells_home result ≡ (S.caller s.new).home.cells }
 {
     match AtomicShared::new(value, s) {
         Ok(cell) => cell,
@@ -226,19 +226,19 @@ pub fn load<'g, S: Cells<u64>>(
     cell: &AtomicShared<u64>,
     guard: &'g Guard,
 ) -> Ptr<'g, u64>
-    requires seated { IsSeated (S.seat s.old) }
-    requires home { cells_home cell.now ≡ (S.seat s.old).home.cells }
-    requires reader { reader_of guard.now ≡ (S.seat s.old).reader }
-    ensures seat { S.seat s.new ≡ S.seat s.old }
+    requires seated { IsSeated (S.caller s.old) }
+    requires home { cells_home cell.now ≡ (S.caller s.old).home.cells }
+    requires reader { reader_of guard.now ≡ (S.caller s.old).reader }
+    ensures caller { S.caller s.new ≡ S.caller s.old }
 {
     cell.load(guard, s)
 }
 
 /// Sets the tag where the cell has none, and tells whether it did.
 pub fn tagged<S: Cells<u64>>(rt: &impl Abort, s: &mut S, cell: &AtomicShared<u64>, tag: Tag) -> bool
-    requires seated { IsSeated (S.seat s.old) }
-    requires home { cells_home cell.now ≡ (S.seat s.old).home.cells }
-    ensures seat { S.seat s.new ≡ S.seat s.old }
+    requires seated { IsSeated (S.caller s.old) }
+    requires home { cells_home cell.now ≡ (S.caller s.old).home.cells }
+    ensures caller { S.caller s.new ≡ S.caller s.old }
 {
     let condition = |ptr: RawPtr<u64>| ptr.tag() == Tag::None;
     cell.update_tag_if(tag, condition, s)
@@ -247,19 +247,19 @@ pub fn tagged<S: Cells<u64>>(rt: &impl Abort, s: &mut S, cell: &AtomicShared<u64
 
 /// The cell is free again, and what it held comes back.
 pub fn into_shared<S: Cells<u64>>(s: &mut S, cell: AtomicShared<u64>) -> Option<Shared<u64>>
-    requires seated { IsSeated (S.seat s.old) }
-    requires home { cells_home cell ≡ (S.seat s.old).home.cells }
-    ensures seat { S.seat s.new ≡ S.seat s.old }
-    ensures home { IsOfSlots (S.seat s.new).home.slots result }
+    requires seated { IsSeated (S.caller s.old) }
+    requires home { cells_home cell ≡ (S.caller s.old).home.cells }
+    ensures caller { S.caller s.new ≡ S.caller s.old }
+    ensures home { IsOfSlots (S.caller s.new).home.slots result }
 {
     cell.into_shared(s)
 }
 
 /// The cell is free again, and what it held is given up.
 pub fn close_cell<S: Items<u64> + Cells<u64>>(s: &mut S, cell: AtomicShared<u64>)
-    requires seated { IsSeated (S.seat s.old) }
-    requires home { cells_home cell ≡ (S.seat s.old).home.cells }
-    ensures seat { S.seat s.new ≡ S.seat s.old }
+    requires seated { IsSeated (S.caller s.old) }
+    requires home { cells_home cell ≡ (S.caller s.old).home.cells }
+    ensures caller { S.caller s.new ≡ S.caller s.old }
 {
     cell.close(s);
 }
@@ -272,9 +272,9 @@ pub fn swapped<S: Look<u64> + Items<u64> + Cells<u64>>(
     next: u64,
     tag: Tag,
 ) -> (Option<u64>, Tag)
-    requires seated { IsSeated (S.seat s.old) }
-    requires home { cells_home cell.now ≡ (S.seat s.old).home.cells }
-    ensures seat { S.seat s.new ≡ S.seat s.old }
+    requires seated { IsSeated (S.caller s.old) }
+    requires home { cells_home cell.now ≡ (S.caller s.old).home.cells }
+    ensures caller { S.caller s.new ≡ S.caller s.old }
 {
     let owner = made(rt, s, next);
     let (old, old_tag) = cell.swap((Some(owner), tag), s);
@@ -291,10 +291,10 @@ pub fn exchanged<'g, S: Look<u64> + Items<u64> + Cells<u64>>(
     tag: Tag,
     guard: &'g Guard,
 ) -> Result<Read, Read>
-    requires seated { IsSeated (S.seat s.old) }
-    requires home { cells_home cell.now ≡ (S.seat s.old).home.cells }
-    requires reader { reader_of guard.now ≡ (S.seat s.old).reader }
-    ensures seat { S.seat s.new ≡ S.seat s.old }
+    requires seated { IsSeated (S.caller s.old) }
+    requires home { cells_home cell.now ≡ (S.caller s.old).home.cells }
+    requires reader { reader_of guard.now ≡ (S.caller s.old).reader }
+    ensures caller { S.caller s.new ≡ S.caller s.old }
 {
     let owner = made(rt, s, next);
     match cell.compare_exchange(current, (Some(owner), tag), guard, s) {
@@ -309,9 +309,9 @@ pub fn read<S: Look<u64> + Guards<u64> + Cells<u64>>(
     s: &mut S,
     cell: &AtomicShared<u64>,
 ) -> (Option<u64>, Tag)
-    requires seated { IsSeated (S.seat s.old) }
-    requires home { cells_home cell.now ≡ (S.seat s.old).home.cells }
-    ensures seat { S.seat s.new ≡ S.seat s.old }
+    requires seated { IsSeated (S.caller s.old) }
+    requires home { cells_home cell.now ≡ (S.caller s.old).home.cells }
+    ensures caller { S.caller s.new ≡ S.caller s.old }
 {
     let guard = opened(rt, s);
     let ptr = cell.load(&guard, s);
@@ -327,9 +327,9 @@ pub fn emptied_weakly<S: Look<u64> + Guards<u64> + Items<u64> + Cells<u64>>(
     cell: &AtomicShared<u64>,
     tag: Tag,
 ) -> Option<u64>
-    requires seated { IsSeated (S.seat s.old) }
-    requires home { cells_home cell.now ≡ (S.seat s.old).home.cells }
-    ensures seat { S.seat s.new ≡ S.seat s.old }
+    requires seated { IsSeated (S.caller s.old) }
+    requires home { cells_home cell.now ≡ (S.caller s.old).home.cells }
+    ensures caller { S.caller s.new ≡ S.caller s.old }
 {
     let guard = opened(rt, s);
     let ptr = cell.load(&guard, s);
@@ -347,10 +347,10 @@ pub fn copied_cell<S: Guards<u64> + Cells<u64>>(
     s: &mut S,
     cell: &AtomicShared<u64>,
 ) -> AtomicShared<u64>
-    requires seated { IsSeated (S.seat s.old) }
-    requires home { cells_home cell.now ≡ (S.seat s.old).home.cells }
-    ensures seat { S.seat s.new ≡ S.seat s.old }
-    ensures home { cells_home result ≡ (S.seat s.new).home.cells }
+    requires seated { IsSeated (S.caller s.old) }
+    requires home { cells_home cell.now ≡ (S.caller s.old).home.cells }
+    ensures caller { S.caller s.new ≡ S.caller s.old }
+    ensures home { cells_home result ≡ (S.caller s.new).home.cells }
 {
     let guard = opened(rt, s);
     let copy = cell.clone(&guard, s).expect(rt, "a cell is free");
@@ -364,9 +364,9 @@ pub fn put<S: InPlaceItems<u64>>(
     owner: &mut Shared<u64>,
     value: u64,
 ) -> Result<u64, Refused>
-    requires seated { IsSeated (S.seat s.old) }
-    requires home { slots_home owner.old ≡ (S.seat s.old).home.slots }
-    ensures seat { S.seat s.new ≡ S.seat s.old }
+    requires seated { IsSeated (S.caller s.old) }
+    requires home { slots_home owner.old ≡ (S.caller s.old).home.slots }
+    ensures caller { S.caller s.new ≡ S.caller s.old }
     ensures home { slots_home owner.new ≡ slots_home owner.old }
     ensures slot { slot_of owner.new ≡ slot_of owner.old }
     ensures same { S.keeps_right → owner.new ≡ owner.old }
@@ -383,9 +383,9 @@ pub fn dropped_in_place<S: InPlaceItems<u64>>(
     s: &mut S,
     owner: Shared<u64>,
 ) -> bool
-    requires seated { IsSeated (S.seat s.old) }
-    requires home { slots_home owner ≡ (S.seat s.old).home.slots }
-    ensures seat { S.seat s.new ≡ S.seat s.old }
+    requires seated { IsSeated (S.caller s.old) }
+    requires home { slots_home owner ≡ (S.caller s.old).home.slots }
+    ensures caller { S.caller s.new ≡ S.caller s.old }
 {
     match owner.drop_in_place(s) {
         Ok(last) => last,
@@ -401,9 +401,9 @@ pub fn asked<S: Cells<u64>>(
     tag: Tag,
     holds: bool,
 ) -> u8
-    requires seated { IsSeated (S.seat s.old) }
-    requires home { cells_home cell.now ≡ (S.seat s.old).home.cells }
-    ensures seat { S.seat s.new ≡ S.seat s.old }
+    requires seated { IsSeated (S.caller s.old) }
+    requires home { cells_home cell.now ≡ (S.caller s.old).home.cells }
+    ensures caller { S.caller s.new ≡ S.caller s.old }
 {
     let mut times = 0u8;
     let condition = |_ptr: RawPtr<u64>| {

@@ -20,11 +20,11 @@ pub fn oldest<'g, S: Lists>(
     queue: &Queue<u64>,
     guard: &'g Guard,
 ) -> Link<'g, Entry>
-    requires seated { IsSeated (S.seat s.old) }
-    requires home { AreOfCells (S.seat s.old).home.cells queue.now }
-    requires reader { reader_of guard.now ≡ (S.seat s.old).reader }
-    ensures seat { S.seat s.new ≡ S.seat s.old }
-    ensures home { link_home_of (entry_of result) ≡ (S.seat s.new).home.cells }
+    requires seated { IsSeated (S.caller s.old) }
+    requires home { AreOfCells (S.caller s.old).home.cells queue.now }
+    requires reader { reader_of guard.now ≡ (S.caller s.old).reader }
+    ensures caller { S.caller s.new ≡ S.caller s.old }
+    ensures home { link_home_of (entry_of result) ≡ (S.caller s.new).home.cells }
 {
     let oldest = queue.peek(guard, s);
     Link::of(oldest, &*s).expect(rt, "an entry is there")
@@ -32,36 +32,36 @@ pub fn oldest<'g, S: Lists>(
 
 /// Whether an entry is clear, marked and deleted.
 pub fn shown<S: Lists>(s: &mut S, link: &Link<'_, Entry>) -> (bool, bool, bool)
-    requires seated { IsSeated (S.seat s.old) }
-    requires home { link_home_of (entry_of link.now) ≡ (S.seat s.old).home.cells }
-    ensures seat { S.seat s.new ≡ S.seat s.old }
+    requires seated { IsSeated (S.caller s.old) }
+    requires home { link_home_of (entry_of link.now) ≡ (S.caller s.old).home.cells }
+    ensures caller { S.caller s.new ≡ S.caller s.old }
 {
     (link.is_clear(s), link.is_marked(s), link.is_deleted(s))
 }
 
 /// Marks an entry, and tells whether that changed it.
 pub fn marked<S: Lists>(rt: &impl Abort, s: &mut S, link: &Link<'_, Entry>) -> bool
-    requires seated { IsSeated (S.seat s.old) }
-    requires home { link_home_of (entry_of link.now) ≡ (S.seat s.old).home.cells }
-    ensures seat { S.seat s.new ≡ S.seat s.old }
+    requires seated { IsSeated (S.caller s.old) }
+    requires home { link_home_of (entry_of link.now) ≡ (S.caller s.old).home.cells }
+    ensures caller { S.caller s.new ≡ S.caller s.old }
 {
     link.mark(s).expect(rt, "nobody else changes it")
 }
 
 /// Takes the mark of an entry away, and tells whether that changed it.
 pub fn unmarked<S: Lists>(rt: &impl Abort, s: &mut S, link: &Link<'_, Entry>) -> bool
-    requires seated { IsSeated (S.seat s.old) }
-    requires home { link_home_of (entry_of link.now) ≡ (S.seat s.old).home.cells }
-    ensures seat { S.seat s.new ≡ S.seat s.old }
+    requires seated { IsSeated (S.caller s.old) }
+    requires home { link_home_of (entry_of link.now) ≡ (S.caller s.old).home.cells }
+    ensures caller { S.caller s.new ≡ S.caller s.old }
 {
     link.unmark(s).expect(rt, "nobody else changes it")
 }
 
 /// Deletes an entry, and tells whether that changed it.
 pub fn deleted<S: Lists>(rt: &impl Abort, s: &mut S, link: &Link<'_, Entry>) -> bool
-    requires seated { IsSeated (S.seat s.old) }
-    requires home { link_home_of (entry_of link.now) ≡ (S.seat s.old).home.cells }
-    ensures seat { S.seat s.new ≡ S.seat s.old }
+    requires seated { IsSeated (S.caller s.old) }
+    requires home { link_home_of (entry_of link.now) ≡ (S.caller s.old).home.cells }
+    ensures caller { S.caller s.new ≡ S.caller s.old }
 {
     link.delete_self(s).expect(rt, "nobody else changes it")
 }
@@ -73,10 +73,10 @@ pub fn next<S: Lists>(
     link: &Link<'_, Entry>,
     guard: &Guard,
 ) -> (Option<u64>, Option<u64>)
-    requires seated { IsSeated (S.seat s.old) }
-    requires home { link_home_of (entry_of link.now) ≡ (S.seat s.old).home.cells }
-    requires reader { reader_of guard.now ≡ (S.seat s.old).reader }
-    ensures seat { S.seat s.new ≡ S.seat s.old }
+    requires seated { IsSeated (S.caller s.old) }
+    requires home { link_home_of (entry_of link.now) ≡ (S.caller s.old).home.cells }
+    requires reader { reader_of guard.now ≡ (S.caller s.old).reader }
+    ensures caller { S.caller s.new ≡ S.caller s.old }
 {
     let ptr = link.next_ptr(guard, s).expect(rt, "nobody else changes it");
     let by_pointer = seen(&*s, ptr);
@@ -97,10 +97,10 @@ pub fn linked_behind<S: Lists>(
     mark: bool,
     guard: &Guard,
 ) -> Result<Option<u64>, u64>
-    requires seated { IsSeated (S.seat s.old) }
-    requires home { link_home_of (entry_of link.now) ≡ (S.seat s.old).home.cells }
-    requires reader { reader_of guard.now ≡ (S.seat s.old).reader }
-    ensures seat { S.seat s.new ≡ S.seat s.old }
+    requires seated { IsSeated (S.caller s.old) }
+    requires home { link_home_of (entry_of link.now) ≡ (S.caller s.old).home.cells }
+    requires reader { reader_of guard.now ≡ (S.caller s.old).reader }
+    ensures caller { S.caller s.new ≡ S.caller s.old }
 {
     let owner = made(rt, s, value);
     match link.push_back(owner, mark, guard, s) {
@@ -112,9 +112,9 @@ pub fn linked_behind<S: Lists>(
 
 /// An owner of a new entry, which is in no list.
 pub fn made<S: Lists>(rt: &impl Abort, s: &mut S, value: u64) -> Shared<Entry>
-    requires seated { IsSeated (S.seat s.old) }
-    ensures seat { S.seat s.new ≡ S.seat s.old }
-    ensures home { slots_home result ≡ (S.seat s.new).home.slots }
+    requires seated { IsSeated (S.caller s.old) }
+    ensures caller { S.caller s.new ≡ S.caller s.old }
+    ensures home { slots_home result ≡ (S.caller s.new).home.slots }
 {
     let Ok(entry) = Entry::new(value, s) else {
         panic!(rt; "a cell is free")

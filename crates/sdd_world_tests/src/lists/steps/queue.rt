@@ -13,9 +13,9 @@ use std::process::Abort;
 
 /// An empty queue.
 pub fn made<S: Lists>(rt: &impl Abort, s: &mut S) -> Queue<u64>
-    requires seated { IsSeated (S.seat s.old) }
-    ensures seat { S.seat s.new ≡ S.seat s.old }
-    ensures home { AreOfCells (S.seat s.new).home.cells result }
+    requires seated { IsSeated (S.caller s.old) }
+    ensures caller { S.caller s.new ≡ S.caller s.old }
+    ensures home { AreOfCells (S.caller s.new).home.cells result }
 {
     Queue::new(s).expect(rt, "two cells are free")
 }
@@ -27,10 +27,10 @@ pub fn pushed<S: Lists>(
     value: u64,
     guard: &Guard,
 ) -> Result<(), (u64, Refused)>
-    requires seated { IsSeated (S.seat s.old) }
-    requires home { AreOfCells (S.seat s.old).home.cells queue.now }
-    requires reader { reader_of guard.now ≡ (S.seat s.old).reader }
-    ensures seat { S.seat s.new ≡ S.seat s.old }
+    requires seated { IsSeated (S.caller s.old) }
+    requires home { AreOfCells (S.caller s.old).home.cells queue.now }
+    requires reader { reader_of guard.now ≡ (S.caller s.old).reader }
+    ensures caller { S.caller s.new ≡ S.caller s.old }
 {
     match queue.push(value, guard, s) {
         Ok(owner) => {
@@ -49,10 +49,10 @@ pub fn pushed_behind<S: Lists>(
     wanted: Option<u64>,
     guard: &Guard,
 ) -> Result<(), (u64, Option<Refused>)>
-    requires seated { IsSeated (S.seat s.old) }
-    requires home { AreOfCells (S.seat s.old).home.cells queue.now }
-    requires reader { reader_of guard.now ≡ (S.seat s.old).reader }
-    ensures seat { S.seat s.new ≡ S.seat s.old }
+    requires seated { IsSeated (S.caller s.old) }
+    requires home { AreOfCells (S.caller s.old).home.cells queue.now }
+    requires reader { reader_of guard.now ≡ (S.caller s.old).reader }
+    ensures caller { S.caller s.new ≡ S.caller s.old }
 {
     match queue.push_if(value, |newest| number_of(newest) == wanted, guard, s) {
         Ok(owner) => {
@@ -70,10 +70,10 @@ pub fn popped<S: Lists>(
     queue: &Queue<u64>,
     guard: &Guard,
 ) -> Option<u64>
-    requires seated { IsSeated (S.seat s.old) }
-    requires home { AreOfCells (S.seat s.old).home.cells queue.now }
-    requires reader { reader_of guard.now ≡ (S.seat s.old).reader }
-    ensures seat { S.seat s.new ≡ S.seat s.old }
+    requires seated { IsSeated (S.caller s.old) }
+    requires home { AreOfCells (S.caller s.old).home.cells queue.now }
+    requires reader { reader_of guard.now ≡ (S.caller s.old).reader }
+    ensures caller { S.caller s.new ≡ S.caller s.old }
 {
     match queue.pop(guard, s) {
         Ok(Some(owner)) => Some(released(s, owner)),
@@ -90,10 +90,10 @@ pub fn popped_if<S: Lists>(
     wanted: u64,
     guard: &Guard,
 ) -> Result<Option<u64>, u64>
-    requires seated { IsSeated (S.seat s.old) }
-    requires home { AreOfCells (S.seat s.old).home.cells queue.now }
-    requires reader { reader_of guard.now ≡ (S.seat s.old).reader }
-    ensures seat { S.seat s.new ≡ S.seat s.old }
+    requires seated { IsSeated (S.caller s.old) }
+    requires home { AreOfCells (S.caller s.old).home.cells queue.now }
+    requires reader { reader_of guard.now ≡ (S.caller s.old).reader }
+    ensures caller { S.caller s.new ≡ S.caller s.old }
 {
     match queue.pop_if(|oldest| *oldest.as_ref() == wanted, guard, s) {
         Ok(Some(owner)) => Ok(Some(released(s, owner))),
@@ -109,10 +109,10 @@ pub fn shown<S: Lists>(
     queue: &Queue<u64>,
     guard: &Guard,
 ) -> (u64, bool, Option<u64>, Option<u64>)
-    requires seated { IsSeated (S.seat s.old) }
-    requires home { AreOfCells (S.seat s.old).home.cells queue.now }
-    requires reader { reader_of guard.now ≡ (S.seat s.old).reader }
-    ensures seat { S.seat s.new ≡ S.seat s.old }
+    requires seated { IsSeated (S.caller s.old) }
+    requires home { AreOfCells (S.caller s.old).home.cells queue.now }
+    requires reader { reader_of guard.now ≡ (S.caller s.old).reader }
+    ensures caller { S.caller s.new ≡ S.caller s.old }
 {
     let len = queue.len(guard, s);
     let is_empty = queue.is_empty(guard, s);
@@ -129,11 +129,11 @@ pub fn filled<S: Lists>(
     end: u64,
     guard: &Guard,
 ) -> Result<Queue<u64>, (Queue<u64>, u64, Refused)>
-    requires seated { IsSeated (S.seat s.old) }
-    requires reader { reader_of guard.now ≡ (S.seat s.old).reader }
-    ensures seat { S.seat s.new ≡ S.seat s.old }
-    ensures home { IfOk result (AreOfCells (S.seat s.new).home.cells) }
-    ensures home_of_part { IfErr result (λ e. AreOfCells (S.seat s.new).home.cells e.0) }
+    requires seated { IsSeated (S.caller s.old) }
+    requires reader { reader_of guard.now ≡ (S.caller s.old).reader }
+    ensures caller { S.caller s.new ≡ S.caller s.old }
+    ensures home { IfOk result (AreOfCells (S.caller s.new).home.cells) }
+    ensures home_of_part { IfErr result (λ e. AreOfCells (S.caller s.new).home.cells e.0) }
 {
     match Queue::from_iter(&mut (1..end), guard, s) {
         Ok(queue) => Ok(queue),
@@ -152,12 +152,12 @@ pub fn copied<S: Lists>(
     queue: &Queue<u64>,
     guard: &Guard,
 ) -> Result<Queue<u64>, (Queue<u64>, Refused)>
-    requires seated { IsSeated (S.seat s.old) }
-    requires home { AreOfCells (S.seat s.old).home.cells queue.now }
-    requires reader { reader_of guard.now ≡ (S.seat s.old).reader }
-    ensures seat { S.seat s.new ≡ S.seat s.old }
-    ensures home { IfOk result (AreOfCells (S.seat s.new).home.cells) }
-    ensures home_of_part { IfErr result (λ e. AreOfCells (S.seat s.new).home.cells e.0) }
+    requires seated { IsSeated (S.caller s.old) }
+    requires home { AreOfCells (S.caller s.old).home.cells queue.now }
+    requires reader { reader_of guard.now ≡ (S.caller s.old).reader }
+    ensures caller { S.caller s.new ≡ S.caller s.old }
+    ensures home { IfOk result (AreOfCells (S.caller s.new).home.cells) }
+    ensures home_of_part { IfErr result (λ e. AreOfCells (S.caller s.new).home.cells e.0) }
 {
     match queue.clone(guard, s) {
         Ok(copy) => Ok(copy),
@@ -171,10 +171,10 @@ pub fn copied<S: Lists>(
 
 /// The numbers of the entries, in order, of which there are at most four.
 pub fn walked<S: Lists>(s: &mut S, queue: &Queue<u64>, guard: &Guard) -> [Option<u64>; 4]
-    requires seated { IsSeated (S.seat s.old) }
-    requires home { AreOfCells (S.seat s.old).home.cells queue.now }
-    requires reader { reader_of guard.now ≡ (S.seat s.old).reader }
-    ensures seat { S.seat s.new ≡ S.seat s.old }
+    requires seated { IsSeated (S.caller s.old) }
+    requires home { AreOfCells (S.caller s.old).home.cells queue.now }
+    requires reader { reader_of guard.now ≡ (S.caller s.old).reader }
+    ensures caller { S.caller s.new ≡ S.caller s.old }
 {
     let mut walk = queue.walk(guard, s);
     let first = walk.next(guard, s).copied();
@@ -185,7 +185,7 @@ pub fn walked<S: Lists>(s: &mut S, queue: &Queue<u64>, guard: &Guard) -> [Option
 
 /// The numbers that an iterator gives, the first four where there are more.
 pub fn given<S: Lists>(s: &S, queue: &Queue<u64>, guard: &Guard) -> [Option<u64>; 4]
-    requires { AreOfCells (S.seat s.now).home.cells queue.now }
+    requires { AreOfCells (S.caller s.now).home.cells queue.now }
 {
     let mut numbers = [None; 4];
     let mut place = 0;
@@ -200,10 +200,10 @@ pub fn given<S: Lists>(s: &S, queue: &Queue<u64>, guard: &Guard) -> [Option<u64>
 
 /// Ends a queue.
 pub fn close<S: Lists>(s: &mut S, queue: Queue<u64>, guard: &Guard)
-    requires seated { IsSeated (S.seat s.old) }
-    requires home { AreOfCells (S.seat s.old).home.cells queue }
-    requires reader { reader_of guard.now ≡ (S.seat s.old).reader }
-    ensures seat { S.seat s.new ≡ S.seat s.old }
+    requires seated { IsSeated (S.caller s.old) }
+    requires home { AreOfCells (S.caller s.old).home.cells queue }
+    requires reader { reader_of guard.now ≡ (S.caller s.old).reader }
+    ensures caller { S.caller s.new ≡ S.caller s.old }
 {
     queue.close(guard, s);
 }

@@ -13,9 +13,9 @@ use std::process::Abort;
 
 /// An empty stack.
 pub fn made<S: Lists>(rt: &impl Abort, s: &mut S) -> Stack<u64>
-    requires seated { IsSeated (S.seat s.old) }
-    ensures seat { S.seat s.new ≡ S.seat s.old }
-    ensures home { home_in result ≡ (S.seat s.new).home.cells }
+    requires seated { IsSeated (S.caller s.old) }
+    ensures caller { S.caller s.new ≡ S.caller s.old }
+    ensures home { home_in result ≡ (S.caller s.new).home.cells }
 {
     Stack::new(s).expect(rt, "a cell is free")
 }
@@ -27,10 +27,10 @@ pub fn pushed<S: Lists>(
     value: u64,
     guard: &Guard,
 ) -> Result<(), (u64, Refused)>
-    requires seated { IsSeated (S.seat s.old) }
-    requires home { home_in stack.now ≡ (S.seat s.old).home.cells }
-    requires reader { reader_of guard.now ≡ (S.seat s.old).reader }
-    ensures seat { S.seat s.new ≡ S.seat s.old }
+    requires seated { IsSeated (S.caller s.old) }
+    requires home { home_in stack.now ≡ (S.caller s.old).home.cells }
+    requires reader { reader_of guard.now ≡ (S.caller s.old).reader }
+    ensures caller { S.caller s.new ≡ S.caller s.old }
 {
     match stack.push(value, guard, s) {
         Ok(owner) => {
@@ -49,10 +49,10 @@ pub fn pushed_onto<S: Lists>(
     wanted: Option<u64>,
     guard: &Guard,
 ) -> Result<(), (u64, Option<Refused>)>
-    requires seated { IsSeated (S.seat s.old) }
-    requires home { home_in stack.now ≡ (S.seat s.old).home.cells }
-    requires reader { reader_of guard.now ≡ (S.seat s.old).reader }
-    ensures seat { S.seat s.new ≡ S.seat s.old }
+    requires seated { IsSeated (S.caller s.old) }
+    requires home { home_in stack.now ≡ (S.caller s.old).home.cells }
+    requires reader { reader_of guard.now ≡ (S.caller s.old).reader }
+    ensures caller { S.caller s.new ≡ S.caller s.old }
 {
     match stack.push_if(value, |newest| number_of(newest) == wanted, guard, s) {
         Ok(owner) => {
@@ -70,10 +70,10 @@ pub fn popped<S: Lists>(
     stack: &Stack<u64>,
     guard: &Guard,
 ) -> Option<u64>
-    requires seated { IsSeated (S.seat s.old) }
-    requires home { home_in stack.now ≡ (S.seat s.old).home.cells }
-    requires reader { reader_of guard.now ≡ (S.seat s.old).reader }
-    ensures seat { S.seat s.new ≡ S.seat s.old }
+    requires seated { IsSeated (S.caller s.old) }
+    requires home { home_in stack.now ≡ (S.caller s.old).home.cells }
+    requires reader { reader_of guard.now ≡ (S.caller s.old).reader }
+    ensures caller { S.caller s.new ≡ S.caller s.old }
 {
     match stack.pop(guard, s) {
         Ok(Some(owner)) => Some(released(s, owner)),
@@ -90,10 +90,10 @@ pub fn popped_if<S: Lists>(
     wanted: u64,
     guard: &Guard,
 ) -> Result<Option<u64>, u64>
-    requires seated { IsSeated (S.seat s.old) }
-    requires home { home_in stack.now ≡ (S.seat s.old).home.cells }
-    requires reader { reader_of guard.now ≡ (S.seat s.old).reader }
-    ensures seat { S.seat s.new ≡ S.seat s.old }
+    requires seated { IsSeated (S.caller s.old) }
+    requires home { home_in stack.now ≡ (S.caller s.old).home.cells }
+    requires reader { reader_of guard.now ≡ (S.caller s.old).reader }
+    ensures caller { S.caller s.new ≡ S.caller s.old }
 {
     match stack.pop_if(|newest| *newest.as_ref() == wanted, guard, s) {
         Ok(Some(owner)) => Ok(Some(released(s, owner))),
@@ -109,10 +109,10 @@ pub fn shown<S: Lists>(
     stack: &Stack<u64>,
     guard: &Guard,
 ) -> (u64, bool, Option<u64>, Option<u64>)
-    requires seated { IsSeated (S.seat s.old) }
-    requires home { home_in stack.now ≡ (S.seat s.old).home.cells }
-    requires reader { reader_of guard.now ≡ (S.seat s.old).reader }
-    ensures seat { S.seat s.new ≡ S.seat s.old }
+    requires seated { IsSeated (S.caller s.old) }
+    requires home { home_in stack.now ≡ (S.caller s.old).home.cells }
+    requires reader { reader_of guard.now ≡ (S.caller s.old).reader }
+    ensures caller { S.caller s.new ≡ S.caller s.old }
 {
     let len = stack.len(guard, s);
     let is_empty = stack.is_empty(guard, s);
@@ -129,11 +129,11 @@ pub fn filled<S: Lists>(
     end: u64,
     guard: &Guard,
 ) -> Result<Stack<u64>, (Stack<u64>, u64, Refused)>
-    requires seated { IsSeated (S.seat s.old) }
-    requires reader { reader_of guard.now ≡ (S.seat s.old).reader }
-    ensures seat { S.seat s.new ≡ S.seat s.old }
-    ensures home { IfOk result (λ stack. home_in stack ≡ (S.seat s.new).home.cells) }
-    ensures home_of_part { IfErr result (λ e. home_in e.0 ≡ (S.seat s.new).home.cells) }
+    requires seated { IsSeated (S.caller s.old) }
+    requires reader { reader_of guard.now ≡ (S.caller s.old).reader }
+    ensures caller { S.caller s.new ≡ S.caller s.old }
+    ensures home { IfOk result (λ stack. home_in stack ≡ (S.caller s.new).home.cells) }
+    ensures home_of_part { IfErr result (λ e. home_in e.0 ≡ (S.caller s.new).home.cells) }
 {
     match Stack::from_iter(&mut (1..end), guard, s) {
         Ok(stack) => Ok(stack),
@@ -152,12 +152,12 @@ pub fn copied<S: Lists>(
     stack: &Stack<u64>,
     guard: &Guard,
 ) -> Result<Stack<u64>, (Stack<u64>, Refused)>
-    requires seated { IsSeated (S.seat s.old) }
-    requires home { home_in stack.now ≡ (S.seat s.old).home.cells }
-    requires reader { reader_of guard.now ≡ (S.seat s.old).reader }
-    ensures seat { S.seat s.new ≡ S.seat s.old }
-    ensures home { IfOk result (λ stack. home_in stack ≡ (S.seat s.new).home.cells) }
-    ensures home_of_part { IfErr result (λ e. home_in e.0 ≡ (S.seat s.new).home.cells) }
+    requires seated { IsSeated (S.caller s.old) }
+    requires home { home_in stack.now ≡ (S.caller s.old).home.cells }
+    requires reader { reader_of guard.now ≡ (S.caller s.old).reader }
+    ensures caller { S.caller s.new ≡ S.caller s.old }
+    ensures home { IfOk result (λ stack. home_in stack ≡ (S.caller s.new).home.cells) }
+    ensures home_of_part { IfErr result (λ e. home_in e.0 ≡ (S.caller s.new).home.cells) }
 {
     match stack.clone(guard, s) {
         Ok(copy) => Ok(copy),
@@ -171,10 +171,10 @@ pub fn copied<S: Lists>(
 
 /// The numbers of the entries, in order, of which there are at most four.
 pub fn walked<S: Lists>(s: &mut S, stack: &Stack<u64>, guard: &Guard) -> [Option<u64>; 4]
-    requires seated { IsSeated (S.seat s.old) }
-    requires home { home_in stack.now ≡ (S.seat s.old).home.cells }
-    requires reader { reader_of guard.now ≡ (S.seat s.old).reader }
-    ensures seat { S.seat s.new ≡ S.seat s.old }
+    requires seated { IsSeated (S.caller s.old) }
+    requires home { home_in stack.now ≡ (S.caller s.old).home.cells }
+    requires reader { reader_of guard.now ≡ (S.caller s.old).reader }
+    ensures caller { S.caller s.new ≡ S.caller s.old }
 {
     let mut walk = stack.walk(guard, s);
     let first = walk.next(guard, s).copied();
@@ -185,17 +185,17 @@ pub fn walked<S: Lists>(s: &mut S, stack: &Stack<u64>, guard: &Guard) -> [Option
 
 /// Another stack with all the entries.
 pub fn all_of<S: Lists>(rt: &impl Abort, s: &mut S, stack: &Stack<u64>, guard: &Guard) -> Stack<u64>
-    requires seated { IsSeated (S.seat s.old) }
-    requires home { home_in stack.now ≡ (S.seat s.old).home.cells }
-    ensures seat { S.seat s.new ≡ S.seat s.old }
-    ensures home { home_in result ≡ (S.seat s.new).home.cells }
+    requires seated { IsSeated (S.caller s.old) }
+    requires home { home_in stack.now ≡ (S.caller s.old).home.cells }
+    ensures caller { S.caller s.new ≡ S.caller s.old }
+    ensures home { home_in result ≡ (S.caller s.new).home.cells }
 {
     stack.pop_all(guard, s).expect(rt, "a cell is free")
 }
 
 /// The numbers that an iterator gives, the first four where there are more.
 pub fn given<S: Lists>(s: &S, stack: &Stack<u64>, guard: &Guard) -> [Option<u64>; 4]
-    requires { home_in stack.now ≡ (S.seat s.now).home.cells }
+    requires { home_in stack.now ≡ (S.caller s.now).home.cells }
 {
     let mut numbers = [None; 4];
     let mut place = 0;
@@ -210,7 +210,7 @@ pub fn given<S: Lists>(s: &S, stack: &Stack<u64>, guard: &Guard) -> [Option<u64>
 
 /// The first number that an iterator gives, without a guard.
 pub fn first_given<S: Lists>(s: &S, stack: &Stack<u64>) -> Option<u64>
-    requires { home_in stack.now ≡ (S.seat s.now).home.cells }
+    requires { home_in stack.now ≡ (S.caller s.now).home.cells }
 {
     let mut numbers = stack.iter_unguarded(s);
     numbers.next().copied()
@@ -218,10 +218,10 @@ pub fn first_given<S: Lists>(s: &S, stack: &Stack<u64>) -> Option<u64>
 
 /// Ends a stack.
 pub fn close<S: Lists>(s: &mut S, stack: Stack<u64>, guard: &Guard)
-    requires seated { IsSeated (S.seat s.old) }
-    requires home { home_in stack ≡ (S.seat s.old).home.cells }
-    requires reader { reader_of guard.now ≡ (S.seat s.old).reader }
-    ensures seat { S.seat s.new ≡ S.seat s.old }
+    requires seated { IsSeated (S.caller s.old) }
+    requires home { home_in stack ≡ (S.caller s.old).home.cells }
+    requires reader { reader_of guard.now ≡ (S.caller s.old).reader }
+    ensures caller { S.caller s.new ≡ S.caller s.old }
 {
     stack.close(guard, s);
 }

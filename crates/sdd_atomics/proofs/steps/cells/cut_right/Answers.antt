@@ -1,4 +1,4 @@
-use Rattle.sdd_domain_invariant.proofs.RightTokens.{parts_right}
+use Rattle.sdd_domain_invariant.proofs.Cells.RightSeats.{parts_right}
 use Rattle.sdd_atomics.proofs.steps.cells.cut_right.Goals as goal
 
 pub part-requires : goal.part-requires

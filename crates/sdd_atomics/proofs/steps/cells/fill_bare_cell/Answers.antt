@@ -1,5 +1,5 @@
 use Rattle.std.proofs.Common.{Bool, true, false, sym, ◌∙◌, subst, arith}
-use Rattle.sdd_domain_invariant.specs.CellSteps.{FillsBare, OfCell}
+use Rattle.sdd_domain_invariant.specs.Cells.CellSteps.{FillsBare, OfCell}
 use Rattle.sdd_atomics.proofs.Cells.{cell_moved, may_fill}
 use Rattle.sdd_atomics.proofs.steps.cells.fill_bare_cell.Goals as goal
 
@@ -21,12 +21,12 @@ swap-requires-else-shared c = let r = c.requires in (
 
 pub returns-then-shared : goal.returns-then-shared
 returns-then-shared c = let e = c.swap.ensures in
-    cell_moved c.args.token.now _ c.swap.result e.0 e.1 (FillsBare c.args.word c.args.shared) _ c.args.cell _ c.cell_word.ensures
-    c.requires.knows.0 (subst (λ (b : Bool). OfCell (FillsBare c.args.word b) c.cell_word.result c.args.token.now.me c.swap.result
+    cell_moved c.args.seat.now _ c.swap.result e.0 e.1 (FillsBare c.args.word c.args.shared) _ c.args.cell _ c.cell_word.ensures
+    c.requires.knows.0 (subst (λ (b : Bool). OfCell (FillsBare c.args.word b) c.cell_word.result c.args.seat.now.me c.swap.result
     c.swap.new.seat.me) (sym c.if-shared.true) e.2)
 
 pub returns-else-shared : goal.returns-else-shared
 returns-else-shared c = let e = c.swap-else-shared.ensures in
-    cell_moved c.args.token.now _ c.swap-else-shared.result e.0 e.1 (FillsBare c.args.word c.args.shared) _ c.args.cell _
+    cell_moved c.args.seat.now _ c.swap-else-shared.result e.0 e.1 (FillsBare c.args.word c.args.shared) _ c.args.cell _
     c.cell_word-else-shared.ensures c.requires.knows.0 (subst (λ (b : Bool). OfCell (FillsBare c.args.word b) c.cell_word-else-shared.result
-    c.args.token.now.me c.swap-else-shared.result c.swap-else-shared.new.seat.me) (sym c.if-shared.false) e.2)
+    c.args.seat.now.me c.swap-else-shared.result c.swap-else-shared.new.seat.me) (sym c.if-shared.false) e.2)

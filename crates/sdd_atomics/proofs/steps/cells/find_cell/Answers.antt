@@ -1,7 +1,7 @@
 use Rattle.std.proofs.Common.{sym, ◌∙◌}
 use Rattle.sdd_rights.specs.Views.{right_to}
 use Rattle.sdd_atomics.proofs.Cells.{may_find_cell}
-use Rattle.sdd_atomics.proofs.Shown.{view_is}
+use Rattle.sdd_atomics.proofs.ViewCodes.{view_is}
 use Rattle.sdd_atomics.proofs.steps.cells.find_cell.Goals as goal
 
 pub step_beside-requires : goal.step_beside-requires

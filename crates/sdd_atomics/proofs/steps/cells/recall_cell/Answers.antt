@@ -2,7 +2,7 @@ use Rattle.std.proofs.Common.{sym, ◌∙◌}
 use Rattle.sdd_rights.specs.Owner.{cell_kind}
 use Rattle.sdd_rights.specs.Views.{right_to}
 use Rattle.sdd_atomics.proofs.Cells.{may_recall_cell}
-use Rattle.sdd_atomics.proofs.Shown.{view_is}
+use Rattle.sdd_atomics.proofs.ViewCodes.{view_is}
 use Rattle.sdd_atomics.proofs.steps.cells.recall_cell.Goals as goal
 
 pub step_beside-requires : goal.step_beside-requires

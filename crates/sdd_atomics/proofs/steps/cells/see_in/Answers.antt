@@ -1,5 +1,5 @@
 use Rattle.std.proofs.Common.{arith}
-use Rattle.sdd_domain_invariant.specs.CellSteps.{SeesInCell}
+use Rattle.sdd_domain_invariant.specs.Cells.CellSteps.{SeesInCell}
 use Rattle.sdd_atomics.proofs.Cells.{cell_moved, may_see_in}
 use Rattle.sdd_atomics.proofs.steps.cells.see_in.Goals as goal
 
@@ -12,4 +12,4 @@ load-requires c = let r = c.requires in (
 
 pub returns : goal.returns
 returns c = let e = c.load.ensures in
-    cell_moved c.args.token.now _ c.load.result e.0 e.1 SeesInCell _ c.args.cell _ c.cell_word.ensures c.requires.knows.0 e.2
+    cell_moved c.args.seat.now _ c.load.result e.0 e.1 SeesInCell _ c.args.cell _ c.cell_word.ensures c.requires.knows.0 e.2

@@ -7,18 +7,18 @@ use Rattle.sdd_rights.specs.declared.views.Sizes.{Sizes}
 use Rattle.sdd_rights.specs.contracts.views.View.{the_row}
 use Rattle.sdd_rights.specs.Views.{right_to}
 use Rattle.sdd_domain_invariant.specs.Words.{cell_word}
-use Rattle.sdd_domain_invariant.proofs.Cloning as cloning
-use Rattle.sdd_atomics.specs.DomainTable.{book_of, sizes_of}
-use Rattle.sdd_atomics.proofs.Shown.{view_is}
+use Rattle.sdd_domain_invariant.proofs.Slots.ClonedOwners as cloning
+use Rattle.sdd_atomics.specs.DomainTable.{gamma_of, sizes_of}
+use Rattle.sdd_atomics.proofs.ViewCodes.{view_is}
 use Rattle.sdd_atomics.proofs.Cells.{may_swap, swap_stays, swapped}
 use Rattle.sdd_atomics.proofs.steps.cells.swap_cell.Goals as goal
 
 pub beside-requires : goal.beside-requires
-beside-requires c = let r = c.requires in let b = c.args.board.now in let cell : ℕ = c.args.cell in let me = c.args.token.now.me in
-    let shared = r.right.1.0 in let γ : ℕ = book_of b in let z : Sizes = sizes_of b in let i : ℕ = c.cell_word.result in
+beside-requires c = let r = c.requires in let b = c.args.table.now in let cell : ℕ = c.args.cell in let me = c.args.seat.now.me in
+    let shared = r.right.1.0 in let γ : ℕ = gamma_of b in let z : Sizes = sizes_of b in let i : ℕ = c.cell_word.result in
     let known = c.cell_word.ensures in
     let pledge : Share → Pledge
-    = λ q. record { who = c.args.token.now.id; seat = c.args.right.now.id; view = the_row.coded.code (right_to cell (cell_kind shared)); share = q } in (
+    = λ q. record { who = c.args.seat.now.id; seat = c.args.right.now.id; view = the_row.coded.code (right_to cell (cell_kind shared)); share = q } in (
       r.home,
       b.ledgered.0,
       b.ledgered.1,
@@ -44,6 +44,7 @@ returns c = λ shared views. let r = c.requires in let e = c.beside.ensures in l
     let is = view_is e.2.0 (right_to cell (cell_kind shared)) (sym e.2.1 ∙ views) in let s = e.2.2 in (
       e.0,
       e.1,
-      swapped c.args.token.now.me _ c.args.word shared cell (ap (λ (w : View). the_row.coded.code w) is) c.cell_word.result known r.free c.beside.result s.1 _ s.2
+      swapped c.args.seat.now.me _ c.args.word shared cell (ap (λ
+          (w : View). the_row.coded.code w) is) c.cell_word.result known r.free c.beside.result s.1 _ s.2
           s.3,
     )

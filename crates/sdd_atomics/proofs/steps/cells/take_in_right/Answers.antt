@@ -1,17 +1,17 @@
 use Rattle.std.proofs.Common.{sym, ap, ◌∙◌}
 use Rattle.sdd_rights.specs.declared.views.View.{View}
 use Rattle.sdd_rights.specs.Views.{right_to}
-use Rattle.sdd_domain_invariant.specs.FractionSteps.{SeatState}
-use Rattle.sdd_domain_invariant.specs.CellSteps.{righted}
-use Rattle.sdd_domain_invariant.proofs.RightTokens.{joins_right}
-use Rattle.sdd_atomics.proofs.Shown.{view_is}
+use Rattle.sdd_domain_invariant.specs.Fractions.FractionSteps.{SeatState}
+use Rattle.sdd_domain_invariant.specs.Cells.CellSteps.{righted}
+use Rattle.sdd_domain_invariant.proofs.Cells.RightSeats.{joins_right}
+use Rattle.sdd_atomics.proofs.ViewCodes.{view_is}
 use Rattle.sdd_atomics.proofs.steps.cells.take_in_right.Goals as goal
 
 pub rejoin-requires : goal.rejoin-requires
 rejoin-requires c = let r = c.requires in let o = r.right in (
   r.home,
-  c.args.board.now.ledgered.0,
-  c.args.board.now.ledgered.1,
+  c.args.table.now.ledgered.0,
+  c.args.table.now.ledgered.1,
   o.0,
   (right_to o.1.0 o.1.1, o.1.2, joins_right _ _ _ _ _ _ o.1.0 o.1.1 r.place r.knows.0),
 )
@@ -21,5 +21,5 @@ returns c = λ cell kind views. let e = c.rejoin.ensures in let is = view_is e.2
   e.0,
   e.1,
   ap (λ (m : SeatState). m.1) e.2.2,
-  ap (λ (m : SeatState). m.0) e.2.2 ∙ ap (λ (w : View). righted c.args.token.now.me.0 w) is,
+  ap (λ (m : SeatState). m.0) e.2.2 ∙ ap (λ (w : View). righted c.args.seat.now.me.0 w) is,
 )

@@ -12,5 +12,5 @@ compare_exchange-requires c = let r = c.requires in (
 
 pub returns : goal.returns
 returns c = let e = c.compare_exchange.ensures in
-    claimed_at c.args.token.now _ c.compare_exchange.result e.0 e.1 c.args.collector _ c.private_word-word.ensures _ c.args.slot _ c.slot_word.ensures
+    claimed_at c.args.seat.now _ c.compare_exchange.result e.0 e.1 c.args.collector _ c.private_word-word.ensures _ c.args.slot _ c.slot_word.ensures
     c.requires.knows.0 e.2

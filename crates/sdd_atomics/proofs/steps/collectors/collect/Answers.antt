@@ -6,17 +6,17 @@ use Rattle.sdd_rights.specs.declared.views.Sizes.{Sizes}
 use Rattle.sdd_rights.specs.contracts.views.View.{the_row}
 use Rattle.sdd_rights.specs.Views.{right_to}
 use Rattle.sdd_domain_invariant.specs.Words.{slot_word}
-use Rattle.sdd_domain_invariant.proofs.Cloning as cloning
-use Rattle.sdd_atomics.specs.DomainTable.{book_of, sizes_of}
+use Rattle.sdd_domain_invariant.proofs.Slots.ClonedOwners as cloning
+use Rattle.sdd_atomics.specs.DomainTable.{gamma_of, sizes_of}
 use Rattle.sdd_atomics.proofs.CollectorsAllowed.{may_collect, collect_stays, collected_then}
 use Rattle.sdd_atomics.proofs.steps.collectors.collect.Goals as goal
 
 pub beside-requires : goal.beside-requires
-beside-requires c = let r = c.requires in let b = c.args.board.now in let collector : ℕ = c.args.collector in let me = c.args.token.now.me in
-    let γ : ℕ = book_of b in let z : Sizes = sizes_of b in let i : ℕ = c.slot_word.result in let slot : ℕ = c.args.slot in
+beside-requires c = let r = c.requires in let b = c.args.table.now in let collector : ℕ = c.args.collector in let me = c.args.seat.now.me in
+    let γ : ℕ = gamma_of b in let z : Sizes = sizes_of b in let i : ℕ = c.slot_word.result in let slot : ℕ = c.args.slot in
     let known = c.slot_word.ensures ∙ ap (λ (x : Sizes). slot_word x slot) (sym r.knows.0) in let word : ℕ = c.private_word.result in
     let pledge : Share → Pledge
-    = λ q. record { who = c.args.token.now.id; seat = c.args.right.now.id; view = the_row.coded.code (right_to collector Raw); share = q } in (
+    = λ q. record { who = c.args.seat.now.id; seat = c.args.right.now.id; view = the_row.coded.code (right_to collector Raw); share = q } in (
       r.home,
       b.ledgered.0,
       b.ledgered.1,
@@ -42,6 +42,6 @@ returns c = let r = c.requires in let e = c.beside.ensures in let slot : ℕ = c
     let known = c.slot_word.ensures ∙ ap (λ (x : Sizes). slot_word x slot) (sym r.knows.0) in let s = e.2.2 in (
       e.0,
       e.1,
-      collected_then c.args.token.now.me _ c.private_word.result c.args.collector slot c.slot_word.result c.private_word.ensures known r.free
+      collected_then c.args.seat.now.me _ c.private_word.result c.args.collector slot c.slot_word.result c.private_word.ensures known r.free
           c.beside.result s.1 _ s.2 s.3,
     )

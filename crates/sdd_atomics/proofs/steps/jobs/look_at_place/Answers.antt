@@ -1,5 +1,5 @@
 use Rattle.std.proofs.Common.{arith}
-use Rattle.sdd_domain_invariant.specs.SlotSteps.{LooksAtSlot}
+use Rattle.sdd_domain_invariant.specs.Slots.SlotSteps.{LooksAtSlot}
 use Rattle.sdd_atomics.proofs.Allowed.{taught_at}
 use Rattle.sdd_atomics.proofs.JobsAllowed.{may_look}
 use Rattle.sdd_atomics.proofs.steps.jobs.look_at_place.Goals as goal
@@ -10,4 +10,4 @@ load-requires c = let r = c.requires in
 
 pub returns : goal.returns
 returns c = let e = c.load.ensures in
-    taught_at c.args.token.now _ c.load.result e.0 e.1 LooksAtSlot _ c.args.place _ c.slot_word.ensures c.requires.knows.0 e.2
+    taught_at c.args.seat.now _ c.load.result e.0 e.1 LooksAtSlot _ c.args.place _ c.slot_word.ensures c.requires.knows.0 e.2

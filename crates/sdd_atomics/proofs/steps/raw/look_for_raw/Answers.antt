@@ -1,6 +1,6 @@
 use Rattle.std.proofs.Common.{arith}
 use Rattle.sdd_domain_invariant.specs.Codes.{raw_word}
-use Rattle.sdd_domain_invariant.specs.RawSteps.{SeesRawOne}
+use Rattle.sdd_domain_invariant.specs.Raw.RawSteps.{SeesRawOne}
 use Rattle.sdd_atomics.proofs.Allowed.{moved_at, may_look_for_raw}
 use Rattle.sdd_atomics.proofs.steps.raw.look_for_raw.Goals as goal
 
@@ -13,5 +13,5 @@ load-requires c = let r = c.requires in (
 
 pub returns : goal.returns
 returns c = let e = c.load.ensures in
-    moved_at c.args.token.now _ c.load.result e.0 e.1 (λ slot. SeesRawOne slot (raw_word 0)) _ c.args.slot _ c.slot_word.ensures
+    moved_at c.args.seat.now _ c.load.result e.0 e.1 (λ slot. SeesRawOne slot (raw_word 0)) _ c.args.slot _ c.slot_word.ensures
     c.requires.knows.0 e.2

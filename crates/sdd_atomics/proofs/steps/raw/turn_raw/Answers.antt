@@ -1,6 +1,6 @@
 use Rattle.std.proofs.Common.{arith}
 use Rattle.sdd_domain_invariant.specs.Codes.{raw_word}
-use Rattle.sdd_domain_invariant.specs.RawSteps.{TurnsRawOne}
+use Rattle.sdd_domain_invariant.specs.Raw.RawSteps.{TurnsRawOne}
 use Rattle.sdd_atomics.proofs.Allowed.{moved_at, may_turn_raw}
 use Rattle.sdd_atomics.proofs.steps.raw.turn_raw.Goals as goal
 
@@ -13,4 +13,4 @@ store-requires c = let r = c.requires in (
 
 pub returns : goal.returns
 returns c = let e = c.store.ensures in
-    moved_at c.args.token.now _ (raw_word 0) e.0 e.1 TurnsRawOne _ c.args.slot _ c.slot_word.ensures c.requires.knows.0 e.2
+    moved_at c.args.seat.now _ (raw_word 0) e.0 e.1 TurnsRawOne _ c.args.slot _ c.slot_word.ensures c.requires.knows.0 e.2

@@ -1,5 +1,5 @@
 use Rattle.std.proofs.Common.{arith}
-use Rattle.sdd_domain_invariant.specs.FractionSteps.{AddsSeen}
+use Rattle.sdd_domain_invariant.specs.Fractions.FractionSteps.{AddsSeen}
 use Rattle.sdd_domain_invariant.proofs.Codes.{shared, counted_is}
 use Rattle.sdd_atomics.proofs.Allowed.{moved_at, may_add_seen}
 use Rattle.sdd_atomics.proofs.steps.slots.add_seen.Goals as goal
@@ -18,4 +18,4 @@ compare_exchange-requires c = let r = c.requires in (
 
 pub returns : goal.returns
 returns c = let e = c.compare_exchange.ensures in
-    moved_at c.args.token.now _ c.compare_exchange.result e.0 e.1 (AddsSeen c.args.word) _ c.args.slot _ c.slot_word.ensures c.requires.knows.0 e.2
+    moved_at c.args.seat.now _ c.compare_exchange.result e.0 e.1 (AddsSeen c.args.word) _ c.args.slot _ c.slot_word.ensures c.requires.knows.0 e.2

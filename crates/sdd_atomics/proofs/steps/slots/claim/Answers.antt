@@ -1,6 +1,6 @@
 use Rattle.std.proofs.Common.{arith}
 use Rattle.sdd_domain_invariant.specs.Codes.{free_word}
-use Rattle.sdd_domain_invariant.specs.FractionSteps.{ClaimsAll}
+use Rattle.sdd_domain_invariant.specs.Fractions.FractionSteps.{ClaimsAll}
 use Rattle.sdd_atomics.proofs.Allowed.{moved_at, may_claim}
 use Rattle.sdd_atomics.proofs.steps.slots.claim.Goals as goal
 
@@ -10,5 +10,5 @@ compare_exchange-requires c = let r = c.requires in
 
 pub returns : goal.returns
 returns c = let e = c.compare_exchange.ensures in
-    moved_at c.args.token.now _ c.compare_exchange.result e.0 e.1 (λ slot. ClaimsAll slot (free_word 0) c.args.word) _ c.args.slot _
+    moved_at c.args.seat.now _ c.compare_exchange.result e.0 e.1 (λ slot. ClaimsAll slot (free_word 0) c.args.word) _ c.args.slot _
     c.slot_word.ensures c.requires.knows.0 e.2

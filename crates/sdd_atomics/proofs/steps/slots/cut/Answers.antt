@@ -1,4 +1,4 @@
-use Rattle.sdd_domain_invariant.proofs.Tokens.{parts_owner}
+use Rattle.sdd_domain_invariant.proofs.Seats.{parts_owner}
 use Rattle.sdd_atomics.proofs.steps.slots.cut.Goals as goal
 
 pub part-requires : goal.part-requires

@@ -1,6 +1,6 @@
 use Rattle.std.proofs.Common.{arith}
 use Rattle.sdd_domain_invariant.specs.Codes.{free_word}
-use Rattle.sdd_domain_invariant.specs.FractionSteps.{GivesAll}
+use Rattle.sdd_domain_invariant.specs.Fractions.FractionSteps.{GivesAll}
 use Rattle.sdd_atomics.proofs.Allowed.{moved_at, may_give_back}
 use Rattle.sdd_atomics.proofs.steps.slots.give_back.Goals as goal
 
@@ -10,4 +10,4 @@ store-requires c = let r = c.requires in
 
 pub returns : goal.returns
 returns c = let e = c.store.ensures in
-    moved_at c.args.token.now _ (free_word 0) e.0 e.1 GivesAll _ c.args.slot _ c.slot_word.ensures c.requires.knows.0 e.2
+    moved_at c.args.seat.now _ (free_word 0) e.0 e.1 GivesAll _ c.args.slot _ c.slot_word.ensures c.requires.knows.0 e.2

@@ -1,6 +1,6 @@
 use Rattle.std.proofs.Common.{arith}
 use Rattle.sdd_domain_invariant.proofs.Codes.{counted_is}
-use Rattle.sdd_domain_invariant.specs.FractionSteps.{LeavesOne}
+use Rattle.sdd_domain_invariant.specs.Fractions.FractionSteps.{LeavesOne}
 use Rattle.sdd_atomics.proofs.Allowed.{moved_at, may_leave}
 use Rattle.sdd_atomics.proofs.steps.slots.leave.Goals as goal
 
@@ -14,7 +14,7 @@ compare_exchange-requires c = let r = c.requires in (
 
 pub returns : goal.returns
 returns c = let e = c.compare_exchange.ensures in
-    moved_at c.args.token.now _ c.compare_exchange.result e.0 e.1 (LeavesOne c.args.word) _ c.args.slot _ c.slot_word.ensures c.requires.knows.0 e.2
+    moved_at c.args.seat.now _ c.compare_exchange.result e.0 e.1 (LeavesOne c.args.word) _ c.args.slot _ c.slot_word.ensures c.requires.knows.0 e.2
 
 pub overflow_sub-word : goal.overflow_sub-word
 overflow_sub-word c = let low = counted_is c.args.word c.requires.several.0 in omega arith

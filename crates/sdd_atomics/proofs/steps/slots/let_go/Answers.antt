@@ -1,5 +1,5 @@
 use Rattle.std.proofs.Common.{arith}
-use Rattle.sdd_domain_invariant.specs.FractionSteps.{ReleasesOne}
+use Rattle.sdd_domain_invariant.specs.Fractions.FractionSteps.{ReleasesOne}
 use Rattle.sdd_atomics.proofs.Allowed.{moved_at, may_let_one_go}
 use Rattle.sdd_atomics.proofs.steps.slots.let_go.Goals as goal
 
@@ -12,4 +12,4 @@ fetch_sub-requires c = let r = c.requires in (
 
 pub returns : goal.returns
 returns c = let e = c.fetch_sub.ensures in
-    moved_at c.args.token.now _ c.fetch_sub.result e.0 e.1 ReleasesOne _ c.args.slot _ c.slot_word.ensures c.requires.knows.0 e.2
+    moved_at c.args.seat.now _ c.fetch_sub.result e.0 e.1 ReleasesOne _ c.args.slot _ c.slot_word.ensures c.requires.knows.0 e.2

@@ -1,5 +1,5 @@
 use Rattle.std.proofs.Common.{arith}
-use Rattle.sdd_domain_invariant.specs.SlotSteps.{LooksAtSlot}
+use Rattle.sdd_domain_invariant.specs.Slots.SlotSteps.{LooksAtSlot}
 use Rattle.sdd_atomics.proofs.Allowed.{taught_at, may_look}
 use Rattle.sdd_atomics.proofs.steps.slots.look.Goals as goal
 
@@ -9,4 +9,4 @@ load-requires c = let r = c.requires in
 
 pub returns : goal.returns
 returns c = let e = c.load.ensures in
-    taught_at c.args.token.now _ c.load.result e.0 e.1 LooksAtSlot _ c.args.slot _ c.slot_word.ensures c.requires.knows.0 e.2
+    taught_at c.args.seat.now _ c.load.result e.0 e.1 LooksAtSlot _ c.args.slot _ c.slot_word.ensures c.requires.knows.0 e.2

@@ -1,7 +1,7 @@
 use Rattle.std.proofs.Common.{sym, ◌∙◌}
 use Rattle.sdd_rights.specs.Views.{owner_of}
 use Rattle.sdd_atomics.proofs.Allowed.{may_recall}
-use Rattle.sdd_atomics.proofs.Shown.{view_is}
+use Rattle.sdd_atomics.proofs.ViewCodes.{view_is}
 use Rattle.sdd_atomics.proofs.steps.slots.recall.Goals as goal
 
 pub step_beside-requires : goal.step_beside-requires

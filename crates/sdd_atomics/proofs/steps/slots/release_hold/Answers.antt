@@ -1,5 +1,5 @@
 use Rattle.std.proofs.Common.{arith}
-use Rattle.sdd_domain_invariant.specs.SlotSteps.{LetsGo}
+use Rattle.sdd_domain_invariant.specs.Slots.SlotSteps.{LetsGo}
 use Rattle.sdd_atomics.proofs.Allowed.{taught_at, may_let_go}
 use Rattle.sdd_atomics.proofs.steps.slots.release_hold.Goals as goal
 
@@ -9,4 +9,4 @@ load-requires c = let r = c.requires in
 
 pub returns : goal.returns
 returns c = let e = c.load.ensures in
-    taught_at c.args.token.now _ c.load.result e.0 e.1 LetsGo _ c.args.slot _ c.slot_word.ensures c.requires.knows.0 e.2
+    taught_at c.args.seat.now _ c.load.result e.0 e.1 LetsGo _ c.args.slot _ c.slot_word.ensures c.requires.knows.0 e.2

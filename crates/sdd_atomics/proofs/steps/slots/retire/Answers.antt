@@ -1,6 +1,6 @@
 use Rattle.std.proofs.Common.{arith}
 use Rattle.sdd_domain_invariant.specs.Codes.{waiting_word}
-use Rattle.sdd_domain_invariant.specs.FractionSteps.{RetiresOne}
+use Rattle.sdd_domain_invariant.specs.Fractions.FractionSteps.{RetiresOne}
 use Rattle.sdd_atomics.proofs.Allowed.{moved_at, may_retire}
 use Rattle.sdd_atomics.proofs.steps.slots.retire.Goals as goal
 
@@ -13,4 +13,4 @@ store-requires c = let r = c.requires in (
 
 pub returns : goal.returns
 returns c = let e = c.store.ensures in
-    moved_at c.args.token.now _ (waiting_word 0) e.0 e.1 RetiresOne _ c.args.slot _ c.slot_word.ensures c.requires.knows.0 e.2
+    moved_at c.args.seat.now _ (waiting_word 0) e.0 e.1 RetiresOne _ c.args.slot _ c.slot_word.ensures c.requires.knows.0 e.2

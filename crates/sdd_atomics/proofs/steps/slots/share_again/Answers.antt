@@ -1,6 +1,6 @@
 use Rattle.std.proofs.Common.{arith}
 use Rattle.sdd_domain_invariant.specs.Codes.{shared_word}
-use Rattle.sdd_domain_invariant.specs.SlotSteps.{SharesAgain}
+use Rattle.sdd_domain_invariant.specs.Slots.SlotSteps.{SharesAgain}
 use Rattle.sdd_atomics.proofs.Allowed.{taught_at, may_share_again}
 use Rattle.sdd_atomics.proofs.steps.slots.share_again.Goals as goal
 
@@ -10,4 +10,4 @@ store-requires c = let r = c.requires in
 
 pub returns : goal.returns
 returns c = let e = c.store.ensures in
-    taught_at c.args.token.now _ (shared_word 1) e.0 e.1 SharesAgain _ c.args.slot _ c.slot_word.ensures c.requires.knows.0 e.2
+    taught_at c.args.seat.now _ (shared_word 1) e.0 e.1 SharesAgain _ c.args.slot _ c.slot_word.ensures c.requires.knows.0 e.2

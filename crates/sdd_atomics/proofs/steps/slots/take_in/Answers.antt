@@ -1,16 +1,16 @@
 use Rattle.std.proofs.Common.{sym, ap, ◌∙◌}
 use Rattle.sdd_rights.specs.declared.views.View.{View}
 use Rattle.sdd_rights.specs.Views.{owner_of}
-use Rattle.sdd_domain_invariant.specs.FractionSteps.{SeatState, regained}
-use Rattle.sdd_domain_invariant.proofs.Tokens.{joins_owner}
-use Rattle.sdd_atomics.proofs.Shown.{view_is}
+use Rattle.sdd_domain_invariant.specs.Fractions.FractionSteps.{SeatState, regained}
+use Rattle.sdd_domain_invariant.proofs.Seats.{joins_owner}
+use Rattle.sdd_atomics.proofs.ViewCodes.{view_is}
 use Rattle.sdd_atomics.proofs.steps.slots.take_in.Goals as goal
 
 pub rejoin-requires : goal.rejoin-requires
 rejoin-requires c = let r = c.requires in let o = r.owner in (
   r.home,
-  c.args.board.now.ledgered.0,
-  c.args.board.now.ledgered.1,
+  c.args.table.now.ledgered.0,
+  c.args.table.now.ledgered.1,
   o.0,
   (owner_of o.1.0 o.1.1 o.1.2, o.1.3, joins_owner _ _ _ _ _ _ o.1.0 o.1.1 o.1.2 r.rests),
 )
@@ -20,5 +20,5 @@ returns c = λ slot shared value views. let e = c.rejoin.ensures in let is = vie
   e.0,
   e.1,
   ap (λ (m : SeatState). m.1) e.2.2,
-  ap (λ (m : SeatState). m.0) e.2.2 ∙ ap (λ (w : View). regained c.args.token.now.me.0 w) is,
+  ap (λ (m : SeatState). m.0) e.2.2 ∙ ap (λ (w : View). regained c.args.seat.now.me.0 w) is,
 )

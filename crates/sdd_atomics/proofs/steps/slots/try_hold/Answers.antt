@@ -1,5 +1,5 @@
 use Rattle.std.proofs.Common.{arith}
-use Rattle.sdd_domain_invariant.specs.SlotSteps.{TriesHold}
+use Rattle.sdd_domain_invariant.specs.Slots.SlotSteps.{TriesHold}
 use Rattle.sdd_atomics.proofs.Allowed.{taught_at, may_try_hold}
 use Rattle.sdd_atomics.proofs.steps.slots.try_hold.Goals as goal
 
@@ -9,4 +9,4 @@ compare_exchange-requires c = let r = c.requires in
 
 pub returns : goal.returns
 returns c = let e = c.compare_exchange.ensures in
-    taught_at c.args.token.now _ c.compare_exchange.result e.0 e.1 TriesHold _ c.args.slot _ c.slot_word.ensures c.requires.knows.0 e.2
+    taught_at c.args.seat.now _ c.compare_exchange.result e.0 e.1 TriesHold _ c.args.slot _ c.slot_word.ensures c.requires.knows.0 e.2

@@ -3,21 +3,21 @@ use Rattle.std.proofs.lemmas.List.{append-nil}
 use Rattle.sdd_bag.specs.Storage.{AreFull}
 use Rattle.sdd_bag.specs.Values.{AreInSomeOrder}
 use Rattle.sdd_space.specs.CallerId.{CallerId, IsExact, IsSeated}
-use Rattle.sdd_space.specs.World.{World}
+use Rattle.sdd_world_model.specs.World.{World}
 use Rattle.sdd_lists.specs.declared.stack.Stack.{Stack}
 use Rattle.sdd_lists.specs.Stack.{IsStack, cell_in, home_in}
 use Rattle.sdd_lists.proofs.Filling.{yields-more}
-use Rattle.sdd_lists.proofs.Grows.{knows-same}
+use Rattle.sdd_lists.proofs.MoreWaiting.{knows-same}
 use Rattle.sdd_bag.specs.Overflow.{AddsStorage, LiesOn, RefusesStorage}
 use Rattle.sdd_bag.specs.Bag.{BagParts, primary_of, values_of}
 use Rattle.sdd_bag.specs.Filling.{AddsStorages, begins}
-use Rattle.sdd_bag.proofs.Filled.{adds-next, one-more, order-more}
-use Rattle.sdd_bag.proofs.Still.{moves-on}
+use Rattle.sdd_bag.proofs.FilledBag.{adds-next, one-more, order-more}
+use Rattle.sdd_bag.proofs.Unmoved.{moves-on}
 use Rattle.sdd_bag.proofs.bag.Bag.add_all.Goals as goal
 
 pub loop-value-init : goal.loop-value-init
 loop-value-init g c = record {
-  unmoved = record { seat = refl; known = knows-same (g.S.Caller.known c.args.s.now); shown = λ k v was. was };
+  unmoved = record { caller = refl; known = knows-same (g.S.Caller.known c.args.s.now); shown = λ k v was. was };
   own = λ start grown. grown;
   cells = record { storage = refl; stack = refl };
   bag = c.requires.bag;
@@ -27,7 +27,7 @@ loop-value-init g c = record {
 
 pub push-requires : goal.push-requires
 push-requires g c =
-    let inv = c.loop-value.invariant in let at = inv.unmoved.seat in (
+    let inv = c.loop-value.invariant in let at = inv.unmoved.caller in (
       search rules,
       (
         subst (λ (s : CallerId). IsSeated s) (sym at) c.requires.seated,
@@ -46,9 +46,9 @@ loop-value-preserved g c =
     let inv = c.loop-value.invariant in let got = c.in-Ok.ensures in let x = c.in-Some.value in
     let old = c.loop-value.self in let new = c.push.new.self in
     let w = g.S.Caller.world c.args.s.now in let u = g.S.Caller.world c.loop-value.s in let then = g.S.Caller.world c.push.new.s in
-    let p = (g.S.Caller.seat c.args.s.now).place in let shown = g.B.Shelf.shown in let len = g.row.ARRAY_LEN in
+    let p = (g.S.Caller.caller c.args.s.now).place in let shown = g.B.Shelf.shown in let len = g.row.ARRAY_LEN in
     record {
-      unmoved = moves-on g.S.Caller.seat g.S.Caller.known g.S.Shows.shows c.args.s.now c.loop-value.s c.push.new.s inv.unmoved got.unmoved;
+      unmoved = moves-on g.S.Caller.caller g.S.Caller.known g.S.Shows.shows c.args.s.now c.loop-value.s c.push.new.s inv.unmoved got.unmoved;
       own = λ start grown. got.own start (inv.own start grown);
       cells = record { storage = got.cells.storage ∙ inv.cells.storage; stack = got.cells.stack ∙ inv.cells.stack };
       bag = got.bag;
@@ -56,7 +56,7 @@ loop-value-preserved g c =
           let was = inv.list es lies in let more = got.list was.0 was.1 in
           let Full : Type 0 = AreFull len old.overflow.places in
           let step = subst (λ (s : CallerId). (then ≡ u) ⊎ Full × AddsStorage shown u s.place old.overflow.stack was.0 then more.0)
-          inv.unmoved.seat more.2 in
+          inv.unmoved.caller more.2 in
           let were = subst (λ (s : Stack _). AddsStorages shown p s w es u was.0) (sym inv.cells.stack) was.2 in
           let now = subst (λ (s : Stack _). IsStack then (cell_in s) more.0) got.cells.stack more.1.stack in (
             more.0,
@@ -77,7 +77,7 @@ loop-value-preserved g c =
 
 pub returns-in-Err-clause-unmoved : goal.returns-in-Err-clause-unmoved
 returns-in-Err-clause-unmoved g c =
-    moves-on g.S.Caller.seat g.S.Caller.known g.S.Shows.shows c.args.s.now c.loop-value.s c.push.new.s c.loop-value.invariant.unmoved
+    moves-on g.S.Caller.caller g.S.Caller.known g.S.Shows.shows c.args.s.now c.loop-value.s c.push.new.s c.loop-value.invariant.unmoved
     c.in-Err.ensures.unmoved
 
 pub returns-in-Err-clause-own : goal.returns-in-Err-clause-own
@@ -104,7 +104,7 @@ pub returns-in-Err-clause-list : goal.returns-in-Err-clause-list
 returns-in-Err-clause-list g c = λ es lies.
     let Bag : Type 0 = BagParts g.row.T.Denot g.row.B.Denot in
     let was = c.loop-value.invariant.list es lies in let not = c.in-Err.ensures.pushed in
-    let w = g.S.Caller.world c.args.s.now in let p = (g.S.Caller.seat c.args.s.now).place in let new = g.S.Caller.world c.push.new.s in
+    let w = g.S.Caller.world c.args.s.now in let p = (g.S.Caller.caller c.args.s.now).place in let new = g.S.Caller.world c.push.new.s in
     let shown = g.B.Shelf.shown in let len = g.row.ARRAY_LEN in (
       was.0,
       subst (λ (b : Bag). LiesOn shown len new was.0 b.overflow) (sym not.2)

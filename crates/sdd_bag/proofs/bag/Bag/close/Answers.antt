@@ -2,21 +2,21 @@ use Rattle.std.proofs.Common.{rules, ◌≡◌, [], List, ap, ◌∙◌, sym, su
 use Rattle.std.specs.Prelude.{All}
 use Rattle.sdd_bag.specs.Values.{AreInSomeOrder}
 use Rattle.sdd_space.specs.CallerId.{CallerId, IsExact, IsSeated}
-use Rattle.sdd_space.specs.OwnerOrCell.{AreOf}
-use Rattle.sdd_space.specs.World.{World}
-use Rattle.sdd_space.specs.WorldChanges.{cell_closed, without_cell}
+use Rattle.sdd_world_model.specs.OwnerOrCell.{AreOf}
+use Rattle.sdd_world_model.specs.World.{World}
+use Rattle.sdd_world_model.specs.WorldChanges.{cell_closed, without_cell}
 use Rattle.sdd_lists.specs.declared.stack.Stack.{Stack}
 use Rattle.sdd_lists.specs.Stack.{IsStack, cell_in, home_in}
 use Rattle.sdd_bag.specs.Bag.{BagParts, overflow_of, primary_of}
 use Rattle.sdd_bag.specs.Closing.{values_given}
 use Rattle.sdd_bag.specs.Primary.{PrimaryParts, held_by}
-use Rattle.sdd_bag.proofs.Still.{moves-on}
-use Rattle.sdd_bag.proofs.Surrendering.{all-behind, all-in-front}
+use Rattle.sdd_bag.proofs.Unmoved.{moves-on}
+use Rattle.sdd_bag.proofs.ReleasedValues.{all-behind, all-in-front}
 use Rattle.sdd_bag.proofs.bag.Bag.close.Goals as goal
 
 pub give_up_behind-requires : goal.give_up_behind-requires
 give_up_behind-requires g c =
-    let are : g.row.T.Denot → Type 0 = λ v. AreOf (g.S.Caller.seat c.args.s.now).home (g.T.Item.holds v) in (
+    let are : g.row.T.Denot → Type 0 = λ v. AreOf (g.S.Caller.caller c.args.s.now).home (g.T.Item.holds v) in (
       search rules,
       (
         c.requires.seated,
@@ -35,7 +35,7 @@ give_up_behind-requires g c =
 
 pub close-requires : goal.close-requires
 close-requires g c =
-    let at = c.give_up_behind.ensures.unmoved.seat in
+    let at = c.give_up_behind.ensures.unmoved.caller in
     let stack = ap (λ (b : BagParts g.row.T.Denot g.row.B.Denot). b.overflow.stack) c.bag.view_is ∙ c.give_up_behind.ensures.cells.stack in
     record {
       seated = subst (λ (s : CallerId). IsSeated s) (sym at) c.requires.seated;
@@ -45,8 +45,8 @@ close-requires g c =
 
 pub close-requires-2 : goal.close-requires-2
 close-requires-2 g c =
-    let at = c.close.ensures.unmoved.seat ∙ c.give_up_behind.ensures.unmoved.seat in
-    let are : g.row.T.Denot → Type 0 = λ v. AreOf (g.S.Caller.seat c.args.s.now).home (g.T.Item.holds v) in
+    let at = c.close.ensures.unmoved.caller ∙ c.give_up_behind.ensures.unmoved.caller in
+    let are : g.row.T.Denot → Type 0 = λ v. AreOf (g.S.Caller.caller c.args.s.now).home (g.T.Item.holds v) in
     let same = ap (λ (b : BagParts g.row.T.Denot g.row.B.Denot). b.primary) c.bag.view_is ∙ c.give_up_behind.ensures.primary in
     let held = all-in-front are (primary_of c.args.self) (overflow_of c.args.self) c.requires.held in (
       search rules,
@@ -65,8 +65,8 @@ close-requires-2 g c =
 
 pub returns-clause-unmoved : goal.returns-clause-unmoved
 returns-clause-unmoved g c =
-    moves-on g.S.Caller.seat g.S.Caller.known g.S.Shows.shows c.args.s.now c.close.new.s c.close-2.new.s
-    (moves-on g.S.Caller.seat g.S.Caller.known g.S.Shows.shows c.args.s.now c.give_up_behind.new.s c.close.new.s c.give_up_behind.ensures.unmoved
+    moves-on g.S.Caller.caller g.S.Caller.known g.S.Shows.shows c.args.s.now c.close.new.s c.close-2.new.s
+    (moves-on g.S.Caller.caller g.S.Caller.known g.S.Shows.shows c.args.s.now c.give_up_behind.new.s c.close.new.s c.give_up_behind.ensures.unmoved
     c.close.ensures.unmoved) c.close-2.ensures.unmoved
 
 pub returns-clause-own : goal.returns-clause-own
@@ -77,8 +77,8 @@ returns-clause-list g c = λ es lies.
     let Parts : Type 0 = PrimaryParts g.row.T.Denot in let Bag : Type 0 = BagParts g.row.T.Denot g.row.B.Denot in
     let behind = c.give_up_behind.ensures in let holds = g.T.Item.holds in
     let u = g.S.Caller.world c.give_up_behind.new.s in let new = g.S.Caller.world c.close-2.new.s in
-    let p = (g.S.Caller.seat c.args.s.now).place in let bag = c.args.self in
-    let at = behind.unmoved.seat in let at-close = c.close.ensures.unmoved.seat ∙ at in
+    let p = (g.S.Caller.caller c.args.s.now).place in let bag = c.args.self in
+    let at = behind.unmoved.caller in let at-close = c.close.ensures.unmoved.caller ∙ at in
     let stack = ap (λ (b : Bag). b.overflow.stack) c.bag.view_is ∙ behind.cells.stack in
     let same = ap (λ (b : Bag). b.primary) c.bag.view_is ∙ behind.primary in
     let got = behind.list es lies in

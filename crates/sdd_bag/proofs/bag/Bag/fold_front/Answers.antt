@@ -4,7 +4,7 @@ use Rattle.sdd_bag.specs.Values.{AreInSomeOrder}
 use Rattle.sdd_bag.specs.Storages.{places_shown}
 use Rattle.sdd_bag.specs.Overflow.{LiesOn, OverflowParts, places_on}
 use Rattle.sdd_bag.specs.Bag.{BagParts, overflow_of}
-use Rattle.sdd_bag.proofs.Lying.{front-keys, none-left, none-there, none-used}
+use Rattle.sdd_bag.proofs.StackStorages.{front-keys, none-left, none-there, none-used}
 use Rattle.sdd_bag.proofs.bag.Bag.fold_front.Goals as goal
 
 pub fold_front-requires : goal.fold_front-requires

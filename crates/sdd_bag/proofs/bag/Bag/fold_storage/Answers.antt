@@ -5,20 +5,20 @@ use Rattle.sdd_bag.specs.Values.{AreInSomeOrder}
 use Rattle.sdd_bag.proofs.Prefixes.{as-long, some-long, some-there}
 use Rattle.sdd_bag.proofs.Values.{values-left}
 use Rattle.sdd_space.specs.CallerId.{CallerId, IsExact, IsSeated}
-use Rattle.sdd_space.specs.World.{World}
+use Rattle.sdd_world_model.specs.World.{World}
 use Rattle.sdd_lists.specs.declared.stack.Stack.{Stack}
 use Rattle.sdd_lists.specs.Stack.{cell_in, home_in}
-use Rattle.sdd_lists.proofs.Grows.{grows-not}
+use Rattle.sdd_lists.proofs.MoreWaiting.{grows-not}
 use Rattle.sdd_bag.specs.Overflow.{RemovesStorage}
 use Rattle.sdd_bag.specs.Bag.{overflow_of}
-use Rattle.sdd_bag.proofs.Standing.{lies-emptied}
-use Rattle.sdd_bag.proofs.Still.{moves-on, still}
+use Rattle.sdd_bag.proofs.EntryStandings.{lies-emptied}
+use Rattle.sdd_bag.proofs.Unmoved.{moves-on, still}
 use Rattle.sdd_bag.proofs.bag.Bag.fold_storage.Goals as goal
 
 pub remove_storage-requires : goal.remove_storage-requires
 remove_storage-requires g c =
     let shown = g.B.Shelf.shown in let len = g.row.ARRAY_LEN in let es = c.requires.may.lies.0 in let did = c.fold_front-done.ensures in
-    let at = did.undisturbed.seat in let keeps = did.keeps.overflow in
+    let at = did.undisturbed.caller in let keeps = did.keeps.overflow in
     let w = g.S.Caller.world c.args.s.now in let now = g.S.Caller.world c.fold_front-done.new.s in
     let old = c.args.self.now.overflow in let new = c.fold_front-done.new.self.overflow in
     let here = lies-emptied shown len w now es old new did.world keeps did.behind c.requires.may.lies.1 in
@@ -38,9 +38,9 @@ remove_storage-requires g c =
 
 pub returns-clause-unmoved : goal.returns-clause-unmoved
 returns-clause-unmoved g c =
-    let seat = g.S.Caller.seat in let known = g.S.Caller.known in let shows = g.S.Shows.shows in let own = g.S.Caller.own in
-    moves-on seat known shows c.args.s.now c.fold_front-done.new.s c.remove_storage.new.s
-    (still seat known shows own c.args.s.now c.fold_front-done.new.s c.fold_front-done.ensures.undisturbed) c.remove_storage.ensures.unmoved
+    let caller = g.S.Caller.caller in let known = g.S.Caller.known in let shows = g.S.Shows.shows in let own = g.S.Caller.own in
+    moves-on caller known shows c.args.s.now c.fold_front-done.new.s c.remove_storage.new.s
+    (still caller known shows own c.args.s.now c.fold_front-done.new.s c.fold_front-done.ensures.undisturbed) c.remove_storage.ensures.unmoved
 
 pub returns-clause-own : goal.returns-clause-own
 returns-clause-own g c = λ start grown.
@@ -69,14 +69,14 @@ returns-clause-folded g c = λ others vs result order folded.
 pub returns-clause-list : goal.returns-clause-list
 returns-clause-list g c = λ es lies.
     let shown = g.B.Shelf.shown in let len = g.row.ARRAY_LEN in let did = c.fold_front-done.ensures in
-    let at = did.undisturbed.seat in let keeps = did.keeps.overflow in
+    let at = did.undisturbed.caller in let keeps = did.keeps.overflow in
     let w = g.S.Caller.world c.args.s.now in let now = g.S.Caller.world c.fold_front-done.new.s in let new = g.S.Caller.world c.remove_storage.new.s in
     let old = c.args.self.now.overflow in let between = c.fold_front-done.new.self.overflow in
     let got = c.remove_storage.ensures.list es (lies-emptied shown len w now es old between did.world keeps did.behind lies) in (
       got.0,
-      subst (λ (stack : Stack g.row.B.Denot). RemovesStorage w (g.S.Caller.seat c.args.s.now).place (cell_in stack) es new got.0) keeps.stack
+      subst (λ (stack : Stack g.row.B.Denot). RemovesStorage w (g.S.Caller.caller c.args.s.now).place (cell_in stack) es new got.0) keeps.stack
           (subst (λ (s : CallerId). RemovesStorage w s.place (cell_in between.stack) es new got.0) at
-          (subst (λ (x : World _). RemovesStorage x (g.S.Caller.seat c.fold_front-done.new.s).place (cell_in between.stack) es new got.0)
+          (subst (λ (x : World _). RemovesStorage x (g.S.Caller.caller c.fold_front-done.new.s).place (cell_in between.stack) es new got.0)
           did.world got.1)),
       got.2,
     )

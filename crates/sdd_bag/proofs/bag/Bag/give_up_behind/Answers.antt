@@ -1,27 +1,27 @@
 use Rattle.std.proofs.Common.{rules, ◌≡◌, ◌⊎◌, ◌∷◌, [], List, drop, refl, ap, ◌∙◌, sym, subst, arith}
-use Rattle.sdd_bag.proofs.Orders.{one-longer}
+use Rattle.sdd_bag.proofs.OneMore.{one-longer}
 use Rattle.sdd_space.specs.CallerId.{CallerId, IsExact, IsSeated}
-use Rattle.sdd_space.specs.OwnerOrCell.{AreOf}
-use Rattle.sdd_space.specs.World.{World}
-use Rattle.sdd_space.specs.WorldChanges.{given_all}
+use Rattle.sdd_world_model.specs.OwnerOrCell.{AreOf}
+use Rattle.sdd_world_model.specs.World.{World}
+use Rattle.sdd_world_model.specs.WorldChanges.{given_all}
 use Rattle.sdd_lists.specs.declared.stack.Stack.{Stack}
 use Rattle.sdd_lists.specs.Lists.{Entry}
 use Rattle.sdd_lists.specs.Stack.{IsStack, cell_in, home_in}
-use Rattle.sdd_lists.proofs.Grows.{knows-same}
+use Rattle.sdd_lists.proofs.MoreWaiting.{knows-same}
 use Rattle.sdd_bag.specs.Overflow.{RemovesStorage}
 use Rattle.sdd_bag.specs.Bag.{overflow_of}
 use Rattle.sdd_bag.proofs.Counting.{removes-at-last}
-use Rattle.sdd_bag.proofs.Emptying.{used-there}
-use Rattle.sdd_bag.proofs.Still.{moves-on}
-use Rattle.sdd_bag.proofs.Surrendering.{after-next, empties-next, one-of}
-use Rattle.sdd_bag.proofs.Taking.{none-spilled}
+use Rattle.sdd_bag.proofs.EmptiedBag.{used-there}
+use Rattle.sdd_bag.proofs.Unmoved.{moves-on}
+use Rattle.sdd_bag.proofs.ReleasedValues.{after-next, empties-next, one-of}
+use Rattle.sdd_bag.proofs.Overflow.{none-spilled}
 use Rattle.sdd_bag.proofs.bag.Bag.give_up_behind.Goals as goal
 
 pub loop-value-init : goal.loop-value-init
 loop-value-init g c =
     let shown = g.B.Shelf.shown in let len = g.row.ARRAY_LEN in let w = g.S.Caller.world c.args.s.now in
     record {
-      unmoved = record { seat = refl; known = knows-same (g.S.Caller.known c.args.s.now); shown = λ k v was. was };
+      unmoved = record { caller = refl; known = knows-same (g.S.Caller.known c.args.s.now); shown = λ k v was. was };
       own = λ start grown. grown;
       cells = record { storage = refl; stack = refl };
       primary = refl;
@@ -36,7 +36,7 @@ loop-value-smaller g c =
 
 pub pop_behind-requires : goal.pop_behind-requires
 pop_behind-requires g c =
-    let inv = c.loop-value.invariant in let at = inv.unmoved.seat in
+    let inv = c.loop-value.invariant in let at = inv.unmoved.caller in
     let was = inv.list c.requires.bag.entries c.requires.bag.lies in (
       search rules,
       (
@@ -53,8 +53,8 @@ pop_behind-requires g c =
 
 pub give_up-requires : goal.give_up-requires
 give_up-requires g c =
-    let inv = c.loop-value.invariant in let at = c.in-Some.ensures.unmoved.seat ∙ inv.unmoved.seat in let holds = g.T.Item.holds in
-    let one = one-of (λ x. AreOf (g.S.Caller.seat c.args.s.now).home (holds x)) c.in-Some.value (overflow_of c.pop_behind.new.self)
+    let inv = c.loop-value.invariant in let at = c.in-Some.ensures.unmoved.caller ∙ inv.unmoved.caller in let holds = g.T.Item.holds in
+    let one = one-of (λ x. AreOf (g.S.Caller.caller c.args.s.now).home (holds x)) c.in-Some.value (overflow_of c.pop_behind.new.self)
     (overflow_of c.loop-value.self) c.in-Some.ensures.popped.less inv.held in
     record {
       seated = subst (λ (s : CallerId). IsSeated s) (sym at) c.requires.seated;
@@ -67,15 +67,15 @@ loop-value-preserved g c =
     let inv = c.loop-value.invariant in let got = c.in-Some.ensures in let v = c.in-Some.value in let holds = g.T.Item.holds in
     let old = c.loop-value.self in let new = c.pop_behind.new.self in let len = g.row.ARRAY_LEN in
     let w = g.S.Caller.world c.loop-value.s in let u = g.S.Caller.world c.pop_behind.new.s in let then = g.S.Caller.world c.give_up.new.s in
-    let place = (g.S.Caller.seat c.args.s.now).place in
-    let at = got.unmoved.seat ∙ inv.unmoved.seat in
-    let home = (g.S.Caller.seat c.args.s.now).home in
+    let place = (g.S.Caller.caller c.args.s.now).place in
+    let at = got.unmoved.caller ∙ inv.unmoved.caller in
+    let home = (g.S.Caller.caller c.args.s.now).home in
     let one = one-of (λ x. AreOf home (holds x)) v (overflow_of new) (overflow_of old) got.popped.less inv.held in
     let world : then ≡ given_all u place (holds v) =
     c.give_up.ensures.world ∙ ap (λ (s : CallerId). given_all u s.place (holds v)) at in
     record {
-      unmoved = moves-on g.S.Caller.seat g.S.Caller.known g.S.Shows.shows c.args.s.now c.pop_behind.new.s c.give_up.new.s
-          (moves-on g.S.Caller.seat g.S.Caller.known g.S.Shows.shows c.args.s.now c.loop-value.s c.pop_behind.new.s inv.unmoved got.unmoved)
+      unmoved = moves-on g.S.Caller.caller g.S.Caller.known g.S.Shows.shows c.args.s.now c.pop_behind.new.s c.give_up.new.s
+          (moves-on g.S.Caller.caller g.S.Caller.known g.S.Shows.shows c.args.s.now c.loop-value.s c.pop_behind.new.s inv.unmoved got.unmoved)
           c.give_up.ensures.unmoved;
       own = λ start grown. c.give_up.ensures.own start (got.own start (inv.own start grown));
       cells = record { storage = got.cells.storage ∙ inv.cells.storage; stack = got.cells.stack ∙ inv.cells.stack };
@@ -85,7 +85,7 @@ loop-value-preserved g c =
           let was = inv.list es lies in let more = got.list was.0 was.1 in
           let Fewer : Type 0 = new.overflow.places ≡ drop g.row.ARRAY_LEN old.overflow.places in
           let step = subst (λ (s : CallerId). (u ≡ w) × (more.0 ≡ was.0) ⊎ Fewer × RemovesStorage w s.place (cell_in old.overflow.stack) was.0 u more.0)
-          inv.unmoved.seat more.3 in
+          inv.unmoved.caller more.3 in
           let after = after-next g.B.Shelf.shown g.row.ARRAY_LEN w u then place was.0 more.0 old.overflow new.overflow holds v was.1 more.1 got.cells.stack
           Fewer step world (overflow_of new) (overflow_of old) got.popped.less was.3 in (
             more.0,
@@ -118,7 +118,7 @@ returns-clause-list g c = λ es lies.
 
 pub returns-clause-unmoved : goal.returns-clause-unmoved
 returns-clause-unmoved g c =
-    moves-on g.S.Caller.seat g.S.Caller.known g.S.Shows.shows c.args.s.now c.loop-value.s c.pop_behind.new.s c.loop-value.invariant.unmoved
+    moves-on g.S.Caller.caller g.S.Caller.known g.S.Shows.shows c.args.s.now c.loop-value.s c.pop_behind.new.s c.loop-value.invariant.unmoved
     c.in_default.ensures.unmoved
 
 pub returns-clause-own : goal.returns-clause-own

@@ -14,7 +14,7 @@ returns g c =
         rests = tt;
         begun = (
           (λ guarded. let never : false ≡ true = (c.if-is_guarded.ensures.exact c.requires.exact).1 guarded in absurd (cc)),
-          begins g.B.Shelf.shown g.S.Caller.seat g.S.Caller.world c.args.self c.shelves-shelves.result c.new.result c.args.s.now shelves.space
+          begins g.B.Shelf.shown g.S.Caller.caller g.S.Caller.world c.args.self c.shelves-shelves.result c.new.result c.args.s.now shelves.space
               c.requires.exact shelves.home c.requires.bag c.lies_in_order.ensures shelves.list,
         );
         bag = (refl, refl);

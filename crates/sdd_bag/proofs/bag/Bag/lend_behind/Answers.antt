@@ -10,7 +10,7 @@ use Rattle.sdd_bag.specs.Overflow.{AreShelves, LiesOn, OverflowParts, places_in,
 use Rattle.sdd_bag.specs.Storage.{value_at, values_in}
 use Rattle.sdd_bag.specs.Storages.{places_shown}
 use Rattle.sdd_bag.proofs.Changing.{each-changed, none-changed}
-use Rattle.sdd_bag.proofs.Kept.{get-front}
+use Rattle.sdd_bag.proofs.InsertedKeys.{get-front}
 use Rattle.sdd_bag.proofs.Lent.{key-next, keys-behind, next-shelf, none-behind, none-next}
 use Rattle.sdd_bag.proofs.Prefixes.{as-long}
 use Rattle.sdd_bag.proofs.bag.Bag.lend_behind.Goals as goal
@@ -44,7 +44,7 @@ loop-shelf-init g c =
 pub unreachable-requires : goal.unreachable-requires
 unreachable-requires g c =
     let inv = c.loop-shelf.invariant in let shown = g.B.Shelf.shown in let len = g.row.ARRAY_LEN in let w = g.S.Caller.world c.args.s.now in
-    let exact = subst (λ (sp : g.row.S.Denot). IsExact (g.S.Caller.seat sp)) (sym inv.space) c.requires.exact in
+    let exact = subst (λ (sp : g.row.S.Denot). IsExact (g.S.Caller.caller sp)) (sym inv.space) c.requires.exact in
     let got = c.in-Some.ensures.steps.gives exact (shown_of inv.left.0) inv.left.2 in
     let next = next-shelf shown len w inv.left.0 c.in-Some.shelf.now inv.left.1 got.0 in
     let are = subst (λ (es : List (Entry _)). AreShelves shown len w es) next.entries inv.left.1 in
@@ -56,7 +56,7 @@ unreachable-requires g c =
 pub lend_array-change-requires : goal.lend_array-change-requires
 lend_array-change-requires g c =
     let inv = c.loop-shelf.invariant in let shown = g.B.Shelf.shown in let len = g.row.ARRAY_LEN in let w = g.S.Caller.world c.args.s.now in
-    let exact = subst (λ (sp : g.row.S.Denot). IsExact (g.S.Caller.seat sp)) (sym inv.space) c.requires.exact in
+    let exact = subst (λ (sp : g.row.S.Denot). IsExact (g.S.Caller.caller sp)) (sym inv.space) c.requires.exact in
     let got = c.in-Some.ensures.steps.gives exact (shown_of inv.left.0) inv.left.2 in
     let next = next-shelf shown len w inv.left.0 c.in-Some.shelf.now inv.left.1 got.0 in
     let are = subst (λ (es : List (Entry _)). AreShelves shown len w es) next.entries inv.left.1 in
@@ -86,7 +86,7 @@ pub loop-shelf-preserved : goal.loop-shelf-preserved
 loop-shelf-preserved g c =
     let inv = c.loop-shelf.invariant in let shown = g.B.Shelf.shown in let len = g.row.ARRAY_LEN in let w = g.S.Caller.world c.args.s.now in
     let steps = c.in-Some.ensures.steps in let did = c.lend_array-change.ensures in let after = c.next.new.self in
-    let exact = subst (λ (sp : g.row.S.Denot). IsExact (g.S.Caller.seat sp)) (sym inv.space) c.requires.exact in
+    let exact = subst (λ (sp : g.row.S.Denot). IsExact (g.S.Caller.caller sp)) (sym inv.space) c.requires.exact in
     let got = steps.gives exact (shown_of inv.left.0) inv.left.2 in
     let next = next-shelf shown len w inv.left.0 c.in-Some.shelf.now inv.left.1 got.0 in
     let are = subst (λ (es : List (Entry _)). AreShelves shown len w es) next.entries inv.left.1 in
@@ -120,7 +120,7 @@ returns-clause-same g c = λ k.
 pub returns-clause-changed : goal.returns-clause-changed
 returns-clause-changed g c =
     let inv = c.loop-shelf.invariant in let shown = g.B.Shelf.shown in let len = g.row.ARRAY_LEN in let w = g.S.Caller.world c.args.s.now in
-    let exact = subst (λ (sp : g.row.S.Denot). IsExact (g.S.Caller.seat sp)) (sym inv.space) c.requires.exact in
+    let exact = subst (λ (sp : g.row.S.Denot). IsExact (g.S.Caller.caller sp)) (sym inv.space) c.requires.exact in
     let got = c.in_default.ensures.steps.gives exact (shown_of inv.left.0) inv.left.2 in
     let none = none-next shown len w inv.left.0 inv.left.1 got.0 in
     let ps = c.self.inside.keys in let qs = c.loop-shelf.self-inside.keys in

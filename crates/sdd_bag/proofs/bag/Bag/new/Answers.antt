@@ -4,18 +4,18 @@ use Rattle.sdd_bag.specs.Storage.{AreFullBehind, names_of}
 use Rattle.sdd_core.specs.declared.refused.Refused.TheVariants.{NoCell}
 use Rattle.sdd_rights.specs.Right.{number_of}
 use Rattle.sdd_rights.specs.declared.right.Right.{Right}
-use Rattle.sdd_space.specs.World.{World}
+use Rattle.sdd_world_model.specs.World.{World}
 use Rattle.sdd_space.specs.CallerId.{CallerId, IsExact}
 use Rattle.sdd_space.specs.Refusals.{IsRefusedBy}
 use Rattle.sdd_space.specs.Shared.{cell_of}
-use Rattle.sdd_space.specs.WorldChanges.{cell_closed, held_in, nulled, spilled, without_cell}
+use Rattle.sdd_world_model.specs.WorldChanges.{cell_closed, held_in, nulled, spilled, without_cell}
 use Rattle.sdd_participants.specs.Slab.{IsEmptyAt, IsFull}
 use Rattle.sdd_participants.specs.declared.standing.CellContents.{CellContents}
 use Rattle.sdd_core.specs.declared.tag.Tag.TheVariants.{None as no_tag}
 use Rattle.sdd_lists.specs.Stack.{cell_in}
-use Rattle.sdd_lists.proofs.Fresh.{freed-again, only-one}
-use Rattle.sdd_lists.proofs.Grows.{grows-not, grows-spilled}
-use Rattle.sdd_bag.proofs.Still.{apart, free-before, full-one, moves-on, still}
+use Rattle.sdd_lists.proofs.FreshLinks.{freed-again, only-one}
+use Rattle.sdd_lists.proofs.MoreWaiting.{grows-not, grows-spilled}
+use Rattle.sdd_bag.proofs.Unmoved.{apart, free-before, full-one, moves-on, still}
 use Rattle.sdd_bag.proofs.bag.Bag.new.Goals as goal
 
 pub returns-in-Err-clause-world : goal.returns-in-Err-clause-world
@@ -24,16 +24,16 @@ returns-in-Err-clause-world g c = λ e.
 
 pub returns-in-Ok-new-clause-unmoved : goal.returns-in-Ok-new-clause-unmoved
 returns-in-Ok-new-clause-unmoved g c =
-    let seat = g.S.Caller.seat in let known = g.S.Caller.known in let shows = g.S.Shows.shows in let own = g.S.Caller.own in
-    moves-on seat known shows c.args.s.now c.null.new.s c.new.new.s (still seat known shows own c.args.s.now c.null.new.s c.in-Ok.ensures.undisturbed)
-    (still seat known shows own c.null.new.s c.new.new.s c.in-Ok-new.ensures.undisturbed)
+    let caller = g.S.Caller.caller in let known = g.S.Caller.known in let shows = g.S.Shows.shows in let own = g.S.Caller.own in
+    moves-on caller known shows c.args.s.now c.null.new.s c.new.new.s (still caller known shows own c.args.s.now c.null.new.s c.in-Ok.ensures.undisturbed)
+    (still caller known shows own c.null.new.s c.new.new.s c.in-Ok-new.ensures.undisturbed)
 
 pub returns-in-Ok-new-clause-world : goal.returns-in-Ok-new-clause-world
 returns-in-Ok-new-clause-world g c = λ e.
     let w = g.S.Caller.world c.args.s.now in
     let a : ℕ = cell_of c.in-Ok.cell in
     let b : ℕ = cell_in c.in-Ok-new.stack in
-    let ex1 = subst (λ (s : CallerId). IsExact s) (sym c.in-Ok.ensures.undisturbed.seat) e in
+    let ex1 = subst (λ (s : CallerId). IsExact s) (sym c.in-Ok.ensures.undisturbed.caller) e in
     let made = c.in-Ok.ensures.exact e in
     let more = c.in-Ok-new.ensures.world ex1 in
     let free : IsEmptyAt (nulled w a).cells b = subst (λ (x : World _). IsEmptyAt x.cells b) made.1 more.0 in
@@ -46,7 +46,7 @@ returns-in-Ok-new-clause-world g c = λ e.
 
 pub returns-in-Ok-new-clause-bag : goal.returns-in-Ok-new-clause-bag
 returns-in-Ok-new-clause-bag g c = λ e.
-    let ex1 = subst (λ (s : CallerId). IsExact s) (sym c.in-Ok.ensures.undisturbed.seat) e in
+    let ex1 = subst (λ (s : CallerId). IsExact s) (sym c.in-Ok.ensures.undisturbed.caller) e in
     record {
       entries = [];
       lies = record {
@@ -60,10 +60,10 @@ returns-in-Ok-new-clause-bag g c = λ e.
 
 pub returns-in-Err-new-clause-unmoved : goal.returns-in-Err-new-clause-unmoved
 returns-in-Err-new-clause-unmoved g c =
-    let seat = g.S.Caller.seat in let known = g.S.Caller.known in let shows = g.S.Shows.shows in let own = g.S.Caller.own in
-    moves-on seat known shows c.args.s.now c.new.new.s c.close.new.s
-    (moves-on seat known shows c.args.s.now c.null.new.s c.new.new.s (still seat known shows own c.args.s.now c.null.new.s c.in-Ok.ensures.undisturbed)
-    (still seat known shows own c.null.new.s c.new.new.s c.in-Err-new.ensures.undisturbed)) c.close.ensures.unmoved
+    let caller = g.S.Caller.caller in let known = g.S.Caller.known in let shows = g.S.Shows.shows in let own = g.S.Caller.own in
+    moves-on caller known shows c.args.s.now c.new.new.s c.close.new.s
+    (moves-on caller known shows c.args.s.now c.null.new.s c.new.new.s (still caller known shows own c.args.s.now c.null.new.s c.in-Ok.ensures.undisturbed)
+    (still caller known shows own c.null.new.s c.new.new.s c.in-Err-new.ensures.undisturbed)) c.close.ensures.unmoved
 
 pub returns-in-Err-new-clause-own : goal.returns-in-Err-new-clause-own
 returns-in-Err-new-clause-own g c = λ start grown.
@@ -72,19 +72,19 @@ returns-in-Err-new-clause-own g c = λ start grown.
 
 pub returns-in-Err-new-clause-back : goal.returns-in-Err-new-clause-back
 returns-in-Err-new-clause-back g c =
-    subst (λ (s : CallerId). IsRefusedBy s NoCell c.in-Err-new.refused) c.in-Ok.ensures.undisturbed.seat c.in-Err-new.ensures.back
+    subst (λ (s : CallerId). IsRefusedBy s NoCell c.in-Err-new.refused) c.in-Ok.ensures.undisturbed.caller c.in-Err-new.ensures.back
 
 -- the first cell is freed again
 pub returns-in-Err-new-clause-world : goal.returns-in-Err-new-clause-world
 returns-in-Err-new-clause-world g c = λ e.
     let w = g.S.Caller.world c.args.s.now in
     let o : ℕ = cell_of c.in-Ok.cell in
-    let at1 = c.in-Ok.ensures.undisturbed.seat in
-    let at2 = c.in-Err-new.ensures.undisturbed.seat ∙ at1 in
+    let at1 = c.in-Ok.ensures.undisturbed.caller in
+    let at2 = c.in-Err-new.ensures.undisturbed.caller ∙ at1 in
     let made = c.in-Ok.ensures.exact e in
     let full = c.in-Err-new.ensures.world (subst (λ (s : CallerId). IsExact s) (sym at1) e) in
     let closed = c.close.ensures.exact (subst (λ (s : CallerId). IsExact s) (sym at2) e) in
-    let place = (g.S.Caller.seat c.new.new.s).place in
+    let place = (g.S.Caller.caller c.new.new.s).place in
     let nothing : CellContents = record { held = None; tag = no_tag } in
     let filled : IsFull (nulled w o).cells = subst (λ (y : World _). IsFull y.cells) made.1 full.0 in (
       (λ a b free other. only-one w.cells o nothing filled a free ∙ sym (only-one w.cells o nothing filled b other)),

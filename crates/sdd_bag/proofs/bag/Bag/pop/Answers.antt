@@ -1,9 +1,9 @@
 use Rattle.std.proofs.Common.{rules, ◌≡◌, ◌⊎◌, inl, [], refl, ap, ◌∙◌, sym, subst}
 use Rattle.std.specs.Prelude.{MatchOption}
-use Rattle.sdd_space.specs.World.{World}
+use Rattle.sdd_world_model.specs.World.{World}
 use Rattle.sdd_bag.specs.Overflow.{LiesOn, OverflowParts}
 use Rattle.sdd_bag.specs.Bag.{BagParts, PopsBehind, PopsInside, overflow_of, primary_of}
-use Rattle.sdd_bag.proofs.Taking.{none-spilled, popped-inside}
+use Rattle.sdd_bag.proofs.Overflow.{none-spilled, popped-inside}
 use Rattle.sdd_bag.proofs.bag.Bag.pop.Goals as goal
 
 pub pop_behind-requires : goal.pop_behind-requires

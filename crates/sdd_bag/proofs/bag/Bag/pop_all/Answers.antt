@@ -4,20 +4,20 @@ use Rattle.sdd_space.specs.CallerId.{CallerId, IsExact, IsSeated}
 use Rattle.sdd_lists.specs.declared.stack.Stack.{Stack}
 use Rattle.sdd_lists.specs.Lists.{Entry}
 use Rattle.sdd_lists.specs.Stack.{cell_in, home_in}
-use Rattle.sdd_lists.proofs.Grows.{knows-same}
+use Rattle.sdd_lists.proofs.MoreWaiting.{knows-same}
 use Rattle.sdd_bag.specs.Overflow.{LiesOn, OverflowParts, RemovesStorage, RemovesStorages, spilled_in}
 use Rattle.sdd_bag.specs.Primary.{PrimaryParts, held_by}
 use Rattle.sdd_bag.specs.Values.{AreInSomeOrder}
 use Rattle.sdd_bag.specs.Bag.{BagParts, overflow_of, primary_of}
-use Rattle.sdd_bag.proofs.Emptying.{removes-more, used-there}
+use Rattle.sdd_bag.proofs.EmptiedBag.{removes-more, used-there}
 use Rattle.sdd_bag.proofs.Prefixes.{some-long}
-use Rattle.sdd_bag.proofs.Still.{moves-on}
-use Rattle.sdd_bag.proofs.Taking.{no-storage, none-spilled}
+use Rattle.sdd_bag.proofs.Unmoved.{moves-on}
+use Rattle.sdd_bag.proofs.Overflow.{no-storage, none-spilled}
 use Rattle.sdd_bag.proofs.bag.Bag.pop_all.Goals as goal
 
 pub loop-self-init : goal.loop-self-init
 loop-self-init g c = record {
-  unmoved = record { seat = refl; known = knows-same (g.S.Caller.known c.args.s.now); shown = λ k v was. was };
+  unmoved = record { caller = refl; known = knows-same (g.S.Caller.known c.args.s.now); shown = λ k v was. was };
   own = λ start grown. grown;
   cells = record { storage = refl; stack = refl };
   primary = refl;
@@ -29,7 +29,7 @@ loop-self-init g c = record {
 
 pub fold_storage-next-requires : goal.fold_storage-next-requires
 fold_storage-next-requires g c =
-    let inv = c.loop-self.invariant in let at = inv.unmoved.seat in (
+    let inv = c.loop-self.invariant in let at = inv.unmoved.caller in (
       search rules,
       (
         record {
@@ -56,7 +56,7 @@ loop-self-preserved g c =
     some-long len c.loop-self.self.overflow.places
     (λ empty. let never : false ≡ true = c.loop-self-test.ensures.1 empty in absurd (cc)) in
     record {
-      unmoved = moves-on g.S.Caller.seat g.S.Caller.known g.S.Shows.shows c.args.s.now c.loop-self.s c.fold_storage-next.new.s inv.unmoved did.unmoved;
+      unmoved = moves-on g.S.Caller.caller g.S.Caller.known g.S.Shows.shows c.args.s.now c.loop-self.s c.fold_storage-next.new.s inv.unmoved did.unmoved;
       own = λ start grown. did.own start (inv.own start grown);
       cells = record { storage = did.cells.storage ∙ inv.cells.storage; stack = did.cells.stack ∙ inv.cells.stack };
       primary = did.primary ∙ inv.primary;
@@ -68,9 +68,9 @@ loop-self-preserved g c =
       callable = did.callable;
       folds = λ others vs r order folded. let mid = did.folded others vs r order folded in inv.folds others mid.0 r mid.1 mid.2;
       list = λ es lies.
-          let w = g.S.Caller.world c.loop-self.s in let p = (g.S.Caller.seat c.args.s.now).place in let old = c.loop-self.self.overflow in
+          let w = g.S.Caller.world c.loop-self.s in let p = (g.S.Caller.caller c.args.s.now).place in let old = c.loop-self.self.overflow in
           let was = inv.list es lies in let more = did.list was.0 was.1 in
-          let one = subst (λ (s : CallerId). RemovesStorage w s.place (cell_in old.stack) was.0 now more.0) inv.unmoved.seat more.1 in (
+          let one = subst (λ (s : CallerId). RemovesStorage w s.place (cell_in old.stack) was.0 now more.0) inv.unmoved.caller more.1 in (
             more.0,
             more.2,
             λ new removed.
@@ -121,7 +121,7 @@ returns-clause-folded g c =
 pub returns-clause-list : goal.returns-clause-list
 returns-clause-list g c = λ es lies.
     let inv = c.loop-self.invariant in let bag : BagParts g.row.T.Denot g.row.B.Denot = c.loop-self.self in
-    let w = g.S.Caller.world c.loop-self.s in let p = (g.S.Caller.seat c.args.s.now).place in
+    let w = g.S.Caller.world c.loop-self.s in let p = (g.S.Caller.caller c.args.s.now).place in
     let left = inv.list es lies in
     let none = used-there g.B.Shelf.shown g.row.ARRAY_LEN w bag left.0 inv.bag left.1 (c.loop-self-test.ensures.0 refl) in
     left.2 w (subst (λ (fs : List (Entry _)). RemovesStorages w p (cell_in bag.overflow.stack) fs w) (sym none) refl)

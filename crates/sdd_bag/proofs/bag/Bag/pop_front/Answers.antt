@@ -5,7 +5,7 @@ use Rattle.sdd_bag.specs.Values.{HasOneMore}
 use Rattle.sdd_bag.specs.Storages.{places_shown}
 use Rattle.sdd_bag.specs.Overflow.{LiesOn, OverflowParts, places_on}
 use Rattle.sdd_bag.specs.Bag.{BagParts, overflow_of}
-use Rattle.sdd_bag.proofs.Lying.{front-keys, none-left, none-there, none-used, storages-popped}
+use Rattle.sdd_bag.proofs.StackStorages.{front-keys, none-left, none-there, none-used, storages-popped}
 use Rattle.sdd_bag.proofs.bag.Bag.pop_front.Goals as goal
 
 pub pop-requires : goal.pop-requires

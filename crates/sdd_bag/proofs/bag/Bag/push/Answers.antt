@@ -45,7 +45,7 @@ returns-in-Ok-push_behind-clause-list g c = λ es lies.
     let w = g.S.Caller.world c.args.s.now in let new = g.S.Caller.world c.push_behind.new.s in
     let here = subst (λ (o : Parts). LiesOn g.B.Shelf.shown len w es o) (sym view) lies in
     subst (λ (o : Parts). (fs : List (Entry (LinkedEntry g.row.B.Denot))) × LiesOn g.B.Shelf.shown len new fs c.push_behind.new.self.overflow ×
-    ((new ≡ w) ⊎ AreFull len o.places × AddsStorage g.B.Shelf.shown w (g.S.Caller.seat c.args.s.now).place o.stack es new fs)) view
+    ((new ≡ w) ⊎ AreFull len o.places × AddsStorage g.B.Shelf.shown w (g.S.Caller.caller c.args.s.now).place o.stack es new fs)) view
     (c.in-Ok-push_behind.ensures.list es here)
 
 pub returns-in-Err-push_behind-clause-pushed : goal.returns-in-Err-push_behind-clause-pushed

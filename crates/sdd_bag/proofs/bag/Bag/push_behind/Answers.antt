@@ -2,14 +2,14 @@ use Rattle.std.proofs.Common.{rules, ◌≡◌, inl, inr, List, Some, ap, ◌∙
 use Rattle.sdd_bag.specs.Storage.{AreFull, KeptPlace, values_in}
 use Rattle.sdd_bag.specs.Values.{HasOneMore}
 use Rattle.sdd_space.specs.CallerId.{CallerId, IsExact, IsSeated}
-use Rattle.sdd_space.specs.World.{World}
+use Rattle.sdd_world_model.specs.World.{World}
 use Rattle.sdd_lists.specs.Stack.{home_in}
-use Rattle.sdd_lists.proofs.Grows.{grows-not}
+use Rattle.sdd_lists.proofs.MoreWaiting.{grows-not}
 use Rattle.sdd_bag.specs.Overflow.{AddsStorage, LiesOn, RefusesStorage}
 use Rattle.sdd_bag.specs.Bag.{BagParts, overflow_of}
-use Rattle.sdd_bag.proofs.Changes.{new-values, not-empty, not-full}
-use Rattle.sdd_bag.proofs.Standing.{lies-kept}
-use Rattle.sdd_bag.proofs.Still.{moves-on, still}
+use Rattle.sdd_bag.proofs.PrimaryChanges.{new-values, not-empty, not-full}
+use Rattle.sdd_bag.proofs.EntryStandings.{lies-kept}
+use Rattle.sdd_bag.proofs.Unmoved.{moves-on, still}
 use Rattle.sdd_bag.proofs.bag.Bag.push_behind.Goals as goal
 
 pub returns-in-Ok-clause-pushed : goal.returns-in-Ok-clause-pushed
@@ -33,7 +33,7 @@ pub add_storage-requires : goal.add_storage-requires
 add_storage-requires g c =
     let Bag : Type 0 = BagParts g.row.T.Denot g.row.B.Denot in
     let shown = g.B.Shelf.shown in let len = g.row.ARRAY_LEN in let es = c.requires.lies.0 in
-    let at = c.in-Err.ensures.undisturbed.seat in let same = c.in-Err.ensures.pushed.2 in
+    let at = c.in-Err.ensures.undisturbed.caller in let same = c.in-Err.ensures.pushed.2 in
     let here = subst (λ (w : World _). LiesOn shown len w es c.args.self.now.overflow) (sym c.in-Err.ensures.world) c.requires.lies.1 in (
       search rules,
       (
@@ -56,9 +56,9 @@ add_storage-requires g c =
 
 pub returns-in-Err-add_storage-clause-unmoved : goal.returns-in-Err-add_storage-clause-unmoved
 returns-in-Err-add_storage-clause-unmoved g c =
-    let seat = g.S.Caller.seat in let known = g.S.Caller.known in let shows = g.S.Shows.shows in let own = g.S.Caller.own in
-    moves-on seat known shows c.args.s.now c.push_front.new.s c.add_storage.new.s
-    (still seat known shows own c.args.s.now c.push_front.new.s c.in-Err.ensures.undisturbed) c.in-Err-add_storage.ensures.unmoved
+    let caller = g.S.Caller.caller in let known = g.S.Caller.known in let shows = g.S.Shows.shows in let own = g.S.Caller.own in
+    moves-on caller known shows c.args.s.now c.push_front.new.s c.add_storage.new.s
+    (still caller known shows own c.args.s.now c.push_front.new.s c.in-Err.ensures.undisturbed) c.in-Err-add_storage.ensures.unmoved
 
 pub returns-in-Err-add_storage-clause-own : goal.returns-in-Err-add_storage-clause-own
 returns-in-Err-add_storage-clause-own g c = λ start grown.
@@ -79,7 +79,7 @@ push_front-requires-2 g c =
     let Bag : Type 0 = BagParts g.row.T.Denot g.row.B.Denot in
     let shown = g.B.Shelf.shown in let len = g.row.ARRAY_LEN in let es = c.requires.lies.0 in
     let same = c.in-Err.ensures.pushed.2 in
-    let at = c.in-Ok-add_storage.ensures.unmoved.seat ∙ c.in-Err.ensures.undisturbed.seat in
+    let at = c.in-Ok-add_storage.ensures.unmoved.caller ∙ c.in-Err.ensures.undisturbed.caller in
     let here = subst (λ (w : World _). LiesOn shown len w es c.args.self.now.overflow) (sym c.in-Err.ensures.world) c.requires.lies.1 in
     let got = c.in-Ok-add_storage.ensures.list es
     (subst (λ (b : Bag). LiesOn shown len (g.S.Caller.world c.push_front.new.s) es b.overflow) (sym same) here) in (
@@ -105,11 +105,11 @@ unreachable-requires g c =
 
 pub returns-clause-unmoved : goal.returns-clause-unmoved
 returns-clause-unmoved g c =
-    let seat = g.S.Caller.seat in let known = g.S.Caller.known in let shows = g.S.Shows.shows in let own = g.S.Caller.own in
-    moves-on seat known shows c.args.s.now c.add_storage.new.s c.push_front-2.new.s
-    (moves-on seat known shows c.args.s.now c.push_front.new.s c.add_storage.new.s
-    (still seat known shows own c.args.s.now c.push_front.new.s c.in-Err.ensures.undisturbed) c.in-Ok-add_storage.ensures.unmoved)
-    (still seat known shows own c.add_storage.new.s c.push_front-2.new.s c.in-Ok-push_front.ensures.undisturbed)
+    let caller = g.S.Caller.caller in let known = g.S.Caller.known in let shows = g.S.Shows.shows in let own = g.S.Caller.own in
+    moves-on caller known shows c.args.s.now c.add_storage.new.s c.push_front-2.new.s
+    (moves-on caller known shows c.args.s.now c.push_front.new.s c.add_storage.new.s
+    (still caller known shows own c.args.s.now c.push_front.new.s c.in-Err.ensures.undisturbed) c.in-Ok-add_storage.ensures.unmoved)
+    (still caller known shows own c.add_storage.new.s c.push_front-2.new.s c.in-Ok-push_front.ensures.undisturbed)
 
 pub returns-clause-own : goal.returns-clause-own
 returns-clause-own g c = λ start grown.
@@ -135,12 +135,12 @@ returns-clause-list g c = λ es lies.
     let Bag : Type 0 = BagParts g.row.T.Denot g.row.B.Denot in
     let shown = g.B.Shelf.shown in let len = g.row.ARRAY_LEN in
     let w = g.S.Caller.world c.args.s.now in let w2 = g.S.Caller.world c.add_storage.new.s in let w3 = g.S.Caller.world c.push_front-2.new.s in
-    let same = c.in-Err.ensures.pushed.2 in let at = c.in-Err.ensures.undisturbed.seat in
+    let same = c.in-Err.ensures.pushed.2 in let at = c.in-Err.ensures.undisturbed.caller in
     let here = subst (λ (x : World _). LiesOn shown len x es c.args.self.now.overflow) (sym c.in-Err.ensures.world) lies in
     let got = c.in-Ok-add_storage.ensures.list es
     (subst (λ (b : Bag). LiesOn shown len (g.S.Caller.world c.push_front.new.s) es b.overflow) (sym same) here) in
     let fs = got.0 in let in-it = c.in-Ok-push_front.ensures.pushed.0 in
-    let adds = subst (λ (b : Bag). AddsStorage shown (g.S.Caller.world c.push_front.new.s) (g.S.Caller.seat c.push_front.new.s).place
+    let adds = subst (λ (b : Bag). AddsStorage shown (g.S.Caller.world c.push_front.new.s) (g.S.Caller.caller c.push_front.new.s).place
     b.overflow.stack es w2 fs) same got.1 in
     let stack = c.args.self.now.overflow.stack in (
       fs,
@@ -148,8 +148,8 @@ returns-clause-list g c = λ es lies.
           c.in-Ok-push_front.ensures.keeps.overflow in-it.0 (Some c.in-Err.value) in-it.1 in-it.3 got.2,
       inr (
         c.in-Err.ensures.pushed.1,
-        subst (λ (x : World _). AddsStorage shown w (g.S.Caller.seat c.args.s.now).place stack es x fs) (sym c.in-Ok-push_front.ensures.world)
+        subst (λ (x : World _). AddsStorage shown w (g.S.Caller.caller c.args.s.now).place stack es x fs) (sym c.in-Ok-push_front.ensures.world)
             (subst (λ (s : CallerId). AddsStorage shown w s.place stack es w2 fs) at
-            (subst (λ (x : World _). AddsStorage shown x (g.S.Caller.seat c.push_front.new.s).place stack es w2 fs) c.in-Err.ensures.world adds)),
+            (subst (λ (x : World _). AddsStorage shown x (g.S.Caller.caller c.push_front.new.s).place stack es w2 fs) c.in-Err.ensures.world adds)),
       ),
     )

@@ -5,7 +5,7 @@ use Rattle.sdd_bag.specs.Values.{HasOneMore}
 use Rattle.sdd_bag.specs.Storages.{places_shown}
 use Rattle.sdd_bag.specs.Overflow.{LiesOn, OverflowParts, places_on}
 use Rattle.sdd_bag.specs.Bag.{BagParts, overflow_of}
-use Rattle.sdd_bag.proofs.Lying.{front-keys, none-full, none-left, none-there, storages-pushed}
+use Rattle.sdd_bag.proofs.StackStorages.{front-keys, none-full, none-left, none-there, storages-pushed}
 use Rattle.sdd_bag.proofs.bag.Bag.push_front.Goals as goal
 
 pub push-requires : goal.push-requires

@@ -5,20 +5,20 @@ use Rattle.sdd_bag.proofs.Prefixes.{value-new}
 use Rattle.sdd_rights.specs.Right.{home_of, number_of}
 use Rattle.sdd_rights.specs.declared.right.Right.{Right}
 use Rattle.sdd_space.specs.CallerId.{CallerId, IsExact}
-use Rattle.sdd_space.specs.OwnerOrCell.{SpaceId}
+use Rattle.sdd_world_model.specs.OwnerOrCell.{SpaceId}
 use Rattle.sdd_space.specs.Shared.{slot_of}
-use Rattle.sdd_space.specs.World.{standing_at}
-use Rattle.sdd_space.specs.WorldChanges.{owner_given}
+use Rattle.sdd_world_model.specs.World.{standing_at}
+use Rattle.sdd_world_model.specs.WorldChanges.{owner_given}
 use Rattle.sdd_lists.specs.Filling.{AddsOnto}
 use Rattle.sdd_lists.specs.Stack.{cell_in}
 use Rattle.sdd_lists.proofs.Filling.{added}
-use Rattle.sdd_lists.proofs.Grows.{grows-if}
+use Rattle.sdd_lists.proofs.MoreWaiting.{grows-if}
 use Rattle.sdd_bag.specs.Storages.{StorageName, places_shown}
 use Rattle.sdd_bag.specs.Overflow.{LiesOn, OverflowParts}
 use Rattle.sdd_bag.specs.Bag.{BagParts}
-use Rattle.sdd_bag.proofs.Changes.{new-long}
-use Rattle.sdd_bag.proofs.Standing.{lies-added}
-use Rattle.sdd_bag.proofs.Still.{moves-on}
+use Rattle.sdd_bag.proofs.PrimaryChanges.{new-long}
+use Rattle.sdd_bag.proofs.EntryStandings.{lies-added}
+use Rattle.sdd_bag.proofs.Unmoved.{moves-on}
 use Rattle.sdd_bag.proofs.bag.Bag.push_storage.Goals as goal
 
 pub add_places-places-requires : goal.add_places-places-requires
@@ -31,7 +31,7 @@ add_places-places-requires g c =
 
 pub push-requires-clause-value : goal.push-requires-clause-value
 push-requires-clause-value g c =
-    let home : SpaceId = (g.S.Caller.seat c.args.s.now).home in
+    let home : SpaceId = (g.S.Caller.caller c.args.s.now).home in
     let of : c.new-storage.result.home ≡ home.cells =
     ap (λ (s : StorageName). s.home) c.new-storage.ensures ∙ ap (λ (r : Right). home_of r) c.right_of_shared_cell.ensures.right ∙ c.requires.cell in
     c.with_storage.ensures.held home (of, tt)
@@ -50,7 +50,7 @@ remove_places-requires g c =
 
 pub returns-in-Ok-clause-unmoved : goal.returns-in-Ok-clause-unmoved
 returns-in-Ok-clause-unmoved g c =
-    moves-on g.S.Caller.seat g.S.Caller.known g.S.Shows.shows c.args.s.now c.push.new.s c.release.new.s c.in-Ok.ensures.unmoved c.release.ensures.unmoved
+    moves-on g.S.Caller.caller g.S.Caller.known g.S.Shows.shows c.args.s.now c.push.new.s c.release.new.s c.in-Ok.ensures.unmoved c.release.ensures.unmoved
 
 pub returns-in-Ok-clause-own : goal.returns-in-Ok-clause-own
 returns-in-Ok-clause-own g c = λ start grown.
@@ -65,7 +65,7 @@ returns-in-Ok-clause-list g c = λ es lies.
     let o : Parts = record { stack = c.self.inside.stack; places = c.self.inside.keys } in
     let here : LiesOn shown len w es o = subst (λ (x : Parts). LiesOn shown len w es x) (sym view) lies in
     let owner = c.in-Ok.owner in let shelf = c.with_storage.result in
-    let at = c.in-Ok.ensures.unmoved.seat in let p = (g.S.Caller.seat c.args.s.now).place in
+    let at = c.in-Ok.ensures.unmoved.caller in let p = (g.S.Caller.caller c.args.s.now).place in
     let pushes = c.in-Ok.ensures.list e es here.stack in
     let released = (c.release.ensures.released (subst (λ (s : CallerId). IsExact s) (sym at) e)).world in
     let is : new ≡ owner_given between p (slot_of owner) (standing_at between (slot_of owner)) =

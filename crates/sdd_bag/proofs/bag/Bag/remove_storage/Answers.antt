@@ -2,15 +2,15 @@ use Rattle.std.proofs.Common.{rules, ◌≡◌, ◌<◌, List, length, ap, ◌�
 use Rattle.sdd_bag.specs.Storage.{AreEmpty, KeptPlace}
 use Rattle.sdd_space.specs.CallerId.{CallerId, IsExact}
 use Rattle.sdd_space.specs.Shared.{slot_of}
-use Rattle.sdd_space.specs.World.{standing_at}
-use Rattle.sdd_space.specs.WorldChanges.{owner_given}
+use Rattle.sdd_world_model.specs.World.{standing_at}
+use Rattle.sdd_world_model.specs.WorldChanges.{owner_given}
 use Rattle.sdd_lists.specs.Stack.{cell_in}
-use Rattle.sdd_lists.proofs.Grows.{grows-if}
+use Rattle.sdd_lists.proofs.MoreWaiting.{grows-if}
 use Rattle.sdd_bag.specs.Overflow.{LiesOn, OverflowParts, RemovesStorage}
 use Rattle.sdd_bag.specs.Bag.{BagParts}
-use Rattle.sdd_bag.proofs.Lying.{none-there}
-use Rattle.sdd_bag.proofs.Removing.{given-there, lies-removed, not-crowded, removes}
-use Rattle.sdd_bag.proofs.Still.{moves-on}
+use Rattle.sdd_bag.proofs.StackStorages.{none-there}
+use Rattle.sdd_bag.proofs.StorageRemoval.{given-there, lies-removed, not-crowded, removes}
+use Rattle.sdd_bag.proofs.Unmoved.{moves-on}
 use Rattle.sdd_bag.proofs.bag.Bag.remove_storage.Goals as goal
 
 pub unreachable-requires : goal.unreachable-requires
@@ -36,7 +36,7 @@ remove_places-requires g c =
 
 pub returns-clause-unmoved : goal.returns-clause-unmoved
 returns-clause-unmoved g c =
-    moves-on g.S.Caller.seat g.S.Caller.known g.S.Shows.shows c.args.s.now c.pop.new.s c.release.new.s c.in-Ok-Some.ensures.unmoved c.release.ensures.unmoved
+    moves-on g.S.Caller.caller g.S.Caller.known g.S.Shows.shows c.args.s.now c.pop.new.s c.release.new.s c.in-Ok-Some.ensures.unmoved c.release.ensures.unmoved
 
 pub returns-clause-own : goal.returns-clause-own
 returns-clause-own g c = λ start grown.
@@ -60,7 +60,7 @@ returns-clause-list g c = λ es lies.
     let w = g.S.Caller.world c.args.s.now in let between = g.S.Caller.world c.pop.new.s in let new = g.S.Caller.world c.release.new.s in
     let o : Parts = record { stack = c.self.inside.stack; places = c.self.inside.keys } in
     let here : LiesOn shown len w es o = subst (λ (x : Parts). LiesOn shown len w es x) (sym view) lies in
-    let owner = c.in-Ok-Some.owner in let at = c.in-Ok-Some.ensures.unmoved.seat in let p = (g.S.Caller.seat c.args.s.now).place in
+    let owner = c.in-Ok-Some.owner in let at = c.in-Ok-Some.ensures.unmoved.caller in let p = (g.S.Caller.caller c.args.s.now).place in
     let popped = rw c.in-Ok-Some.field-0-is at (c.in-Ok-Some.ensures.list e es here.stack) in
     let k = popped.0.slot in let rest = popped.1 in let taken = popped.3 in
     let released = (c.release.ensures.released (subst (λ (s : CallerId). IsExact s) (sym at) e)).world in

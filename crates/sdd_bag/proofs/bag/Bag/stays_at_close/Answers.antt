@@ -1,4 +1,4 @@
-use Rattle.sdd_bag.proofs.Closed.{bag-closed, lies-closed}
+use Rattle.sdd_bag.proofs.BagUnderGuards.{bag-closed, lies-closed}
 use Rattle.sdd_bag.proofs.bag.Bag.stays_at_close.Goals as goal
 
 pub returns : goal.returns

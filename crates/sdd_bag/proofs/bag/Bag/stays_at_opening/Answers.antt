@@ -1,4 +1,4 @@
-use Rattle.sdd_bag.proofs.Closed.{bag-opened, lies-opened}
+use Rattle.sdd_bag.proofs.BagUnderGuards.{bag-opened, lies-opened}
 use Rattle.sdd_bag.proofs.bag.Bag.stays_at_opening.Goals as goal
 
 pub returns : goal.returns

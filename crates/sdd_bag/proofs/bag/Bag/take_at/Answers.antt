@@ -5,7 +5,7 @@ use Rattle.sdd_bag.specs.Lent.{AreEmptyFrom, TakesOut}
 use Rattle.sdd_bag.specs.Spots.{HasFirst, StandsIn, places_of, start_of}
 use Rattle.sdd_bag.specs.Storage.{KeptPlace, names_of}
 use Rattle.sdd_bag.specs.Storages.{StorageName}
-use Rattle.sdd_bag.proofs.Kept.{same-there}
+use Rattle.sdd_bag.proofs.InsertedKeys.{same-there}
 use Rattle.sdd_bag.proofs.Spots.{keys-asked, out-of}
 use Rattle.sdd_bag.proofs.bag.Bag.take_at.Goals as goal
 

@@ -1,4 +1,4 @@
-use Rattle.sdd_lists.proofs.Grows.{grows-spilled}
+use Rattle.sdd_lists.proofs.MoreWaiting.{grows-spilled}
 use Rattle.sdd_bag.proofs.giving.SurrenderGiver.atomic_shared.Goals as goal
 
 pub returns-clause-own : goal.returns-clause-own

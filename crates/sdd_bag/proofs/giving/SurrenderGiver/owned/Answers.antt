@@ -1,6 +1,6 @@
 use Rattle.std.proofs.Common.{true}
 use Rattle.sdd_space.specs.Owned.{slot_of}
-use Rattle.sdd_lists.proofs.Grows.{grows-if}
+use Rattle.sdd_lists.proofs.MoreWaiting.{grows-if}
 use Rattle.sdd_bag.proofs.giving.SurrenderGiver.owned.Goals as goal
 
 pub returns-clause-own : goal.returns-clause-own

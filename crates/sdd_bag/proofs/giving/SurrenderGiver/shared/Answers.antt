@@ -1,5 +1,5 @@
 use Rattle.sdd_space.specs.Shared.{slot_of}
-use Rattle.sdd_lists.proofs.Grows.{grows-if}
+use Rattle.sdd_lists.proofs.MoreWaiting.{grows-if}
 use Rattle.sdd_bag.proofs.giving.SurrenderGiver.shared.Goals as goal
 
 pub returns-clause-own : goal.returns-clause-own

@@ -9,16 +9,16 @@ returns g c =
     let old = c.args.self.now in let T = g.row.T.Denot in
     let next : old.at + 1 ≡ suc old.at = omega arith in
     record {
-      rests = rests-held g.B.Shelf.shown g.S.Caller.seat g.S.Caller.world old _ old.gap (old.at + 1) c.take.new.self c.tell.new.self c.requires.cursor refl
+      rests = rests-held g.B.Shelf.shown g.S.Caller.caller g.S.Caller.world old _ old.gap (old.at + 1) c.take.new.self c.tell.new.self c.requires.cursor refl
           (c.put_at.ensures ∙ ap (λ (h : Option T). whole_at old.behind old.gap old.at h old.bag.now) c.in-Some.ensures.value)
           (next ∙ ap (λ (h : Option T). passed old.at h) c.in-Some.ensures.value) c.take.ensures.after;
     }
 
 pub returns-in_default : goal.returns-in_default
 returns-in_default g c =
-    let old = c.args.self.now in let T = g.row.T.Denot in let shown = g.B.Shelf.shown in let seat = g.S.Caller.seat in let world = g.S.Caller.world in
+    let old = c.args.self.now in let T = g.row.T.Denot in let shown = g.B.Shelf.shown in let caller = g.S.Caller.caller in let world = g.S.Caller.world in
     let none : old.held ≡ None = sym c.in_default.ensures.value in
     record {
-      rests = rests-held shown seat world old old.bag old.gap old.at c.take.new.self old.fits c.requires.cursor refl
-          (sym (whole-old shown seat world old c.requires.cursor none)) (ap (λ (h : Option T). passed old.at h) (sym none)) c.take.ensures.after;
+      rests = rests-held shown caller world old old.bag old.gap old.at c.take.new.self old.fits c.requires.cursor refl
+          (sym (whole-old shown caller world old c.requires.cursor none)) (ap (λ (h : Option T). passed old.at h) (sym none)) c.take.ensures.after;
     }

@@ -9,16 +9,16 @@ use Rattle.sdd_bag.proofs.iter_mut.IterMut.take_here.Goals as goal
 pub take_at-requires : goal.take_at-requires
 take_at-requires g c =
     let is = c.requires.cursor in
-    (search rules, (is.stands, first-old g.B.Shelf.shown g.S.Caller.seat g.S.Caller.world c.args.self.now is c.requires.none))
+    (search rules, (is.stands, first-old g.B.Shelf.shown g.S.Caller.caller g.S.Caller.world c.args.self.now is c.requires.none))
 
 pub returns-in-Some-clause-lent : goal.returns-in-Some-clause-lent
 returns-in-Some-clause-lent g c = λ yes.
-    let shown = g.B.Shelf.shown in let seat = g.S.Caller.seat in let world = g.S.Caller.world in let old = c.args.self.now in
+    let shown = g.B.Shelf.shown in let caller = g.S.Caller.caller in let world = g.S.Caller.world in let old = c.args.self.now in
     let told = c.in-Some.ensures in let v = c.in-Some.value in (
       v,
       ap (λ q. q.held) c.hold.ensures,
-      λ w. subst (λ q. Lends shown seat world v w old (record q { held = Some w })) (sym c.hold.ensures)
-          (lends shown seat world old c.requires.cursor c.requires.none _ c.in-Some.gap v c.tell.new.self refl told.rest told.names told.few told.out.0
+      λ w. subst (λ q. Lends shown caller world v w old (record q { held = Some w })) (sym c.hold.ensures)
+          (lends shown caller world old c.requires.cursor c.requires.none _ c.in-Some.gap v c.tell.new.self refl told.rest told.names told.few told.out.0
           told.out.1 w),
     )
 
@@ -31,7 +31,7 @@ returns-in-None-clause-passed g c = λ no.
 
 pub returns-in-None-clause-rests : goal.returns-in-None-clause-rests
 returns-in-None-clause-rests g c = λ no.
-    let shown = g.B.Shelf.shown in let seat = g.S.Caller.seat in let world = g.S.Caller.world in let old = c.args.self.now in
+    let shown = g.B.Shelf.shown in let caller = g.S.Caller.caller in let world = g.S.Caller.world in let old = c.args.self.now in
     let none = c.requires.none in let is = c.requires.cursor in
-    rests-held shown seat world old _ old.gap old.at old.held c.tell.new.self is refl
-    (c.in-None.ensures.out.0 ∙ sym (whole-old shown seat world old is none)) (ap (λ (h : Option g.row.T.Denot). passed old.at h) (sym none)) none
+    rests-held shown caller world old _ old.gap old.at old.held c.tell.new.self is refl
+    (c.in-None.ensures.out.0 ∙ sym (whole-old shown caller world old is none)) (ap (λ (h : Option g.row.T.Denot). passed old.at h) (sym none)) none

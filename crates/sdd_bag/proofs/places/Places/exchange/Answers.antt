@@ -2,7 +2,7 @@ use Rattle.std.proofs.Common.{◌≡◌, ◌++◌, List, Some, length, map, slic
 use Rattle.std.proofs.lemmas.List.{length-map}
 use Rattle.sdd_bag.specs.KeyedPlaces.{PlaceName}
 use Rattle.sdd_bag.specs.Storage.{kept_place}
-use Rattle.sdd_bag.proofs.Kept.{get-front, get-inside}
+use Rattle.sdd_bag.proofs.InsertedKeys.{get-front, get-inside}
 use Rattle.sdd_bag.proofs.places.Places.exchange.Goals as goal
 
 pub exchange-requires-clause-key : goal.exchange-requires-clause-key

@@ -3,7 +3,7 @@ use mathlib.Core.Logic.{dite}
 use native.Mathlib.Decide.{ℕ_discrete}
 use Rattle.sdd_bag.specs.Storage.{KeptPlace, kept_place, names_of, value_at, values_in, with_value_at}
 use Rattle.sdd_bag.specs.Values.{HasOneMore}
-use Rattle.sdd_bag.proofs.Orders.{more-behind}
+use Rattle.sdd_bag.proofs.OneMore.{more-behind}
 use Rattle.sdd_bag.proofs.Prefixes.{with-none, with-other}
 use Rattle.sdd_bag.proofs.Values.{names-same, one-out}
 use Rattle.sdd_bag.proofs.places.Places.fold_out.Goals as goal
@@ -13,7 +13,8 @@ loop-left-preserved g c =
     let Places : Type 0 = List (KeptPlace g.row.T.Denot) in let inv = c.loop-left.invariant in let at = c.loop-left.left - 1 in
     let ps : Places = map kept_place c.loop-left.keys.kept in let qs : Places = map kept_place c.exchange-value.new.keys.kept in
     let now : qs ≡ with_value_at ps at None = c.exchange-value.ensures.now in let v = c.in-Some.value in
-    let one = subst (λ (rs : Places). HasOneMore v (values_in rs) (values_in ps)) (sym now) (one-out ps at v (sym c.exchange-value.ensures.was ∙ c.in-Some.is)) in
+    let one = subst (λ (rs : Places). HasOneMore v (values_in rs) (values_in ps)) (sym now) (one-out ps at v (sym c.exchange-value.ensures.was
+    ∙ c.in-Some.is)) in
     record {
       callable = search of_calls;
       fewer = omega (arith, inv.fewer);

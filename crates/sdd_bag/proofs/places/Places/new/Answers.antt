@@ -3,7 +3,7 @@ use Rattle.std.proofs.lemmas.List.{length-set, take_all}
 use Rattle.sdd_bag.specs.KeptValues.{inserted}
 use Rattle.sdd_bag.specs.KeyedPlaces.{PlaceName}
 use Rattle.sdd_bag.specs.Storage.{KeptPlace, empty_place, kept_place}
-use Rattle.sdd_bag.proofs.Kept.{new-behind}
+use Rattle.sdd_bag.proofs.InsertedKeys.{new-behind}
 use Rattle.sdd_bag.proofs.places.Places.new.Goals as goal
 
 pub loop-at-preserved : goal.loop-at-preserved

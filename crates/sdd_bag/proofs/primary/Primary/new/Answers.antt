@@ -3,7 +3,7 @@ use Rattle.std.proofs.lemmas.List.{append-nil}
 use Rattle.sdd_bag.specs.KeyedPlaces.{PlaceName}
 use Rattle.sdd_bag.specs.Storage.{KeptPlace, empty_place, names_of, values_in}
 use Rattle.sdd_bag.specs.Storages.{StorageName}
-use Rattle.sdd_bag.proofs.Changes.{new-long, new-names, new-values}
+use Rattle.sdd_bag.proofs.PrimaryChanges.{new-long, new-names, new-values}
 use Rattle.sdd_bag.proofs.primary.Primary.new.Goals as goal
 
 pub invariant_of-result : goal.invariant_of-result

@@ -2,7 +2,7 @@ use Rattle.std.proofs.Common.{◌≡◌, [], subst}
 use Rattle.std.specs.Prelude.{MatchOption}
 use Rattle.sdd_bag.specs.Values.{HasOneMore}
 use Rattle.sdd_bag.specs.Primary.{PrimaryParts, held_by}
-use Rattle.sdd_bag.proofs.Changes.{primary-popped}
+use Rattle.sdd_bag.proofs.PrimaryChanges.{primary-popped}
 use Rattle.sdd_bag.proofs.primary.Primary.pop.Goals as goal
 
 pub returns-clause-popped : goal.returns-clause-popped

@@ -2,7 +2,7 @@ use Rattle.std.proofs.Common.{◌≡◌, ◌<◌, length, subst}
 use Rattle.std.specs.Prelude.{MatchResult}
 use Rattle.sdd_bag.specs.Values.{HasOneMore}
 use Rattle.sdd_bag.specs.Primary.{PrimaryParts, held_by}
-use Rattle.sdd_bag.proofs.Changes.{primary-pushed}
+use Rattle.sdd_bag.proofs.PrimaryChanges.{primary-pushed}
 use Rattle.sdd_bag.proofs.primary.Primary.push.Goals as goal
 
 pub returns-clause-pushed : goal.returns-clause-pushed

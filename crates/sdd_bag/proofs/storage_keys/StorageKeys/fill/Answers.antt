@@ -1,7 +1,7 @@
 use Rattle.std.proofs.Common.{◌+◌, List, map, sym, subst}
 use Rattle.sdd_bag.specs.Lent.{IsGap}
 use Rattle.sdd_bag.specs.Storage.{AreCounted, KeptPlace, kept_place}
-use Rattle.sdd_bag.proofs.Gaps.{filled-counted}
+use Rattle.sdd_bag.proofs.LentValues.{filled-counted}
 use Rattle.sdd_bag.proofs.storage_keys.StorageKeys.fill.Goals as goal
 
 pub invariant_of-self : goal.invariant_of-self

@@ -1,4 +1,4 @@
-use Rattle.sdd_bag.proofs.Gaps.{first-filled}
+use Rattle.sdd_bag.proofs.LentValues.{first-filled}
 use Rattle.std.proofs.Common.{◌≡◌, List, is_some, true, subst}
 use Rattle.sdd_bag.specs.Storage.{AreEmpty, KeptPlace, value_at}
 use Rattle.sdd_bag.proofs.storage_keys.StorageKeys.fill_in_order.Goals as goal

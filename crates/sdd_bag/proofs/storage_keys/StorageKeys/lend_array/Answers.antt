@@ -46,7 +46,8 @@ returns-clause-changed g c = λ first before so.
     let Places : Type 0 = List (KeptPlace g.row.T.Denot) in let len = g.row.LEN in let start = c.args.start in let count = c.count_from-count.result in
     let ps : Places = map kept_place c.self.inside.keys.kept in let qs : Places = map kept_place c.lend_first.new.keys.kept in
     let g' = c.lend_first.result in let calls = g.F.FnMut in
-    let done = c.lend_first.ensures.changed first before (subst (λ (rs : Places). ChangesFirst calls start first before rs c.args.change) (sym c.self.view_is) so) in
+    let done = c.lend_first.ensures.changed first before (subst (λ (rs : Places). ChangesFirst calls start first before rs c.args.change)
+    (sym c.self.view_is) so) in
     let all : (start + count) + (len - count) ≡ start + len = omega (arith, c.count_from-count.ensures.most) in
     let at : (k : ℕ) → k < len → start + k < length c.args.self.now = keys-inside c.args.places.now c.args.self.now start len c.requires.long c.requires.keys in
     subst (λ (n : ℕ). ChangesFirst calls n first before qs g') all

@@ -1,7 +1,7 @@
 use Rattle.std.proofs.Common.{rules, ◌+◌, List, Some, ap, ◌∙◌, sym, subst}
 use Rattle.sdd_bag.specs.Lent.{IsGap}
 use Rattle.sdd_bag.specs.Storage.{KeptPlace, names_of, with_value_at}
-use Rattle.sdd_bag.proofs.Gaps.{back-gap, back-other, gap-with}
+use Rattle.sdd_bag.proofs.LentValues.{back-gap, back-other, gap-with}
 use Rattle.sdd_bag.proofs.Values.{names-same}
 use Rattle.sdd_bag.proofs.storage_keys.StorageKeys.put_back.Goals as goal
 

@@ -2,7 +2,7 @@ use Rattle.std.proofs.Common.{◌+◌, List, Some, map, length, sym, ap, subst, 
 use Rattle.std.proofs.lemmas.List.{length-map}
 use Rattle.sdd_bag.specs.Storage.{AreCounted, KeptPlace, kept_place, names_of, with_value_at}
 use Rattle.sdd_bag.proofs.Changing.{same-counted, some-kept}
-use Rattle.sdd_bag.proofs.Kept.{get-inside}
+use Rattle.sdd_bag.proofs.InsertedKeys.{get-inside}
 use Rattle.sdd_bag.proofs.Values.{names-same}
 use Rattle.sdd_bag.proofs.storage_keys.StorageKeys.swap.Goals as goal
 

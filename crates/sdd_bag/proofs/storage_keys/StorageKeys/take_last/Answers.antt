@@ -1,7 +1,7 @@
 use Rattle.std.proofs.Common.{◌≡◌, ◌+◌, List, None, map, sym, ap, ◌∙◌, subst, arith}
 use Rattle.sdd_bag.specs.Lent.{TakesLast}
 use Rattle.sdd_bag.specs.Storage.{AreCounted, KeptPlace, kept_place, names_of}
-use Rattle.sdd_bag.proofs.Gaps.{last-taken}
+use Rattle.sdd_bag.proofs.LentValues.{last-taken}
 use Rattle.sdd_bag.proofs.Prefixes.{one-fewer}
 use Rattle.sdd_bag.proofs.Values.{names-same}
 use Rattle.sdd_bag.proofs.storage_keys.StorageKeys.take_last.Goals as goal

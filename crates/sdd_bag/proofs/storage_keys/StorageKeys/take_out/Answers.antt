@@ -1,7 +1,7 @@
 use Rattle.std.proofs.Common.{rules, ◌+◌, ◌<◌, ◌^◌, List, None, Some, is_some, refl, ap, ◌∙◌, arith}
 use Rattle.sdd_bag.specs.Storage.{KeptPlace, names_of, value_at}
 use Rattle.sdd_bag.proofs.Changing.{keys-inside}
-use Rattle.sdd_bag.proofs.Gaps.{array-kept, out-last, out-other}
+use Rattle.sdd_bag.proofs.LentValues.{array-kept, out-last, out-other}
 use Rattle.sdd_bag.proofs.Prefixes.{with-other}
 use Rattle.sdd_bag.proofs.Values.{names-same}
 use Rattle.sdd_bag.proofs.storage_keys.StorageKeys.take_out.Goals as goal

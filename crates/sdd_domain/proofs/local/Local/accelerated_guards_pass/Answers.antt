@@ -1,5 +1,5 @@
-use Rattle.sdd_space.proofs.Passing.{guards-pass}
-use Rattle.sdd_domain_slots.specs.Local.{world_of}
+use Rattle.sdd_world_model.proofs.AcceleratedGuards.{guards-pass}
+use Rattle.sdd_domain_steps.specs.Local.{world_of}
 use Rattle.sdd_domain.proofs.local.Local.accelerated_guards_pass.Goals as goal
 
 pub returns : goal.returns

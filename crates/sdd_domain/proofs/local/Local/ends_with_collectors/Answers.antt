@@ -1,5 +1,5 @@
-use Rattle.sdd_space.proofs.Collecting.{collected-ends}
-use Rattle.sdd_domain_slots.specs.Local.{world_of}
+use Rattle.sdd_world_model.proofs.Collecting.{collected-ends}
+use Rattle.sdd_domain_steps.specs.Local.{world_of}
 use Rattle.sdd_domain.proofs.local.Local.ends_with_collectors.Goals as goal
 
 pub returns : goal.returns

@@ -1,5 +1,5 @@
-use Rattle.sdd_space.proofs.Four.{four-guards}
-use Rattle.sdd_domain_slots.specs.Local.{world_of}
+use Rattle.sdd_world_model.proofs.AcceleratedReclaim.{four-guards}
+use Rattle.sdd_domain_steps.specs.Local.{world_of}
 use Rattle.sdd_domain.proofs.local.Local.four_guards_reclaim.Goals as goal
 
 pub returns : goal.returns

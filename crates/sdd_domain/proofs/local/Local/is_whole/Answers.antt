@@ -1,4 +1,4 @@
-use Rattle.sdd_domain.proofs.Sound.{lives, shut_there}
+use Rattle.sdd_domain_core.proofs.Sound.{lives, shut_there}
 use Rattle.sdd_domain.proofs.local.Local.is_whole.Goals as goal
 
 pub returns-clause-place : goal.returns-clause-place

@@ -1,4 +1,4 @@
-use Rattle.sdd_space.proofs.Passing.{items-pass}
+use Rattle.sdd_world_model.proofs.AcceleratedGuards.{items-pass}
 use Rattle.sdd_domain.proofs.local.Local.items_pass.Goals as goal
 
 pub returns : goal.returns

@@ -1,4 +1,4 @@
-use Rattle.sdd_space.proofs.Ledger.{ledger-laws}
+use Rattle.sdd_world_model.proofs.Ledger.{ledger-laws}
 use Rattle.sdd_domain.proofs.local.Local.keeps_its_ledger.Goals as goal
 
 pub returns : goal.returns

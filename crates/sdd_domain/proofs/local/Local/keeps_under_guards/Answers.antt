@@ -1,6 +1,6 @@
-use Rattle.sdd_space.proofs.Under.{keeps-under-guards, keeps-collected-under-guards, keeps-fresh-under-guards}
-use Rattle.sdd_space.proofs.UnderJobs.{keeps-jobs-under-guards, keeps-fresh-jobs-under-guards}
-use Rattle.sdd_domain_slots.specs.Local.{world_of}
+use Rattle.sdd_world_model.proofs.UnderGuards.{keeps-under-guards, keeps-collected-under-guards, keeps-fresh-under-guards}
+use Rattle.sdd_world_model.proofs.JobsUnderGuards.{keeps-jobs-under-guards, keeps-fresh-jobs-under-guards}
+use Rattle.sdd_domain_steps.specs.Local.{world_of}
 use Rattle.sdd_domain.proofs.local.Local.keeps_under_guards.Goals as goal
 
 pub returns : goal.returns

@@ -1,5 +1,5 @@
-use Rattle.sdd_space.proofs.Left.{goes-at-latest, goes-in-time}
-use Rattle.sdd_domain_slots.specs.Local.{world_of}
+use Rattle.sdd_world_model.proofs.GoesAtLatest.{goes-at-latest, goes-in-time}
+use Rattle.sdd_domain_steps.specs.Local.{world_of}
 use Rattle.sdd_domain.proofs.local.Local.reclaims_in_time.Goals as goal
 
 pub returns : goal.returns

@@ -1,5 +1,5 @@
-use Rattle.sdd_space.proofs.Jobs.{runs-once}
-use Rattle.sdd_domain_slots.specs.Local.{world_of}
+use Rattle.sdd_world_model.proofs.Jobs.{runs-once}
+use Rattle.sdd_domain_steps.specs.Local.{world_of}
 use Rattle.sdd_domain.proofs.local.Local.runs_jobs_once.Goals as goal
 
 pub returns : goal.returns

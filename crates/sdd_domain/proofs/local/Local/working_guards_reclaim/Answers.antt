@@ -1,5 +1,5 @@
-use Rattle.sdd_space.proofs.Working.{working-guards-reclaim, working-guards-pass, busy-guards-count}
-use Rattle.sdd_domain_slots.specs.Local.{world_of}
+use Rattle.sdd_world_model.proofs.WorkingGuards.{working-guards-reclaim, working-guards-pass, busy-guards-count}
+use Rattle.sdd_domain_steps.specs.Local.{world_of}
 use Rattle.sdd_domain.proofs.local.Local.working_guards_reclaim.Goals as goal
 
 pub returns : goal.returns

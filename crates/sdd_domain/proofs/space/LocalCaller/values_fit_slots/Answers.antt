@@ -1,4 +1,4 @@
-use Rattle.sdd_domain.proofs.Filled.{as_many, bare}
+use Rattle.sdd_domain.proofs.FreeSlots.{as_many, bare}
 use Rattle.sdd_domain.proofs.space.LocalCaller.values_fit_slots.Goals as goal
 
 pub returns-clause-many : goal.returns-clause-many

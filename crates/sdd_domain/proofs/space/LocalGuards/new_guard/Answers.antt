@@ -3,59 +3,59 @@ use Rattle.sdd_shared_values.specs.SharedValues.{showing}
 use Rattle.sdd_participants.specs.declared.participant.Participant.{Participant}
 use Rattle.sdd_participants.specs.EpochState as time
 use Rattle.sdd_core.specs.declared.limits.Limits.{Limits}
-use Rattle.sdd_space.specs.WorldChanges.{opened}
-use Rattle.sdd_domain_slots.specs.SpaceIds.{home_in}
-use Rattle.sdd_domain_slots.specs.LocalState.{LocalState, IsLone, HasOpenGuard, IsEntered}
-use Rattle.sdd_domain_slots.specs.Local.{LocalModel, world_of}
-use Rattle.sdd_domain.specs.Sound.{IsSound}
-use Rattle.sdd_domain.specs.Space.{is_lone}
-use Rattle.sdd_domain.proofs.Partners.{same_partner}
-use Rattle.sdd_domain_slots.proofs.Arrivals.{due_stayed}
-use Rattle.sdd_domain.proofs.Exact.{lone_is, guarded_is, opened_same, opened_changed, opened_idle}
-use Rattle.sdd_domain.proofs.Guarding.{goes_on, WasIdle, is_over, stands, tied_stands, found_after, open_after, same_count, nested_sound, nested_exact, nested_keeps, can_nest}
-use Rattle.sdd_domain.proofs.Sound.{sound_opened}
-use Rattle.sdd_domain.specs.OpeningTally.{CountsReclaimed}
+use Rattle.sdd_world_model.specs.WorldChanges.{opened}
+use Rattle.sdd_domain_steps.specs.SpaceIds.{home_in}
+use Rattle.sdd_domain_steps.specs.LocalState.{LocalState, IsLone, HasOpenGuard, IsEntered}
+use Rattle.sdd_domain_steps.specs.Local.{LocalModel, world_of}
+use Rattle.sdd_domain_core.specs.Sound.{IsSound}
+use Rattle.sdd_domain_core.specs.Space.{is_lone}
+use Rattle.sdd_domain.proofs.Givers.{same_giver}
+use Rattle.sdd_domain_steps.proofs.Arrivals.{due_stayed}
+use Rattle.sdd_domain_core.proofs.GuardCalls.{lone_is, guarded_is, opened_same, opened_changed, opened_idle}
+use Rattle.sdd_domain_core.proofs.GuardOpenings.{goes_on, WasIdle, is_over, stands, tied_stands, found_after, open_after, same_count, nested_sound, nested_exact, nested_keeps, can_nest}
+use Rattle.sdd_domain_core.proofs.Sound.{sound_opened}
+use Rattle.sdd_domain_core.specs.OpeningTally.{CountsReclaimed}
 use Rattle.sdd_domain.proofs.OpeningTallies.{nested_counts, counted_at, counted_due, counted_over}
-use Rattle.sdd_space.specs.KnownEpochs.{KnowsFound}
-use Rattle.sdd_space.specs.ParticipantChanges.{all_awaiting}
-use Rattle.sdd_domain.specs.Space.{known_of}
-use Rattle.sdd_domain_slots.specs.WaitingItems.{arrived_at}
+use Rattle.sdd_world_model.specs.KnownEpochs.{KnowsFound}
+use Rattle.sdd_world_model.specs.ParticipantChanges.{all_awaiting}
+use Rattle.sdd_domain_core.specs.Space.{known_of}
+use Rattle.sdd_domain_steps.specs.WaitingItems.{arrived_at}
 use Rattle.sdd_domain.proofs.space.LocalGuards.new_guard.Given.{Over}
 use Rattle.sdd_domain.proofs.space.LocalGuards.new_guard.Goals.{then-goes_on, else-goes_on}
 use Rattle.sdd_domain.proofs.space.LocalGuards.new_guard.Goals as goal
 
 pub invariant_of-self : goal.invariant_of-self
-invariant_of-self g c = let v : LocalModel _ _ = (c.self-inside.view_is 0).partner in let inner = same_partner c.self-inside.view_is in
+invariant_of-self g c = let v : LocalModel _ _ = (c.self-inside.view_is 0).giver in let inner = same_giver c.self-inside.view_is in
     let some_open : HasOpenGuard v.member = search rules in
     nested_sound v c.nest.new.self _ g.T.Item.holds c.nest.result c.nest.ensures some_open c.self-inside.invariant
     (subst (IsSound g.T.Item.holds) (sym inner) c.self.invariant)
 
 pub returns-then-is_guarded-clause-exact : goal.returns-then-is_guarded-clause-exact
-returns-then-is_guarded-clause-exact g c = let v : LocalModel _ _ = (c.self-inside.view_is 0).partner in let inner = same_partner c.self-inside.view_is in
+returns-then-is_guarded-clause-exact g c = let v : LocalModel _ _ = (c.self-inside.view_is 0).giver in let inner = same_giver c.self-inside.view_is in
     let some_open : HasOpenGuard v.member = search rules in
     nested_exact v c.nest.new.self _ g.T.Item.holds c.nest.result c.args.self.now (inner ∙ c.self.view_is) c.nest.ensures some_open c.self-inside.invariant
 
 pub returns-then-is_guarded-clause-keeps : goal.returns-then-is_guarded-clause-keeps
 returns-then-is_guarded-clause-keeps g c = λ is_open.
-    let v : LocalModel _ _ = (c.self-inside.view_is 0).partner in let inner = same_partner c.self-inside.view_is in
+    let v : LocalModel _ _ = (c.self-inside.view_is 0).giver in let inner = same_giver c.self-inside.view_is in
     nested_keeps v c.nest.new.self _ g.T.Item.holds (showing g.row.T) c.nest.result c.args.self.now (inner ∙ c.self.view_is) c.nest.ensures
 
 pub invariant_of-self-inside-then-goes_on : goal.invariant_of-self-inside-then-goes_on
-invariant_of-self-inside-then-goes_on g c one = let v : LocalModel _ _ = (c.self-inside.view_is 0).partner in let inner = same_partner c.self-inside.view_is in
+invariant_of-self-inside-then-goes_on g c one = let v : LocalModel _ _ = (c.self-inside.view_is 0).giver in let inner = same_giver c.self-inside.view_is in
     let e = c.enter-guard.ensures.entered in let settled = ap (λ (z : LocalModel g.row.T.Denot g.row.J.Denot). z.member.due) inner ∙ c.self.invariant.settled in
     let so = stands e.0 c.enter-guard.result.1 v.member e.1 c.enter-guard.new.self e.2 e.3 in
     let lone : IsLone v.member = sym (ap (λ (l : Limits). l.participants) so.limits) ∙ one in
     tied_stands v (c.self-inside.invariant lone) settled e.0 c.enter-guard.result.1 e.1 c.enter-guard.new.self lone e.2 e.3
 
 pub invariant_of-self-inside-else-goes_on : goal.invariant_of-self-inside-else-goes_on
-invariant_of-self-inside-else-goes_on g c one = let v : LocalModel _ _ = (c.self-inside.view_is 0).partner in let inner = same_partner c.self-inside.view_is in
+invariant_of-self-inside-else-goes_on g c one = let v : LocalModel _ _ = (c.self-inside.view_is 0).giver in let inner = same_giver c.self-inside.view_is in
     let e = c.enter-guard.ensures.entered in let settled = ap (λ (z : LocalModel g.row.T.Denot g.row.J.Denot). z.member.due) inner ∙ c.self.invariant.settled in
     let so = stands e.0 c.enter-guard.result.1 v.member e.1 c.enter-guard.new.self e.2 e.3 in
     let lone : IsLone v.member = sym (ap (λ (l : Limits). l.participants) so.limits) ∙ one in
     tied_stands v (c.self-inside.invariant lone) settled e.0 c.enter-guard.result.1 e.1 c.enter-guard.new.self lone e.2 e.3
 
 pub invariant_of-self-then-goes_on : goal.invariant_of-self-then-goes_on
-invariant_of-self-then-goes_on g c = let v : LocalModel _ _ = (c.self-inside.view_is 0).partner in let inner = same_partner c.self-inside.view_is in
+invariant_of-self-then-goes_on g c = let v : LocalModel _ _ = (c.self-inside.view_is 0).giver in let inner = same_giver c.self-inside.view_is in
     let holds = g.T.Item.holds in let q : LocalModel g.row.T.Denot g.row.J.Denot = c.change.new.self in
     let e = c.enter-guard.ensures.entered in let settled = ap (λ (z : LocalModel g.row.T.Denot g.row.J.Denot). z.member.due) inner ∙ c.self.invariant.settled in
     let shut : v.member.own.guards ≡ 0 = search rules in
@@ -72,7 +72,7 @@ invariant_of-self-then-goes_on g c = let v : LocalModel _ _ = (c.self-inside.vie
     (λ f. went.0 (f ∙ sym (went.1.lone lone).0)) (world_of q) (c.change.ensures.exact there)))
 
 pub change-requires : goal.change-requires
-change-requires g c = let v : LocalModel _ _ = (c.self-inside.view_is 0).partner in let inner = same_partner c.self-inside.view_is in
+change-requires g c = let v : LocalModel _ _ = (c.self-inside.view_is 0).giver in let inner = same_giver c.self-inside.view_is in
     let e = c.enter-guard.ensures.entered in
     let went = goes_on e.0 c.enter-guard.result.1 v.member e.1 c.enter-guard.new.self e.2 e.3 c.if-goes_on.true in
     record {
@@ -81,7 +81,7 @@ change-requires g c = let v : LocalModel _ _ = (c.self-inside.view_is 0).partner
     }
 
 pub invariant_of-self-else-goes_on : goal.invariant_of-self-else-goes_on
-invariant_of-self-else-goes_on g c = let v : LocalModel _ _ = (c.self-inside.view_is 0).partner in let inner = same_partner c.self-inside.view_is in
+invariant_of-self-else-goes_on g c = let v : LocalModel _ _ = (c.self-inside.view_is 0).giver in let inner = same_giver c.self-inside.view_is in
     let holds = g.T.Item.holds in let n : LocalState _ = c.enter-guard.new.self in
     let e = c.enter-guard.ensures.entered in let settled = ap (λ (z : LocalModel g.row.T.Denot g.row.J.Denot). z.member.due) inner ∙ c.self.invariant.settled in
     let shut : v.member.own.guards ≡ 0 = search rules in let sound = subst (IsSound holds) (sym inner) c.self.invariant in
@@ -97,9 +97,9 @@ invariant_of-self-else-goes_on g c = let v : LocalModel _ _ = (c.self-inside.vie
     (is_over e.0 c.enter-guard.result.1 v.member e.1 n e.2 e.3 c.if-goes_on.false)
 
 -- the world after it, with a change and without one
-opened_there : (g : Over) (c : goal.Joined-goes_on g) → IsLone (c.self-inside.view_is 0).partner.member
-    → world_of c.if-goes_on.self ≡ opened g.T.Item.holds (world_of (c.self-inside.view_is 0).partner) (c.self-inside.view_is 0).partner.member.place
-opened_there g c lone = let v : LocalModel _ _ = (c.self-inside.view_is 0).partner in let inner = same_partner c.self-inside.view_is in
+opened_there : (g : Over) (c : goal.Joined-goes_on g) → IsLone (c.self-inside.view_is 0).giver.member
+    → world_of c.if-goes_on.self ≡ opened g.T.Item.holds (world_of (c.self-inside.view_is 0).giver) (c.self-inside.view_is 0).giver.member.place
+opened_there g c lone = let v : LocalModel _ _ = (c.self-inside.view_is 0).giver in let inner = same_giver c.self-inside.view_is in
     let holds = g.T.Item.holds in let n : LocalState _ = c.enter-guard.new.self in let tied = c.self-inside.invariant lone in
     let e = c.enter-guard.ensures.entered in let settled = ap (λ (z : LocalModel g.row.T.Denot g.row.J.Denot). z.member.due) inner ∙ c.self.invariant.settled in
     let shut : v.member.own.guards ≡ 0 = search rules in
@@ -116,7 +116,7 @@ opened_there g c lone = let v : LocalModel _ _ = (c.self-inside.view_is 0).partn
     ]
 
 pub returns-clause-exact : goal.returns-clause-exact
-returns-clause-exact g c = λ exact. let v : LocalModel _ _ = (c.self-inside.view_is 0).partner in let inner = same_partner c.self-inside.view_is in
+returns-clause-exact g c = λ exact. let v : LocalModel _ _ = (c.self-inside.view_is 0).giver in let inner = same_giver c.self-inside.view_is in
     let now = inner ∙ c.self.view_is in
     let lone = lone_is v.member (subst (λ (q : LocalModel g.row.T.Denot g.row.J.Denot). IsTrue (is_lone q.member)) (sym now) exact) in (
       subst (λ (q : LocalModel g.row.T.Denot g.row.J.Denot). time.CanNest (world_of q).time q.member.place) now (can_nest v c.enter-guard.ensures.nests),
@@ -124,13 +124,13 @@ returns-clause-exact g c = λ exact. let v : LocalModel _ _ = (c.self-inside.vie
     )
 
 pub returns-clause-lone : goal.returns-clause-lone
-returns-clause-lone g c = λ one. let v : LocalModel _ _ = (c.self-inside.view_is 0).partner in let inner = same_partner c.self-inside.view_is in
+returns-clause-lone g c = λ one. let v : LocalModel _ _ = (c.self-inside.view_is 0).giver in let inner = same_giver c.self-inside.view_is in
     let now = inner ∙ c.self.view_is in
     let lone = lone_is v.member (subst (λ (q : LocalModel g.row.T.Denot g.row.J.Denot). IsTrue (is_lone q.member)) (sym now) one) in
     same_count g.T.Item.holds v c.if-goes_on.self (opened_there g c lone) ∙ ap (λ (q : LocalModel g.row.T.Denot g.row.J.Denot). q.member.known) now
 
 pub returns-clause-known : goal.returns-clause-known
-returns-clause-known g c = let v : LocalModel _ _ = (c.self-inside.view_is 0).partner in let inner = same_partner c.self-inside.view_is in
+returns-clause-known g c = let v : LocalModel _ _ = (c.self-inside.view_is 0).giver in let inner = same_giver c.self-inside.view_is in
     let now = inner ∙ c.self.view_is in let p : LocalModel g.row.T.Denot g.row.J.Denot = c.args.self.now in let n : LocalState _ = c.enter-guard.new.self in
     let e = c.enter-guard.ensures.entered in let shut : v.member.own.guards ≡ 0 = search rules in
     let so = stands e.0 c.enter-guard.result.1 v.member e.1 n e.2 e.3 in let knows = so.knows in let known = so.known in
@@ -155,13 +155,13 @@ returns-clause-known g c = let v : LocalModel _ _ = (c.self-inside.view_is 0).pa
     }
 
 pub returns-then-is_guarded-clause-says : goal.returns-then-is_guarded-clause-says
-returns-then-is_guarded-clause-says g c = let v : LocalModel _ _ = (c.self-inside.view_is 0).partner in let inner = same_partner c.self-inside.view_is in
+returns-then-is_guarded-clause-says g c = let v : LocalModel _ _ = (c.self-inside.view_is 0).giver in let inner = same_giver c.self-inside.view_is in
     let some_open : HasOpenGuard v.member = search rules in
     subst (λ (q : LocalModel g.row.T.Denot g.row.J.Denot). CountsReclaimed q.member c.nest.new.self) (inner ∙ c.self.view_is)
     (nested_counts _ v.member c.nest.new.self c.nest.result c.nest.ensures some_open)
 
 pub returns-clause-says : goal.returns-clause-says
-returns-clause-says g c = let v : LocalModel _ _ = (c.self-inside.view_is 0).partner in let inner = same_partner c.self-inside.view_is in
+returns-clause-says g c = let v : LocalModel _ _ = (c.self-inside.view_is 0).giver in let inner = same_giver c.self-inside.view_is in
     let now = inner ∙ c.self.view_is in let n : LocalState _ = c.enter-guard.new.self in
     let e = c.enter-guard.ensures.entered in let shut : v.member.own.guards ≡ 0 = search rules in
     subst (λ (q : LocalModel g.row.T.Denot g.row.J.Denot). CountsReclaimed q.member c.if-goes_on.self.member) now (elim c.if-goes_on.branch [

@@ -1,20 +1,20 @@
 use Rattle.std.proofs.Common.{rules, sym, refl, ap, ◌∙◌, subst}
 use Rattle.sdd_shared_values.specs.SharedValues.{showing}
 use Rattle.sdd_participants.specs.EpochState as time
-use Rattle.sdd_space.specs.WorldChanges.{stirred}
-use Rattle.sdd_space.proofs.Housed.{Whole-stirred}
-use Rattle.sdd_domain_slots.specs.SpaceIds.{home_in}
-use Rattle.sdd_domain_slots.specs.LocalState.{LocalState}
-use Rattle.sdd_domain_slots.specs.Local.{LocalModel, world_of}
-use Rattle.sdd_domain.specs.Sound.{IsSound}
-use Rattle.sdd_domain.proofs.Partners.{same_partner}
-use Rattle.sdd_domain.proofs.Alone.{steps_alone}
-use Rattle.sdd_domain.proofs.Kept.{keeps_own}
-use Rattle.sdd_domain.proofs.Sound.{sound_step}
+use Rattle.sdd_world_model.specs.WorldChanges.{stirred}
+use Rattle.sdd_world_model.proofs.PlacesMatchStates.{Whole-stirred}
+use Rattle.sdd_domain_steps.specs.SpaceIds.{home_in}
+use Rattle.sdd_domain_steps.specs.LocalState.{LocalState}
+use Rattle.sdd_domain_steps.specs.Local.{LocalModel, world_of}
+use Rattle.sdd_domain_core.specs.Sound.{IsSound}
+use Rattle.sdd_domain.proofs.Givers.{same_giver}
+use Rattle.sdd_domain_core.proofs.LoneCalls.{steps_alone}
+use Rattle.sdd_domain_core.proofs.ShownKept.{keeps_own}
+use Rattle.sdd_domain_core.proofs.Sound.{sound_step}
 use Rattle.sdd_domain.proofs.space.LocalGuards.set_has_garbage.Goals as goal
 
 pub invariant_of-self : goal.invariant_of-self
-invariant_of-self g c = let v : LocalModel _ _ = (c.self-inside.view_is 0).partner in let inner = same_partner c.self-inside.view_is in
+invariant_of-self g c = let v : LocalModel _ _ = (c.self-inside.view_is 0).giver in let inner = same_giver c.self-inside.view_is in
     let did = c.set_has_garbage.ensures in
     sound_step g.T.Item.holds v c.set_has_garbage.new.self (subst (IsSound g.T.Item.holds) (sym inner) c.self.invariant) stirred Whole-stirred
     (ap (λ (m : LocalState _). m.due) did) (ap (λ (m : LocalState _). m.slots.closes) did) (ap home_in did)
@@ -22,9 +22,9 @@ invariant_of-self g c = let v : LocalModel _ _ = (c.self-inside.view_is 0).partn
     ∙ steps_alone stirred v (record v { member = record v.member { own = time.with_garbage v.member.own } }) first first refl)
 
 pub returns-clause-unmoved : goal.returns-clause-unmoved
-returns-clause-unmoved g c = let v : LocalModel _ _ = (c.self-inside.view_is 0).partner in let inner = same_partner c.self-inside.view_is in
+returns-clause-unmoved g c = let v : LocalModel _ _ = (c.self-inside.view_is 0).giver in let inner = same_giver c.self-inside.view_is in
     record {
-      seat = search rules;
+      caller = search rules;
       known = search rules;
       shown = keeps_own (showing g.row.T) g.T.Item.holds v c.args.self.now (inner ∙ c.self.view_is)
           c.set_has_garbage.new.self (time.with_garbage v.member.own) v.member.known v.member.since c.set_has_garbage.ensures;

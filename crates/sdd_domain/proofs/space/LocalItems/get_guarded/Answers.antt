@@ -1,17 +1,17 @@
 use Rattle.std.proofs.Common.{rules, sym, ap, ◌∙◌, subst}
 use Rattle.sdd_rights.specs.StandingKind.{is_shared}
 use Rattle.sdd_rights.specs.Right.{number_of, kind_of}
-use Rattle.sdd_domain_slots.specs.SpaceIds.{home_in}
-use Rattle.sdd_domain_slots.specs.LocalState.{LocalState}
-use Rattle.sdd_domain_slots.specs.Local.{LocalModel, world_of}
-use Rattle.sdd_domain.specs.Sound.{IsSound}
-use Rattle.sdd_domain.proofs.Partners.{same_partner}
-use Rattle.sdd_domain.proofs.Owning.{closes_looks, owned_value, only_looks, same_world, shows_it, keeps_it}
-use Rattle.sdd_domain.proofs.Sound.{sound_step}
+use Rattle.sdd_domain_steps.specs.SpaceIds.{home_in}
+use Rattle.sdd_domain_steps.specs.LocalState.{LocalState}
+use Rattle.sdd_domain_steps.specs.Local.{LocalModel, world_of}
+use Rattle.sdd_domain_core.specs.Sound.{IsSound}
+use Rattle.sdd_domain.proofs.Givers.{same_giver}
+use Rattle.sdd_domain_core.proofs.OwnerLooks.{closes_looks, owned_value, only_looks, same_world, shows_it, keeps_it}
+use Rattle.sdd_domain_core.proofs.Sound.{sound_step}
 use Rattle.sdd_domain.proofs.space.LocalItems.get_guarded.Goals as goal
 
 pub invariant_of-self : goal.invariant_of-self
-invariant_of-self g c = let v : LocalModel _ _ = (c.self-inside.view_is 0).partner in let inner = same_partner c.self-inside.view_is in
+invariant_of-self g c = let v : LocalModel _ _ = (c.self-inside.view_is 0).giver in let inner = same_giver c.self-inside.view_is in
     let looks = c.get_guarded.ensures.looks in let m : LocalState _ = c.get_guarded.new.self in
     let only = only_looks g.row.T v m (number_of c.args.right.now) (is_shared (kind_of c.args.right.now)) c.get_guarded.result.now looks in
     sound_step g.T.Item.holds v m (subst (IsSound g.T.Item.holds) (sym inner) c.self.invariant) (λ w _. w) (λ w _ _ whole. whole)
@@ -21,16 +21,16 @@ invariant_of-self g c = let v : LocalModel _ _ = (c.self-inside.view_is 0).partn
     (is_shared (kind_of c.args.right.now)) c.get_guarded.result.now looks)
 
 pub returns-clause-shown : goal.returns-clause-shown
-returns-clause-shown g c = let v : LocalModel _ _ = (c.self-inside.view_is 0).partner in let inner = same_partner c.self-inside.view_is in
+returns-clause-shown g c = let v : LocalModel _ _ = (c.self-inside.view_is 0).giver in let inner = same_giver c.self-inside.view_is in
     shows_it g.row.T v c.get_guarded.new.self (number_of c.args.right.now) (is_shared (kind_of c.args.right.now)) c.get_guarded.result.now
     c.get_guarded.ensures.looks
     (owned_value g.row.T v (number_of c.args.right.now) (is_shared (kind_of c.args.right.now)) c.get_guarded.result.now c.self-inside.invariant
     c.codes.ensures c.get_guarded.ensures.recalled) g.T.Item.holds c.get_guarded.ensures.home c.get_guarded.ensures.once
 
 pub returns-clause-undisturbed : goal.returns-clause-undisturbed
-returns-clause-undisturbed g c = let v : LocalModel _ _ = (c.self-inside.view_is 0).partner in let inner = same_partner c.self-inside.view_is in
+returns-clause-undisturbed g c = let v : LocalModel _ _ = (c.self-inside.view_is 0).giver in let inner = same_giver c.self-inside.view_is in
     record {
-      seat = search rules;
+      caller = search rules;
       own = search rules;
       known = search rules;
       shown = keeps_it g.row.T v c.get_guarded.new.self (number_of c.args.right.now) (is_shared (kind_of c.args.right.now)) c.get_guarded.result.now
@@ -39,6 +39,6 @@ returns-clause-undisturbed g c = let v : LocalModel _ _ = (c.self-inside.view_is
     }
 
 pub returns-clause-exact : goal.returns-clause-exact
-returns-clause-exact g c = λ _. let v : LocalModel _ _ = (c.self-inside.view_is 0).partner in let inner = same_partner c.self-inside.view_is in
+returns-clause-exact g c = λ _. let v : LocalModel _ _ = (c.self-inside.view_is 0).giver in let inner = same_giver c.self-inside.view_is in
     same_world g.row.T v c.get_guarded.new.self (number_of c.args.right.now) (is_shared (kind_of c.args.right.now)) c.get_guarded.result.now
     c.get_guarded.ensures.looks ∙ ap world_of (inner ∙ c.self.view_is)

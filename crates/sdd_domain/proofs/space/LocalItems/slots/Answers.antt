@@ -1,6 +1,6 @@
 use Rattle.std.proofs.Common.{◌≡◌, rules, sym, ◌∙◌}
-use Rattle.sdd_domain_slots.specs.Local.{standing_in}
-use Rattle.sdd_domain.proofs.Listings.{listing_long}
+use Rattle.sdd_domain_steps.specs.Local.{standing_in}
+use Rattle.sdd_domain_core.proofs.Listings.{listing_long}
 use Rattle.sdd_domain.proofs.space.LocalItems.slots.Goals as goal
 
 pub returns-clause-exact : goal.returns-clause-exact

@@ -1,8 +1,8 @@
 use Rattle.std.proofs.Common.{subst}
 use Rattle.sdd_shared_values.specs.SharedValues.{showing}
-use Rattle.sdd_domain_slots.specs.Local.{LocalModel}
-use Rattle.sdd_domain.specs.Sound.{IsSound}
-use Rattle.sdd_domain.proofs.Sound.{held_at_home}
+use Rattle.sdd_domain_steps.specs.Local.{LocalModel}
+use Rattle.sdd_domain_core.specs.Sound.{IsSound}
+use Rattle.sdd_domain_core.proofs.Sound.{held_at_home}
 use Rattle.sdd_domain.proofs.space.LocalShows.shown_is_of_home.Goals as goal
 
 pub returns : goal.returns

@@ -1,15 +1,15 @@
 use Rattle.std.proofs.Common.{◌≡◌, ℕ, inr, ◌∙◌, ap, Option, Some, None, true, false, refl, sym, subst}
 use Rattle.std.specs.Prelude.{IsSome}
 use Rattle.std.proofs.lemmas.List.{get_or-set_same}
-use Rattle.sdd_space.specs.World.{World}
+use Rattle.sdd_world_model.specs.World.{World}
 use Rattle.sdd_space.specs.CallerId.{CallerId, IsExact}
 use Rattle.sdd_space.specs.Shared.{cell_of}
-use Rattle.sdd_space.specs.WorldChanges.{cell_closed, held_in, nulled, spilled, without_cell}
+use Rattle.sdd_world_model.specs.WorldChanges.{cell_closed, held_in, nulled, spilled, without_cell}
 use Rattle.sdd_core.specs.declared.tag.Tag.TheVariants.{None as no_tag}
 use Rattle.sdd_participants.specs.Slab.{IsFull}
 use Rattle.sdd_participants.specs.declared.standing.CellContents.{CellContents}
-use Rattle.sdd_lists.proofs.Fresh.{freed-again}
-use Rattle.sdd_lists.proofs.Grows.{grows-not, grows-spilled}
+use Rattle.sdd_lists.proofs.FreshLinks.{freed-again}
+use Rattle.sdd_lists.proofs.MoreWaiting.{grows-not, grows-spilled}
 use Rattle.sdd_lists.proofs.linked_entry.LinkedEntry.clone.Goals as goal
 
 pub returns-in-Err-clone_value-clause-own : goal.returns-in-Err-clone_value-clause-own
@@ -21,10 +21,10 @@ pub returns-in-Err-clone_value-clause-exact : goal.returns-in-Err-clone_value-cl
 returns-in-Err-clone_value-clause-exact g c = λ e.
     let w = g.S.Caller.world c.args.s.now in
     let o : ℕ = cell_of c.in-Ok.next in
-    let at1 = c.in-Ok.ensures.undisturbed.seat in
+    let at1 = c.in-Ok.ensures.undisturbed.caller in
     let made = c.in-Ok.ensures.exact e in
     let closed = c.close.ensures.exact (subst (λ (s : CallerId). IsExact s) (sym at1) e) in
-    let place = (g.S.Caller.seat c.null.new.s).place in
+    let place = (g.S.Caller.caller c.null.new.s).place in
     let nothing : CellContents = record { held = None; tag = no_tag } in
     let not_full : ¬ (IsFull w.cells) = λ full.
     let never : false ≡ true = subst (λ (x : Option CellContents). IsSome x) made.0.1 (full o None made.0.0) in absurd (cc) in (

@@ -3,7 +3,7 @@ use Rattle.sdd_core.specs.declared.tag.Tag.{Tag}
 use Rattle.sdd_core.specs.declared.tag.Tag.TheVariants as tag
 use Rattle.sdd_space.specs.Shared.{cell_of}
 use Rattle.sdd_lists.specs.Lists.{may_delete}
-use Rattle.sdd_lists.proofs.Marking.{exact-by, list-by-answer, queue-by-answer}
+use Rattle.sdd_lists.proofs.MarkedEntries.{exact-by, list-by-answer, queue-by-answer}
 use Rattle.sdd_lists.proofs.linked_list.LinkedList.delete_self.Goals as goal
 
 plain : tag.Second ≢ tag.Both

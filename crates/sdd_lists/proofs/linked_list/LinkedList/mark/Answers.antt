@@ -3,7 +3,7 @@ use Rattle.sdd_core.specs.declared.tag.Tag.{Tag}
 use Rattle.sdd_core.specs.declared.tag.Tag.TheVariants as tag
 use Rattle.sdd_space.specs.Shared.{cell_of}
 use Rattle.sdd_lists.specs.Marks.{says_clear}
-use Rattle.sdd_lists.proofs.Marking.{exact-by, list-by-answer, queue-by-answer}
+use Rattle.sdd_lists.proofs.MarkedEntries.{exact-by, list-by-answer, queue-by-answer}
 use Rattle.sdd_lists.proofs.linked_list.LinkedList.mark.Goals as goal
 
 plain : tag.First ≢ tag.Both

@@ -1,38 +1,38 @@
 use Rattle.std.proofs.Common.{◌∷◌, ◌++◌, Some, [], ◌∙◌, ap, refl, sym, subst}
 use Rattle.sdd_space.specs.CallerId.{CallerId, IsExact, IsSeated}
-use Rattle.sdd_space.specs.OwnerOrCell.{AreOf}
-use Rattle.sdd_space.specs.World.{World}
+use Rattle.sdd_world_model.specs.OwnerOrCell.{AreOf}
+use Rattle.sdd_world_model.specs.World.{World}
 use Rattle.sdd_lists.specs.Filling.{RefusesPush}
 use Rattle.sdd_lists.specs.QueueFilling.{AddsBehind, FillsQueue}
 use Rattle.sdd_lists.specs.Queue.{AreOfCells, cells_in}
 use Rattle.sdd_lists.proofs.Filling.{yields-more}
 use Rattle.sdd_lists.proofs.QueueFilling.{none-behind, one-behind}
-use Rattle.sdd_lists.proofs.Grows.{knows-on, knows-same}
+use Rattle.sdd_lists.proofs.MoreWaiting.{knows-on, knows-same}
 use Rattle.sdd_lists.proofs.queue.Queue.add_all.Goals as goal
 
 pub loop-value-init : goal.loop-value-init
 loop-value-init g c = record {
-  seat = refl;
+  caller = refl;
   own = λ start grown. grown;
   known = knows-same (g.S.Caller.known c.args.s.now);
   keeps = λ k v was. was;
   list = λ e es second queue.
-      let place = (g.S.Caller.seat c.args.s.now).place in
+      let place = (g.S.Caller.caller c.args.s.now).place in
       ([], es, second, refl, none-behind place (cells_in c.args.self.now) (g.S.Caller.world c.args.s.now) es second queue);
 }
 
 pub add-requires : goal.add-requires
 add-requires g c = record {
-  seated = subst (λ (s : CallerId). IsSeated s) (sym c.loop-value.invariant.seat) c.requires.seated;
-  home = subst (λ (s : CallerId). AreOfCells s.home.cells c.args.self.now) (sym c.loop-value.invariant.seat) c.requires.home;
-  value = subst (λ (s : CallerId). AreOf s.home (g.T.Item.holds c.in-Some.value)) (sym c.loop-value.invariant.seat)
+  seated = subst (λ (s : CallerId). IsSeated s) (sym c.loop-value.invariant.caller) c.requires.seated;
+  home = subst (λ (s : CallerId). AreOfCells s.home.cells c.args.self.now) (sym c.loop-value.invariant.caller) c.requires.home;
+  value = subst (λ (s : CallerId). AreOf s.home (g.T.Item.holds c.in-Some.value)) (sym c.loop-value.invariant.caller)
       (c.requires.values c.loop-value.items c.next.new.self c.in-Some.value c.in-Some.ensures.steps);
-  reader = c.requires.reader ∙ ap (λ (s : CallerId). s.reader) (sym c.loop-value.invariant.seat);
+  reader = c.requires.reader ∙ ap (λ (s : CallerId). s.reader) (sym c.loop-value.invariant.caller);
 }
 
 pub loop-value-preserved : goal.loop-value-preserved
 loop-value-preserved g c = record {
-  seat = c.add.ensures.unmoved.seat ∙ c.loop-value.invariant.seat;
+  caller = c.add.ensures.unmoved.caller ∙ c.loop-value.invariant.caller;
   own = λ start grown. c.add.ensures.own start (c.loop-value.invariant.own start grown);
   known = knows-on c.loop-value.invariant.known c.add.ensures.unmoved.known;
   keeps = λ k v was. c.add.ensures.unmoved.shown k v (c.loop-value.invariant.keeps k v was);
@@ -40,11 +40,11 @@ loop-value-preserved g c = record {
       let w = g.S.Caller.world c.args.s.now in
       let v = g.S.Caller.world c.loop-value.s in
       let new = g.S.Caller.world c.add.new.s in
-      let place = (g.S.Caller.seat c.args.s.now).place in
+      let place = (g.S.Caller.caller c.args.s.now).place in
       let cell = cells_in c.args.self.now in
       let x = c.in-Some.value in
       let inv = c.loop-value.invariant.list e es second queue in
-      let at = c.loop-value.invariant.seat in
+      let at = c.loop-value.invariant.caller in
       let more = c.in-Ok.ensures.list (subst (λ (s : CallerId). IsExact s) (sym at) e) inv.1 inv.2 inv.4.queue in
       let adds = subst (λ (s : CallerId). AddsBehind v s.place cell inv.1 inv.2 x new more.0 more.1) at more.2 in (
         inv.0 ++ x ∷ [],
@@ -57,7 +57,7 @@ loop-value-preserved g c = record {
 
 pub returns-in-Err-clause-unmoved : goal.returns-in-Err-clause-unmoved
 returns-in-Err-clause-unmoved g c = record {
-  seat = c.add.ensures.unmoved.seat ∙ c.loop-value.invariant.seat;
+  caller = c.add.ensures.unmoved.caller ∙ c.loop-value.invariant.caller;
   known = knows-on c.loop-value.invariant.known c.add.ensures.unmoved.known;
   shown = λ k v was. c.add.ensures.unmoved.shown k v (c.loop-value.invariant.keeps k v was);
 }
@@ -68,9 +68,9 @@ returns-in-Err-clause-own g c = λ start grown. c.add.ensures.own start (c.loop-
 pub returns-in-Err-clause-list : goal.returns-in-Err-clause-list
 returns-in-Err-clause-list g c = λ e es second queue.
     let w = g.S.Caller.world c.args.s.now in
-    let place = (g.S.Caller.seat c.args.s.now).place in
+    let place = (g.S.Caller.caller c.args.s.now).place in
     let inv = c.loop-value.invariant.list e es second queue in
-    let why = c.in-Err.ensures.refused (subst (λ (s : CallerId). IsExact s) (sym c.loop-value.invariant.seat) e) inv.1 inv.2 inv.4.queue in (
+    let why = c.in-Err.ensures.refused (subst (λ (s : CallerId). IsExact s) (sym c.loop-value.invariant.caller) e) inv.1 inv.2 inv.4.queue in (
       inv.0,
       inv.1,
       inv.2,
@@ -87,7 +87,7 @@ returns-in-Err-clause-list g c = λ e es second queue.
 
 pub returns-clause-unmoved : goal.returns-clause-unmoved
 returns-clause-unmoved g c = record {
-  seat = c.loop-value.invariant.seat;
+  caller = c.loop-value.invariant.caller;
   known = c.loop-value.invariant.known;
   shown = c.loop-value.invariant.keeps;
 }

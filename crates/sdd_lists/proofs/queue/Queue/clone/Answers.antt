@@ -1,14 +1,14 @@
 use Rattle.std.proofs.Common.{◌≡◌, ◌++◌, [], ◌∙◌, List, None, ap, sym, subst}
 use Rattle.sdd_space.specs.CallerId.{CallerId, IsExact}
-use Rattle.sdd_space.specs.World.{World}
-use Rattle.sdd_space.specs.WorldChanges.{nulled}
+use Rattle.sdd_world_model.specs.World.{World}
+use Rattle.sdd_world_model.specs.WorldChanges.{nulled}
 use Rattle.sdd_lists.specs.Cloning.{IsQueueBeside}
 use Rattle.sdd_lists.specs.Entries.{link_of}
 use Rattle.sdd_lists.specs.Lists.{left}
 use Rattle.sdd_lists.specs.Queue.{IsQueue, cells_in}
 use Rattle.sdd_lists.specs.QueueFilling.{FillsQueue}
 use Rattle.sdd_lists.proofs.Cloning.{beside-left, copied-beside}
-use Rattle.sdd_lists.proofs.Walking.{shown-left}
+use Rattle.sdd_lists.proofs.WalkPositions.{shown-left}
 use Rattle.sdd_lists.proofs.queue.Queue.clone.Goals as goal
 
 pub returns-in-Ok-add_clones-clause-list : goal.returns-in-Ok-add_clones-clause-list
@@ -16,11 +16,11 @@ returns-in-Ok-add_clones-clause-list g c = λ e es second queue.
     let w = g.S.Caller.world c.args.s.now in
     let u = g.S.Caller.world c.walk-walk.new.s in
     let new = g.S.Caller.world c.add_clones.new.s in
-    let place = (g.S.Caller.seat c.args.s.now).place in
+    let place = (g.S.Caller.caller c.args.s.now).place in
     let from = cells_in c.args.self.now in
     let q = cells_in c.in-Ok.copy in
-    let at1 = c.in-Ok.ensures.unmoved.seat in
-    let at2 = c.walk-walk.ensures.undisturbed.seat ∙ at1 in
+    let at1 = c.in-Ok.ensures.unmoved.caller in
+    let at2 = c.walk-walk.ensures.undisturbed.caller ∙ at1 in
     let ex1 = subst (λ (s : CallerId). IsExact s) (sym at1) e in
     let ex2 = subst (λ (s : CallerId). IsExact s) (sym at2) e in
     let made = c.in-Ok.ensures.world e in
@@ -52,11 +52,11 @@ returns-in-Err-add_clones-clause-list g c = λ e es second queue.
     let w = g.S.Caller.world c.args.s.now in
     let u = g.S.Caller.world c.walk-walk.new.s in
     let new = g.S.Caller.world c.add_clones.new.s in
-    let place = (g.S.Caller.seat c.args.s.now).place in
+    let place = (g.S.Caller.caller c.args.s.now).place in
     let from = cells_in c.args.self.now in
     let q = cells_in c.in-Ok.copy in
-    let at1 = c.in-Ok.ensures.unmoved.seat in
-    let at2 = c.walk-walk.ensures.undisturbed.seat ∙ at1 in
+    let at1 = c.in-Ok.ensures.unmoved.caller in
+    let at2 = c.walk-walk.ensures.undisturbed.caller ∙ at1 in
     let ex1 = subst (λ (s : CallerId). IsExact s) (sym at1) e in
     let ex2 = subst (λ (s : CallerId). IsExact s) (sym at2) e in
     let made = c.in-Ok.ensures.world e in

@@ -1,14 +1,14 @@
 use Rattle.std.proofs.Common.{◌≡◌, ◌∙◌, ap, sym, Option, subst}
-use Rattle.sdd_space.specs.World.{World}
+use Rattle.sdd_world_model.specs.World.{World}
 use Rattle.sdd_space.specs.CallerId.{CallerId, IsExact}
-use Rattle.sdd_space.specs.WorldChanges.{held_in, spilled, without_cell}
+use Rattle.sdd_world_model.specs.WorldChanges.{held_in, spilled, without_cell}
 use Rattle.sdd_core.specs.declared.tag.Tag.TheVariants.{None as no_tag}
 use Rattle.sdd_participants.specs.declared.standing.CellContents.{CellContents}
 use Rattle.sdd_lists.specs.Entries.{link_of}
 use Rattle.sdd_lists.specs.Lists.{IsList, emptied}
 use Rattle.sdd_lists.specs.Queue.{QueueCells, cells_in}
-use Rattle.sdd_lists.proofs.Grows.{grows-spilled}
-use Rattle.sdd_lists.proofs.Leaving.{list-without, spilled-cells, spilled-values}
+use Rattle.sdd_lists.proofs.MoreWaiting.{grows-spilled}
+use Rattle.sdd_lists.proofs.QueuePops.{list-without, spilled-cells, spilled-values}
 use Rattle.sdd_lists.proofs.queue.Queue.close.Goals as goal
 
 pub returns-clause-own : goal.returns-clause-own
@@ -18,10 +18,10 @@ returns-clause-own g c = λ start grown.
 pub returns-clause-list : goal.returns-clause-list
 returns-clause-list g c = λ e es second queue.
     let w = g.S.Caller.world c.args.s.now in
-    let place = (g.S.Caller.seat c.args.s.now).place in
+    let place = (g.S.Caller.caller c.args.s.now).place in
     let q : QueueCells = cells_in c.args.self in
-    let at1 = c.close.ensures.unmoved.seat in
-    let at2 = c.let_go_of_all.ensures.unmoved.seat ∙ at1 in
+    let at1 = c.close.ensures.unmoved.caller in
+    let at2 = c.let_go_of_all.ensures.unmoved.caller ∙ at1 in
     let u : World _ = spilled (without_cell w q.newest) place second in
     let world_u : g.S.Caller.world c.close.new.s ≡ u =
     c.close.ensures.exact e ∙ ap (λ (x : Option CellContents). spilled (without_cell w q.newest) place (held_in x)) queue.newest in
@@ -31,9 +31,9 @@ returns-clause-list g c = λ e es second queue.
     let here = subst (λ (y : World _). IsList link_of y q.oldest no_tag es) (sym world_u) in_u in
     let gone = c.let_go_of_all.ensures.exact (subst (λ (s : CallerId). IsExact s) (sym at1) e) no_tag es here in
     let v = g.S.Caller.world c.let_go_of_all.new.s in
-    let place2 = (g.S.Caller.seat c.let_go_of_all.new.s).place in
+    let place2 = (g.S.Caller.caller c.let_go_of_all.new.s).place in
     let world_v : v ≡ emptied link_of u place q.oldest no_tag es =
-    gone.1 ∙ ap (λ (y : World _). emptied link_of y (g.S.Caller.seat c.close.new.s).place q.oldest no_tag es) world_u
+    gone.1 ∙ ap (λ (y : World _). emptied link_of y (g.S.Caller.caller c.close.new.s).place q.oldest no_tag es) world_u
     ∙ ap (λ (s : CallerId). emptied link_of u s.place q.oldest no_tag es) at1 in
     c.close-2.ensures.exact (subst (λ (s : CallerId). IsExact s) (sym at2) e)
     ∙ ap (λ (x : Option CellContents). spilled (without_cell v q.oldest) place2 (held_in x)) gone.0.begins

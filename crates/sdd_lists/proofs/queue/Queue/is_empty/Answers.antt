@@ -1,6 +1,6 @@
 use Rattle.std.proofs.Common.{◌∙◌, ap, sym}
 use Rattle.sdd_lists.specs.Lists.{first_slot}
-use Rattle.sdd_lists.proofs.Fronts.{empty-of}
+use Rattle.sdd_lists.proofs.FirstEntries.{empty-of}
 use Rattle.sdd_lists.proofs.queue.Queue.is_empty.Goals as goal
 
 pub returns-clause-list : goal.returns-clause-list

@@ -1,16 +1,17 @@
 use Rattle.std.proofs.Common.{subst}
 use Rattle.sdd_core.specs.declared.tag.Tag.TheVariants.{None as no_tag}
 use Rattle.sdd_lists.specs.Iter.{GivesInOrder, GoesInOrder}
-use Rattle.sdd_lists.proofs.Iterating.{always, reads}
+use Rattle.sdd_lists.proofs.IterPositions.{always, reads}
 use Rattle.sdd_lists.proofs.queue.Queue.iter.Goals as goal
 
 pub returns-clause-list : goal.returns-clause-list
-returns-clause-list g c = λ e vs has. subst (λ vs. GivesInOrder (g.S.Caller.world c.args.s.now) c.iter_in.result vs) has.3 (c.iter_in.ensures.exact e no_tag has.0 has.2.list)
+returns-clause-list g c = λ e vs has. subst (λ vs. GivesInOrder (g.S.Caller.world c.args.s.now) c.iter_in.result vs) has.3
+    (c.iter_in.ensures.exact e no_tag has.0 has.2.list)
 
 pub returns-clause-items : goal.returns-clause-items
-returns-clause-items g c = λ e vs has. always g.S.Caller.seat g.S.Caller.world c.args.s.now c.iter_in.result vs c.iter_in.ensures.space e
+returns-clause-items g c = λ e vs has. always g.S.Caller.caller g.S.Caller.world c.args.s.now c.iter_in.result vs c.iter_in.ensures.space e
     (returns-clause-list g c e vs has)
 
 pub returns-clause-runs : goal.returns-clause-runs
-returns-clause-runs g c = λ e vs has. reads (GoesInOrder g.S.Caller.seat g.S.Caller.world) (λ v. v.now) c.iter_in.result vs
+returns-clause-runs g c = λ e vs has. reads (GoesInOrder g.S.Caller.caller g.S.Caller.world) (λ v. v.now) c.iter_in.result vs
     (returns-clause-items g c e vs has)

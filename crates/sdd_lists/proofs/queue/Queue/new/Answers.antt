@@ -1,14 +1,14 @@
 use Rattle.std.proofs.Common.{rules, ℕ, [], ◌∙◌, ap, refl, sym, Option, Some, None, subst}
 use Rattle.std.proofs.lemmas.List.{get_or-set_same}
-use Rattle.sdd_space.specs.World.{World}
+use Rattle.sdd_world_model.specs.World.{World}
 use Rattle.sdd_space.specs.CallerId.{CallerId, IsExact}
 use Rattle.sdd_space.specs.Shared.{cell_of}
-use Rattle.sdd_space.specs.WorldChanges.{cell_closed, held_in, nulled, spilled, without_cell}
+use Rattle.sdd_world_model.specs.WorldChanges.{cell_closed, held_in, nulled, spilled, without_cell}
 use Rattle.sdd_core.specs.declared.tag.Tag.TheVariants.{None as no_tag}
 use Rattle.sdd_participants.specs.Slab.{IsFull}
 use Rattle.sdd_participants.specs.declared.standing.CellContents.{CellContents}
-use Rattle.sdd_lists.proofs.Fresh.{freed-again, only-one}
-use Rattle.sdd_lists.proofs.Grows.{grows-not, grows-spilled}
+use Rattle.sdd_lists.proofs.FreshLinks.{freed-again, only-one}
+use Rattle.sdd_lists.proofs.MoreWaiting.{grows-not, grows-spilled}
 use Rattle.sdd_lists.proofs.queue.Queue.new.Goals as goal
 
 pub returns-in-Err-null-clause-own : goal.returns-in-Err-null-clause-own
@@ -21,12 +21,12 @@ pub returns-in-Err-null-clause-world : goal.returns-in-Err-null-clause-world
 returns-in-Err-null-clause-world g c = λ e.
     let w = g.S.Caller.world c.args.s.now in
     let o : ℕ = cell_of c.in-Ok.oldest in
-    let at1 = c.in-Ok.ensures.undisturbed.seat in
-    let at2 = c.in-Err-null.ensures.undisturbed.seat ∙ at1 in
+    let at1 = c.in-Ok.ensures.undisturbed.caller in
+    let at2 = c.in-Err-null.ensures.undisturbed.caller ∙ at1 in
     let made = c.in-Ok.ensures.exact e in
     let full = c.in-Err-null.ensures.exact (subst (λ (s : CallerId). IsExact s) (sym at1) e) in
     let closed = c.close.ensures.exact (subst (λ (s : CallerId). IsExact s) (sym at2) e) in
-    let place = (g.S.Caller.seat c.null-2.new.s).place in
+    let place = (g.S.Caller.caller c.null-2.new.s).place in
     let nothing : CellContents = record { held = None; tag = no_tag } in
     let filled : IsFull (nulled w o).cells = subst (λ (y : World _). IsFull y.cells) made.1 full.0 in (
       (λ c d free other. only-one w.cells o nothing filled c free ∙ sym (only-one w.cells o nothing filled d other)),

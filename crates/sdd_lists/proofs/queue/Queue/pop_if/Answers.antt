@@ -1,17 +1,17 @@
 use Rattle.std.proofs.Common.{◌≡◌, ℕ, ◌∙◌, ap, sym, refl, List, Bool, true, false, subst}
 use Rattle.std.specs.Borrow.{Bor}
-use Rattle.sdd_space.specs.World.{World, standing_at}
+use Rattle.sdd_world_model.specs.World.{World, standing_at}
 use Rattle.sdd_space.specs.CallerId.{IsExact, CallerId}
 use Rattle.sdd_space.specs.Shared.{cell_of}
 use Rattle.sdd_core.specs.declared.tag.Tag.TheVariants.{None as no_tag}
 use Rattle.sdd_participants.specs.declared.standing.CellContents.{CellContents}
-use Rattle.sdd_standings.specs.Slots.{IsSharedBy}
+use Rattle.sdd_world_model.specs.Slots.{IsSharedBy}
 use Rattle.sdd_lists.specs.declared.linked_entry.LinkedEntry.{LinkedEntry}
 use Rattle.sdd_lists.specs.Entries.{link_of}
 use Rattle.sdd_lists.specs.Lists.{Entry, first_slot}
 use Rattle.sdd_lists.specs.Queue.{DequeuesIf, IsCleared, IsQueue, QueueCells, cells_in}
-use Rattle.sdd_lists.proofs.Asked.{dequeued-so}
-use Rattle.sdd_lists.proofs.Grows.{grows-not}
+use Rattle.sdd_lists.proofs.PopConditions.{dequeued-so}
+use Rattle.sdd_lists.proofs.MoreWaiting.{grows-not}
 use Rattle.sdd_lists.proofs.queue.Queue.pop_if.Goals as goal
 
 pub returns-in-Ok-Some-clause-own : goal.returns-in-Ok-Some-clause-own
@@ -23,14 +23,14 @@ returns-in-Ok-Some-clause-list g c = λ e es second queue.
     let w = g.S.Caller.world c.args.s.now in
     let q : QueueCells = cells_in c.args.self.now in
     let held : CellContents = record { held = first_slot es; tag = no_tag } in
-    let at_find = c.in-Ok-Some.ensures.undisturbed.seat in
+    let at_find = c.in-Ok-Some.ensures.undisturbed.caller in
     let same = c.in-Ok-Some.ensures.world e in
     let found = rw c.in-Ok-Some.field-0-is at (c.in-Ok-Some.ensures.exact e es queue.list.linked held queue.list.begins refl) in
     let x : Entry _ = found.0 in
     let rest : List (Entry _) = found.1 in
     let linked = rw c.in-Ok-Some.field-0-is at c.in-Ok-Some.ensures.link in
     let cell_is : cell_of c.in-Ok-Some.front.link.now ≡ link_of x.value = linked ∙ ap link_of found.4 in
-    let ex : IsExact (g.S.Caller.seat c.find_first.new.s) = subst (λ (s : CallerId). IsExact s) (sym at_find) e in
+    let ex : IsExact (g.S.Caller.caller c.find_first.new.s) = subst (λ (s : CallerId). IsExact s) (sym at_find) e in
     let here = subst (λ (y : World _). IsQueue link_of y q es second) (sym same) queue in
     let shared = subst (λ (y : World _). (n : ℕ) × IsSharedBy n (standing_at y x.slot)) (sym same) found.5 in
     let met = c.asks-holds.ensures in
@@ -40,34 +40,34 @@ returns-in-Ok-Some-clause-list g c = λ e es second queue.
     let asked : LinkedEntry _ → Bool → Type 0 = λ v b. (shown : Bor (LinkedEntry _)) × (shown.now ≡ v) × g.F.FnMut.post c.args.condition (shown, tt) b in
     dequeued-so said asked
     (λ v b is. (met.0, met.1 ∙ found.4 ∙ sym is.0, subst (λ (y : Bool). g.F.FnMut.post c.args.condition (met.0, tt) y) (sym is.1) met.2))
-    w new (g.S.Caller.seat c.args.s.now).place q es second c.pop_asked.result
+    w new (g.S.Caller.caller c.args.s.now).place q es second c.pop_asked.result
     (subst (λ (s : CallerId). DequeuesIf said w s.place q es second c.pop_asked.result new) at_find
-    (subst (λ (y : World _). DequeuesIf said y (g.S.Caller.seat c.find_first.new.s).place q es second c.pop_asked.result new) same popped))
+    (subst (λ (y : World _). DequeuesIf said y (g.S.Caller.caller c.find_first.new.s).place q es second c.pop_asked.result new) same popped))
 
 pub returns-in-Ok-clause-list : goal.returns-in-Ok-clause-list
 returns-in-Ok-clause-list g c = λ e es second queue.
     let w = g.S.Caller.world c.args.s.now in
     let q : QueueCells = cells_in c.args.self.now in
     let held : CellContents = record { held = first_slot es; tag = no_tag } in
-    let at_find = c.in-Ok-None.ensures.undisturbed.seat in
+    let at_find = c.in-Ok-None.ensures.undisturbed.caller in
     let same = c.in-Ok-None.ensures.world e in
     let none = rw c.in-Ok-None.field-0-is at (c.in-Ok-None.ensures.exact e es queue.list.linked held queue.list.begins refl) in
-    let ex : IsExact (g.S.Caller.seat c.find_first.new.s) = subst (λ (s : CallerId). IsExact s) (sym at_find) e in
+    let ex : IsExact (g.S.Caller.caller c.find_first.new.s) = subst (λ (s : CallerId). IsExact s) (sym at_find) e in
     let here = subst (λ (y : World _). IsQueue link_of y q es second) (sym same) queue in
     let new = g.S.Caller.world c.clear.new.s in
     let cleared = c.in-Ok.ensures.exact ex es second here none in
     subst (λ (s : CallerId). IsCleared link_of w s.place q es second new) at_find
-    (subst (λ (y : World _). IsCleared link_of y (g.S.Caller.seat c.find_first.new.s).place q es second new) same cleared.1)
+    (subst (λ (y : World _). IsCleared link_of y (g.S.Caller.caller c.find_first.new.s).place q es second new) same cleared.1)
 
 pub returns-in-Err-clear-clause-list : goal.returns-in-Err-clear-clause-list
 returns-in-Err-clear-clause-list g c = λ e es second queue.
     let w = g.S.Caller.world c.args.s.now in
     let q : QueueCells = cells_in c.args.self.now in
     let held : CellContents = record { held = first_slot es; tag = no_tag } in
-    let at_find = c.in-Ok-None.ensures.undisturbed.seat in
+    let at_find = c.in-Ok-None.ensures.undisturbed.caller in
     let same = c.in-Ok-None.ensures.world e in
     let none = rw c.in-Ok-None.field-0-is at (c.in-Ok-None.ensures.exact e es queue.list.linked held queue.list.begins refl) in
-    let ex : IsExact (g.S.Caller.seat c.find_first.new.s) = subst (λ (s : CallerId). IsExact s) (sym at_find) e in
+    let ex : IsExact (g.S.Caller.caller c.find_first.new.s) = subst (λ (s : CallerId). IsExact s) (sym at_find) e in
     let here = subst (λ (y : World _). IsQueue link_of y q es second) (sym same) queue in
     let cleared = c.in-Err-clear.ensures.exact ex es second here none in
     let never : false ≡ true = cleared.0 in

@@ -1,13 +1,13 @@
 use Rattle.std.proofs.Common.{◌≡◌, ◌⊎◌, ◌∙◌, sym, Bool, subst}
-use Rattle.sdd_space.specs.World.{World}
+use Rattle.sdd_world_model.specs.World.{World}
 use Rattle.sdd_space.specs.CallerId.{CallerId, IsExact}
 use Rattle.sdd_space.specs.Shared.{cell_of}
 use Rattle.sdd_core.specs.declared.refused.Refused.TheVariants.{NoCell, NoSlot}
 use Rattle.sdd_participants.specs.Slab.{IsFull}
 use Rattle.sdd_lists.specs.Entries.{link_of}
 use Rattle.sdd_lists.specs.Queue.{IsQueue, PushesBehind, QueueCells, cells_in}
-use Rattle.sdd_lists.proofs.Asked.{shown-last}
-use Rattle.sdd_lists.proofs.Grows.{grows-not}
+use Rattle.sdd_lists.proofs.PopConditions.{shown-last}
+use Rattle.sdd_lists.proofs.MoreWaiting.{grows-not}
 use Rattle.sdd_lists.proofs.queue.Queue.push_if.Goals as goal
 
 pub returns-in-Err-clause-asked : goal.returns-in-Err-clause-asked
@@ -45,12 +45,12 @@ returns-in-Ok-push_behind-clause-list g c = λ e es second queue.
     let q : QueueCells = cells_in c.args.self.now in
     let new = g.S.Caller.world c.push_behind.new.s in
     let owner = c.in-Ok-push_behind.owner in
-    let at1 = c.in-Ok.ensures.undisturbed.seat in
+    let at1 = c.in-Ok.ensures.undisturbed.caller in
     let ex1 = subst (λ (s : CallerId). IsExact s) (sym at1) e in
     let same = c.in-Ok.ensures.world e in
     let here = subst (λ (y : World _). IsQueue link_of y q es second) (sym same) queue in
     let pushed = c.in-Ok-push_behind.ensures.list ex1 es second here (c.in-Ok.ensures.exact e es second queue) in
-    subst (λ (y : World _). PushesBehind y (g.S.Caller.seat c.args.s.now).place q es second c.args.value owner new) same
+    subst (λ (y : World _). PushesBehind y (g.S.Caller.caller c.args.s.now).place q es second c.args.value owner new) same
     (subst (λ (s : CallerId). PushesBehind (g.S.Caller.world c.find_last.new.s) s.place q es second c.args.value owner new) at1 pushed)
 
 pub returns-in-Ok-push_behind-clause-own : goal.returns-in-Ok-push_behind-clause-own
@@ -61,7 +61,7 @@ pub returns-in-Err-push_behind-clause-refused : goal.returns-in-Err-push_behind-
 returns-in-Err-push_behind-clause-refused g c = λ e es second queue.
     let same = c.in-Ok.ensures.world e in
     let why = c.in-Err-push_behind.refused in
-    let ex1 = subst (λ (s : CallerId). IsExact s) (sym c.in-Ok.ensures.undisturbed.seat) e in
+    let ex1 = subst (λ (s : CallerId). IsExact s) (sym c.in-Ok.ensures.undisturbed.caller) e in
     let not = c.in-Err-push_behind.ensures.refused ex1 in (
       not.0 ∙ same,
       subst (λ (y : World _). IsFull y.standings × (why ≡ NoSlot) ⊎ ¬ (IsFull y.standings) × IsFull y.cells × (why ≡ NoCell)) same not.1,

@@ -2,54 +2,54 @@ use Rattle.std.proofs.Common.{◌≡◌, ◌++◌, ◌∷◌, [], ◌∙◌, Lis
 use Rattle.std.specs.Prelude.{drop}
 use Rattle.std.proofs.lemmas.List.Elements.{AllZip-push}
 use Rattle.sdd_space.specs.CallerId.{CallerId, IsExact}
-use Rattle.sdd_space.specs.World.{World}
+use Rattle.sdd_world_model.specs.World.{World}
 use Rattle.sdd_lists.specs.Cloning.{RefusesClone}
 use Rattle.sdd_lists.specs.Lists.{Entry, left}
 use Rattle.sdd_lists.specs.Stack.{IsStack, cell_in}
 use Rattle.sdd_lists.specs.StackCloning.{AppendsTo, ExtendsStack, IsStackBeside, both}
 use Rattle.sdd_lists.specs.Walk.{IsWalkOf, shown_of}
 use Rattle.sdd_lists.proofs.Cloning.{beside-behind}
-use Rattle.sdd_lists.proofs.Grows.{grows-not, knows-on, knows-same}
+use Rattle.sdd_lists.proofs.MoreWaiting.{grows-not, knows-on, knows-same}
 use Rattle.sdd_lists.proofs.StackCloning.{none-appended, one-appended, stack-still, walk-still}
-use Rattle.sdd_lists.proofs.Walking.{shown-step}
+use Rattle.sdd_lists.proofs.WalkPositions.{shown-step}
 use Rattle.sdd_lists.proofs.stack.Stack.append_clones.Goals as goal
 
 pub loop-value-init : goal.loop-value-init
 loop-value-init g c = record {
-  seat = refl;
+  caller = refl;
   own = λ start grown. grown;
   known = knows-same (g.S.Caller.known c.args.s.now);
   keeps = λ k v was. was;
   walk = c.requires.walk;
   front = tt;
   list = λ e list from now fs stood beside source.
-      let place = (g.S.Caller.seat c.args.s.now).place in
+      let place = (g.S.Caller.caller c.args.s.now).place in
       let none = none-appended place (cell_in c.args.self.now) (g.S.Caller.world c.args.s.now) [] list in
       (now, [], [], [], stood, beside, refl, tt, none, source, refl);
 }
 
 pub loop-value-preserved : goal.loop-value-preserved
 loop-value-preserved g c = record {
-  seat = c.append_clone.ensures.unmoved.seat ∙ c.in-Some.ensures.undisturbed.seat ∙ c.loop-value.invariant.seat;
+  caller = c.append_clone.ensures.unmoved.caller ∙ c.in-Some.ensures.undisturbed.caller ∙ c.loop-value.invariant.caller;
   own = λ start grown.
       c.append_clone.ensures.own start
       (grows-not (g.S.Caller.own c.loop-value.s) _ c.in-Some.ensures.undisturbed.own start (c.loop-value.invariant.own start grown));
   known = knows-on (knows-on c.loop-value.invariant.known c.in-Some.ensures.undisturbed.known) c.append_clone.ensures.unmoved.known;
   keeps = λ k v was. c.append_clone.ensures.unmoved.shown k v (c.in-Some.ensures.undisturbed.shown k v (c.loop-value.invariant.keeps k v was));
-  walk = subst (λ (s : CallerId). IsWalkOf s.home.cells c.next.new.self) c.loop-value.invariant.seat c.in-Some.ensures.home;
-  front = c.in-Ok.ensures.front ∙ ap (λ (s : CallerId). s.home.cells) (c.in-Some.ensures.undisturbed.seat ∙ c.loop-value.invariant.seat);
+  walk = subst (λ (s : CallerId). IsWalkOf s.home.cells c.next.new.self) c.loop-value.invariant.caller c.in-Some.ensures.home;
+  front = c.in-Ok.ensures.front ∙ ap (λ (s : CallerId). s.home.cells) (c.in-Some.ensures.undisturbed.caller ∙ c.loop-value.invariant.caller);
   list = λ e list from now fs stood beside source.
       let w = g.S.Caller.world c.args.s.now in
       let v = g.S.Caller.world c.loop-value.s in
       let u = g.S.Caller.world c.next.new.s in
       let new = g.S.Caller.world c.append_clone.new.s in
-      let place = (g.S.Caller.seat c.args.s.now).place in
+      let place = (g.S.Caller.caller c.args.s.now).place in
       let cell = cell_in c.args.self.now in
       let x = c.in-Some.value.now in
       let got = c.loop-value.invariant.list e list from now fs stood beside source in
       let rest : List (Entry _) = got.0 in
-      let at0 = c.loop-value.invariant.seat in
-      let at1 = c.in-Some.ensures.undisturbed.seat ∙ at0 in
+      let at0 = c.loop-value.invariant.caller in
+      let at1 = c.in-Some.ensures.undisturbed.caller ∙ at0 in
       let ex0 = subst (λ (s : CallerId). IsExact s) (sym at0) e in
       let ex1 = subst (λ (s : CallerId). IsExact s) (sym at1) e in
       let same : u ≡ v = c.in-Some.ensures.world ex0 in
@@ -81,14 +81,14 @@ returns-in-Err-clause-list g c = λ e list from now fs stood beside source.
     let w = g.S.Caller.world c.args.s.now in
     let v = g.S.Caller.world c.loop-value.s in
     let u = g.S.Caller.world c.next.new.s in
-    let place = (g.S.Caller.seat c.args.s.now).place in
+    let place = (g.S.Caller.caller c.args.s.now).place in
     let cell = cell_in c.args.self.now in
     let x = c.in-Some.value.now in
     let got = c.loop-value.invariant.list e list from now fs stood beside source in
     let rest : List (Entry _) = got.0 in
-    let at0 = c.loop-value.invariant.seat in
+    let at0 = c.loop-value.invariant.caller in
     let ex0 = subst (λ (s : CallerId). IsExact s) (sym at0) e in
-    let ex1 = subst (λ (s : CallerId). IsExact s) (sym (c.in-Some.ensures.undisturbed.seat ∙ at0)) e in
+    let ex1 = subst (λ (s : CallerId). IsExact s) (sym (c.in-Some.ensures.undisturbed.caller ∙ at0)) e in
     let same : u ≡ v = c.in-Some.ensures.world ex0 in
     let next = c.in-Some.ensures.entries ex0 rest got.4 in
     let why = c.in-Err.ensures.refused ex1 in

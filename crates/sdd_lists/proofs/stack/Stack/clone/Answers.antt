@@ -1,13 +1,13 @@
 use Rattle.std.proofs.Common.{◌≡◌, ◌++◌, [], ◌∙◌, List, ap, sym, subst}
 use Rattle.sdd_space.specs.CallerId.{CallerId, IsExact}
-use Rattle.sdd_space.specs.World.{World}
-use Rattle.sdd_space.specs.WorldChanges.{nulled}
+use Rattle.sdd_world_model.specs.World.{World}
+use Rattle.sdd_world_model.specs.WorldChanges.{nulled}
 use Rattle.sdd_lists.specs.Lists.{left}
 use Rattle.sdd_lists.specs.Stack.{IsStack, cell_in}
 use Rattle.sdd_lists.specs.StackCloning.{ExtendsStack, IsStackBeside, both}
 use Rattle.sdd_lists.proofs.Cloning.{beside-left}
 use Rattle.sdd_lists.proofs.StackCloning.{stack-beside}
-use Rattle.sdd_lists.proofs.Walking.{shown-left}
+use Rattle.sdd_lists.proofs.WalkPositions.{shown-left}
 use Rattle.sdd_lists.proofs.stack.Stack.clone.Goals as goal
 
 pub returns-in-Ok-append_clones-clause-list : goal.returns-in-Ok-append_clones-clause-list
@@ -15,11 +15,11 @@ returns-in-Ok-append_clones-clause-list g c = λ e es list.
     let w = g.S.Caller.world c.args.s.now in
     let u = g.S.Caller.world c.walk-walk.new.s in
     let new = g.S.Caller.world c.append_clones.new.s in
-    let place = (g.S.Caller.seat c.args.s.now).place in
+    let place = (g.S.Caller.caller c.args.s.now).place in
     let from = cell_in c.args.self.now in
     let cell = cell_in c.in-Ok.copy in
-    let at1 = c.in-Ok.ensures.undisturbed.seat in
-    let at2 = c.walk-walk.ensures.undisturbed.seat ∙ at1 in
+    let at1 = c.in-Ok.ensures.undisturbed.caller in
+    let at2 = c.walk-walk.ensures.undisturbed.caller ∙ at1 in
     let ex1 = subst (λ (s : CallerId). IsExact s) (sym at1) e in
     let ex2 = subst (λ (s : CallerId). IsExact s) (sym at2) e in
     let made = c.in-Ok.ensures.world e in
@@ -48,11 +48,11 @@ returns-in-Err-append_clones-clause-list g c = λ e es list.
     let w = g.S.Caller.world c.args.s.now in
     let u = g.S.Caller.world c.walk-walk.new.s in
     let new = g.S.Caller.world c.append_clones.new.s in
-    let place = (g.S.Caller.seat c.args.s.now).place in
+    let place = (g.S.Caller.caller c.args.s.now).place in
     let from = cell_in c.args.self.now in
     let cell = cell_in c.in-Ok.copy in
-    let at1 = c.in-Ok.ensures.undisturbed.seat in
-    let at2 = c.walk-walk.ensures.undisturbed.seat ∙ at1 in
+    let at1 = c.in-Ok.ensures.undisturbed.caller in
+    let at2 = c.walk-walk.ensures.undisturbed.caller ∙ at1 in
     let ex1 = subst (λ (s : CallerId). IsExact s) (sym at1) e in
     let ex2 = subst (λ (s : CallerId). IsExact s) (sym at2) e in
     let made = c.in-Ok.ensures.world e in

@@ -1,20 +1,20 @@
 use Rattle.std.proofs.Common.{◌≡◌, ◌≢◌, ℕ, [], ◌∙◌, ap, sym, Some, None, Option, subst}
 use Rattle.std.specs.Prelude.{option_map}
 use Rattle.std.proofs.lemmas.List.{get_or-set_other}
-use Rattle.sdd_space.specs.World.{World}
+use Rattle.sdd_world_model.specs.World.{World}
 use Rattle.sdd_space.specs.CallerId.{CallerId, IsExact}
 use Rattle.sdd_space.specs.Shared.{cell_of, slot_of}
-use Rattle.sdd_space.specs.WorldChanges.{held_in, nulled, with_cell}
+use Rattle.sdd_world_model.specs.WorldChanges.{held_in, nulled, with_cell}
 use Rattle.sdd_core.specs.declared.tag.Tag.TheVariants.{None as no_tag}
 use Rattle.sdd_participants.specs.Slab.{entry_at}
 use Rattle.sdd_participants.specs.declared.standing.CellContents.{CellContents}
 use Rattle.sdd_lists.specs.Entries.{link_of}
 use Rattle.sdd_lists.specs.Lists.{IsList, first_slot}
 use Rattle.sdd_lists.specs.Stack.{cell_in, poured}
-use Rattle.sdd_lists.proofs.Fresh.{fresh-clear, fresh-far, fresh-list}
-use Rattle.sdd_lists.proofs.Grows.{grows-not}
-use Rattle.sdd_lists.proofs.Moving.{given-none}
-use Rattle.sdd_lists.proofs.Pouring.{drained, filled, poured-is}
+use Rattle.sdd_lists.proofs.FreshLinks.{fresh-clear, fresh-far, fresh-list}
+use Rattle.sdd_lists.proofs.MoreWaiting.{grows-not}
+use Rattle.sdd_lists.proofs.MovedOwners.{given-none}
+use Rattle.sdd_lists.proofs.MovedLists.{drained, filled, poured-is}
 use Rattle.sdd_lists.proofs.stack.Stack.pop_all.Goals as goal
 
 pub returns-clause-own : goal.returns-clause-own
@@ -27,9 +27,9 @@ returns-clause-list g c = λ e es list.
     let w = g.S.Caller.world c.args.s.now in
     let cell : ℕ = cell_in c.args.self.now in
     let l : ℕ = cell_of c.in-Ok.newest in
-    let at1 = c.in-Ok.ensures.undisturbed.seat in
-    let at2 = c.swap-first.ensures.undisturbed.seat ∙ at1 in
-    let at3 = c.swap-nothing.ensures.undisturbed.seat ∙ at2 in
+    let at1 = c.in-Ok.ensures.undisturbed.caller in
+    let at2 = c.swap-first.ensures.undisturbed.caller ∙ at1 in
+    let at3 = c.swap-nothing.ensures.undisturbed.caller ∙ at2 in
     let made = c.in-Ok.ensures.exact e in
     let one = c.swap-first.ensures.exact (subst (λ (s : CallerId). IsExact s) (sym at1) e) in
     let two = c.swap-nothing.ensures.exact (subst (λ (s : CallerId). IsExact s) (sym at2) e) in
@@ -43,7 +43,7 @@ returns-clause-list g c = λ e es list.
     ap held_in (sym two.0 ∙ ap (λ (x : World _). entry_at x.cells l) one.1
     ∙ get_or-set_other (g.S.Caller.world c.null.new.s).cells cell l (Some none) None (λ meet. far (sym meet))
     ∙ ap (λ (x : World _). entry_at x.cells l) made.1 ∙ fresh-clear link_of w l made.0) in
-    let same = given-none (g.S.Caller.world c.swap-nothing.new.s) (g.S.Caller.world c.give_up.new.s) (g.S.Caller.seat c.swap-nothing.new.s).place
+    let same = given-none (g.S.Caller.world c.swap-nothing.new.s) (g.S.Caller.world c.give_up.new.s) (g.S.Caller.caller c.swap-nothing.new.s).place
     c.swap-nothing.result.0 nothing spare in
     let world_z : g.S.Caller.world c.give_up.new.s ≡ poured w cell l es =
     same ∙ two.1 ∙ ap (λ (x : World _). with_cell x l (record { held = option_map slot_of c.swap-first.result.0; tag = no_tag })) one.1

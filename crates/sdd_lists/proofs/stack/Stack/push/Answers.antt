@@ -1,19 +1,19 @@
 use Rattle.std.proofs.Common.{◌≡◌, inl, inr, ℕ, ◌∙◌, ap, sym, refl, true, false, Some, None, subst}
-use Rattle.sdd_space.specs.World.{World}
+use Rattle.sdd_world_model.specs.World.{World}
 use Rattle.sdd_space.specs.CallerId.{CallerId, IsExact}
 use Rattle.sdd_space.specs.Shared.{slot_of}
-use Rattle.sdd_space.specs.WorldChanges.{nulled}
+use Rattle.sdd_world_model.specs.WorldChanges.{nulled}
 use Rattle.sdd_core.specs.declared.tag.Tag.TheVariants.{None as no_tag}
 use Rattle.sdd_participants.specs.Slab.{IsEmptyAt, IsFull, entry_at}
-use Rattle.sdd_space.specs.OwnerOrCell.{AreOf}
+use Rattle.sdd_world_model.specs.OwnerOrCell.{AreOf}
 use Rattle.sdd_space.specs.Refusals.{IsRefusedBy}
 use Rattle.sdd_core.specs.declared.refused.Refused.TheVariants.{NoSlot}
 use Rattle.sdd_lists.specs.Entries.{holdings_of, link_of, value_of}
 use Rattle.sdd_lists.specs.Lists.{IsList, IsPushed}
 use Rattle.sdd_lists.specs.Stack.{cell_in}
-use Rattle.sdd_lists.proofs.Entering.{entry-held}
-use Rattle.sdd_lists.proofs.Fresh.{fresh-apart, fresh-clear, fresh-far, fresh-list}
-use Rattle.sdd_lists.proofs.Grows.{grows-not, grows-spilled}
+use Rattle.sdd_lists.proofs.EntryHoldings.{entry-held}
+use Rattle.sdd_lists.proofs.FreshLinks.{fresh-apart, fresh-clear, fresh-far, fresh-list}
+use Rattle.sdd_lists.proofs.MoreWaiting.{grows-not, grows-spilled}
 use Rattle.sdd_lists.proofs.Refusals.{full-of, no-cell-or}
 use Rattle.sdd_lists.proofs.Values.{pushed-onto}
 use Rattle.sdd_lists.proofs.stack.Stack.push.Goals as goal
@@ -25,11 +25,11 @@ returns-in-Ok-push_first-clause-list g c = λ e es list.
     let cell : ℕ = cell_in c.args.self.now in
     let entry = c.in-Ok.entry in
     let l : ℕ = link_of entry in
-    let at0 = c.has_slot-free.ensures.undisturbed.seat in
-    let ex0 : IsExact (g.S.Caller.seat c.has_slot-free.new.self) = subst (λ (s : CallerId). IsExact s) (sym at0) e in
+    let at0 = c.has_slot-free.ensures.undisturbed.caller in
+    let ex0 : IsExact (g.S.Caller.caller c.has_slot-free.new.self) = subst (λ (s : CallerId). IsExact s) (sym at0) e in
     let same = (c.has_slot-free.ensures.exact e).1 in
-    let at1 = c.in-Ok.ensures.undisturbed.seat ∙ at0 in
-    let ex1 : IsExact (g.S.Caller.seat c.new.new.s) = subst (λ (s : CallerId). IsExact s) (sym at1) e in
+    let at1 = c.in-Ok.ensures.undisturbed.caller ∙ at0 in
+    let ex1 : IsExact (g.S.Caller.caller c.new.new.s) = subst (λ (s : CallerId). IsExact s) (sym at1) e in
     let made = c.in-Ok.ensures.exact ex0 in
     let free : IsEmptyAt w.cells l = subst (λ (x : World _). IsEmptyAt x.cells l) same made.0 in
     let world_u : g.S.Caller.world c.new.new.s ≡ nulled w l = made.1 ∙ ap (λ (x : World _). nulled x l) same in
@@ -41,7 +41,7 @@ returns-in-Ok-push_first-clause-list g c = λ e es list.
       entry = entry;
       value = c.in-Ok.ensures.value;
       link = free;
-      list = subst (λ (x : World _). IsPushed link_of x (g.S.Caller.seat c.args.s.now).place cell no_tag es (slot_of c.in-Ok-push_first.owner) entry
+      list = subst (λ (x : World _). IsPushed link_of x (g.S.Caller.caller c.args.s.now).place cell no_tag es (slot_of c.in-Ok-push_first.owner) entry
           (g.S.Caller.world c.push_first.new.s)) world_u
           (subst (λ (s : CallerId). IsPushed link_of (g.S.Caller.world c.new.new.s) s.place cell no_tag es (slot_of c.in-Ok-push_first.owner) entry
           (g.S.Caller.world c.push_first.new.s)) at1 pushed);
@@ -58,7 +58,7 @@ returns-then-not-free-clause-refused g c = λ e.
 pub returns-in-Err-clause-refused : goal.returns-in-Err-clause-refused
 returns-in-Err-clause-refused g c = λ e.
     let seen = c.has_slot-free.ensures.exact e in
-    let ex0 : IsExact (g.S.Caller.seat c.has_slot-free.new.self) = subst (λ (s : CallerId). IsExact s) (sym c.has_slot-free.ensures.undisturbed.seat) e in
+    let ex0 : IsExact (g.S.Caller.caller c.has_slot-free.new.self) = subst (λ (s : CallerId). IsExact s) (sym c.has_slot-free.ensures.undisturbed.caller) e in
     let yes : c.has_slot-free.result ≡ true = c.if-not-free.false in
     let not = c.in-Err.ensures.exact ex0 in
     (not.2 ∙ seen.1, inr (seen.0.0 yes, subst (λ (x : World _). IsFull x.cells) seen.1 not.0, ap (λ b. b.1) not.1))
@@ -67,9 +67,9 @@ pub returns-in-Err-push_first-clause-refused : goal.returns-in-Err-push_first-cl
 returns-in-Err-push_first-clause-refused g c = λ e.
     let w = g.S.Caller.world c.args.s.now in
     let seen = c.has_slot-free.ensures.exact e in
-    let at0 = c.has_slot-free.ensures.undisturbed.seat in
-    let ex0 : IsExact (g.S.Caller.seat c.has_slot-free.new.self) = subst (λ (s : CallerId). IsExact s) (sym at0) e in
-    let at1 = c.in-Ok.ensures.undisturbed.seat ∙ at0 in
+    let at0 = c.has_slot-free.ensures.undisturbed.caller in
+    let ex0 : IsExact (g.S.Caller.caller c.has_slot-free.new.self) = subst (λ (s : CallerId). IsExact s) (sym at0) e in
+    let at1 = c.in-Ok.ensures.undisturbed.caller ∙ at0 in
     let made = c.in-Ok.ensures.exact ex0 in
     let same : g.S.Caller.world c.new.new.s ≡ nulled w (link_of c.in-Ok.entry) = made.1 ∙ ap (λ (x : World _). nulled x (link_of c.in-Ok.entry)) seen.1 in
     let full = (c.in-Err-push_first.ensures.refused (subst (λ (s : CallerId). IsExact s) (sym at1) e)).0 in
@@ -78,9 +78,9 @@ returns-in-Err-push_first-clause-refused g c = λ e.
 
 pub returns-in-Err-push_first-clause-back : goal.returns-in-Err-push_first-clause-back
 returns-in-Err-push_first-clause-back g c =
-    let at1 = c.in-Ok.ensures.undisturbed.seat ∙ c.has_slot-free.ensures.undisturbed.seat in (
+    let at1 = c.in-Ok.ensures.undisturbed.caller ∙ c.has_slot-free.ensures.undisturbed.caller in (
       c.close.ensures.value ∙ ap value_of c.in-Err-push_first.ensures.back.0 ∙ c.in-Ok.ensures.value,
-      no-cell-or (g.S.Caller.seat c.args.s.now) c.in-Err-push_first.refused
+      no-cell-or (g.S.Caller.caller c.args.s.now) c.in-Err-push_first.refused
           (subst (λ (s : CallerId). IsRefusedBy s NoSlot c.in-Err-push_first.refused) at1 c.in-Err-push_first.ensures.back.1),
     )
 
@@ -97,14 +97,14 @@ returns-in-Err-push_first-clause-own g c = λ start grown.
 
 pub push_first-requires-clause-value : goal.push_first-requires-clause-value
 push_first-requires-clause-value g c =
-    let at1 = c.in-Ok.ensures.undisturbed.seat ∙ c.has_slot-free.ensures.undisturbed.seat in
-    let held = entry-held g.T.Item.holds (g.S.Caller.seat c.args.s.now).home c.in-Ok.entry c.args.value c.in-Ok.ensures.value c.requires.value
-    (c.in-Ok.ensures.home ∙ ap (λ (s : CallerId). s.home.cells) c.has_slot-free.ensures.undisturbed.seat) in
+    let at1 = c.in-Ok.ensures.undisturbed.caller ∙ c.has_slot-free.ensures.undisturbed.caller in
+    let held = entry-held g.T.Item.holds (g.S.Caller.caller c.args.s.now).home c.in-Ok.entry c.args.value c.in-Ok.ensures.value c.requires.value
+    (c.in-Ok.ensures.home ∙ ap (λ (s : CallerId). s.home.cells) c.has_slot-free.ensures.undisturbed.caller) in
     subst (λ (s : CallerId). AreOf s.home (holdings_of g.T.Item.holds c.in-Ok.entry)) (sym at1) held
 
 pub returns-in-Ok-push_first-clause-values : goal.returns-in-Ok-push_first-clause-values
 returns-in-Ok-push_first-clause-values g c = λ e vs has.
-    pushed-onto (g.S.Caller.world c.args.s.now) (g.S.Caller.world c.push_first.new.s) (g.S.Caller.seat c.args.s.now).place c.args.self.now vs has
+    pushed-onto (g.S.Caller.world c.args.s.now) (g.S.Caller.world c.push_first.new.s) (g.S.Caller.caller c.args.s.now).place c.args.self.now vs has
     c.args.value c.in-Ok-push_first.owner (returns-in-Ok-push_first-clause-list g c e has.0 has.1)
 
 pub returns-then-not-free-clause-values : goal.returns-then-not-free-clause-values

@@ -1,7 +1,7 @@
 use Rattle.std.proofs.Common.{sym}
 use Rattle.sdd_core.specs.declared.tag.Tag.TheVariants.{None as no_tag}
 use Rattle.sdd_lists.specs.Lists.{left}
-use Rattle.sdd_lists.proofs.Walking.{shown-left}
+use Rattle.sdd_lists.proofs.WalkPositions.{shown-left}
 use Rattle.sdd_lists.proofs.stack.Stack.walk.Goals as goal
 
 pub returns-clause-list : goal.returns-clause-list

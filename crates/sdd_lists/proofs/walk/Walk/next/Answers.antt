@@ -1,9 +1,9 @@
 use Rattle.std.proofs.Common.{◌≡◌, ◌-◌, ℕ, arith, ◌∙◌, sym, subst}
 use Rattle.std.specs.Prelude.{drop}
-use Rattle.sdd_space.specs.World.{World}
+use Rattle.sdd_world_model.specs.World.{World}
 use Rattle.sdd_lists.specs.Lists.{left}
 use Rattle.sdd_lists.specs.Walk.{ShowsInOrder, StandsBefore}
-use Rattle.sdd_lists.proofs.Walking.{shows-next, stands-next}
+use Rattle.sdd_lists.proofs.WalkPositions.{shows-next, stands-next}
 use Rattle.sdd_lists.proofs.walk.Walk.next.Goals as goal
 
 pub returns-clause-list : goal.returns-clause-list
@@ -30,6 +30,7 @@ returns-clause-entries g c = λ e es stood.
     let next = stands-next w walk f at o c.front_in-self.ensures.link (c.front_in-self.ensures.exact e) c.as_ref.result.now c.as_ref.ensures es stood in
     let short : c.in-Some-checked_sub.most ≡ walk.most - 1 = omega arith in (
       next.0,
-      subst (λ (y : World _). StandsBefore y (record { next = o; most = c.in-Some-checked_sub.most }) (left (drop 1 es))) (sym (c.front_in-self.ensures.world e))
+      subst (λ (y : World _). StandsBefore y (record { next = o; most = c.in-Some-checked_sub.most }) (left (drop 1 es))) (sym
+          (c.front_in-self.ensures.world e))
           (subst (λ (m : ℕ). StandsBefore w (record { next = o; most = m }) (left (drop 1 es))) (sym short) next.1),
     )

@@ -4,7 +4,7 @@ use Rattle.sdd_machine.specs.declared.machine.places.PlacePhase.{PlacePhase}
 use Rattle.sdd_machine.specs.Table.{Place}
 use Rattle.sdd_machine.specs.Bags.{ThreeBags, BagsOfPlaces}
 use Rattle.sdd_machine.specs.Views.{free_post, IsMachineState, freed_post, gathered}
-use Rattle.sdd_machine.proofs.Seen.{seen, at_seen, with_adopted, adopter_open, open_in_range}
+use Rattle.sdd_machine.proofs.Views.{seen, at_seen, with_adopted, adopter_open, open_in_range}
 use Rattle.sdd_machine.specs.Table.{State, adopts, is_open}
 use Rattle.sdd_machine.proofs.Gather.{fits_gathered}
 use Rattle.sdd_machine.proofs.machine.Machine.adopt.Goals as goal

@@ -1,7 +1,7 @@
 use Rattle.std.proofs.Common.{sym, ap, ◌∙◌}
 use Rattle.sdd_machine.specs.declared.machine.places.PlacePhase.{PlacePhase}
 use Rattle.sdd_machine.specs.Table.{Place}
-use Rattle.sdd_machine.proofs.Seen.{at_seen, read_post, no_post}
+use Rattle.sdd_machine.proofs.Views.{at_seen, read_post, no_post}
 use Rattle.sdd_machine.proofs.machine.Machine.found.Goals as goal
 
 pub returns-in-Some : goal.returns-in-Some

@@ -1,6 +1,6 @@
 use Rattle.std.proofs.Common.{◌≡◌, length, sym, ap, ◌∙◌}
 use Rattle.sdd_machine.specs.Table.{State}
-use Rattle.sdd_machine.proofs.Seen.{length-seen}
+use Rattle.sdd_machine.proofs.Views.{length-seen}
 use Rattle.sdd_machine.proofs.machine.Machine.places.Goals as goal
 
 pub returns-clause-places : goal.returns-clause-places

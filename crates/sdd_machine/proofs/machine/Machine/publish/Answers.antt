@@ -3,7 +3,7 @@ use Rattle.sdd_machine.specs.Table.{State, place_at, with_place, rotated}
 use Rattle.std.proofs.Common.{not, eqb}
 use Rattle.sdd_machine.specs.declared.machine.steps.Did.TheVariants.{Opened}
 use Rattle.sdd_machine.specs.Table.{read_of}
-use Rattle.sdd_machine.proofs.Seen.{with_published, none_taken}
+use Rattle.sdd_machine.proofs.Views.{with_published, none_taken}
 use Rattle.sdd_machine.proofs.machine.Machine.publish.Goals as goal
 
 pub returns-then-changed-clause-new : goal.returns-then-changed-clause-new

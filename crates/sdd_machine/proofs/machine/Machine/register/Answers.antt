@@ -4,7 +4,7 @@ use Rattle.sdd_machine.specs.Bags.{ThreeBags, no_items}
 use Rattle.sdd_machine.specs.Table.{Place, is_free, is_open, registered}
 use Rattle.sdd_machine.specs.Views.{free_post, place_of}
 use Rattle.sdd_machine.proofs.Places.{free_is}
-use Rattle.sdd_machine.proofs.Seen.{at_seen, within_seen, with_post, fits_written}
+use Rattle.sdd_machine.proofs.Views.{at_seen, within_seen, with_post, fits_written}
 use Rattle.sdd_machine.proofs.machine.Machine.register.Goals as goal
 
 pub index_mut-requires : goal.index_mut-requires

@@ -3,7 +3,7 @@ use Rattle.std.proofs.lemmas.Bool.{true≢false, false_from_ne_true}
 use Rattle.sdd_machine.specs.Table.{State, Place, is_free}
 use Rattle.sdd_machine.specs.Bags.{ThreeBags, BagsOfPlaces, trio_at, has}
 use Rattle.sdd_machine.specs.Views.{IsMachineState, free_post}
-use Rattle.sdd_machine.proofs.Seen.{seen, at_seen, within_bags, with_put, fits_put}
+use Rattle.sdd_machine.proofs.Views.{seen, at_seen, within_bags, with_put, fits_put}
 use Rattle.sdd_machine.proofs.machine.Machine.retire.Goals as goal
 
 pub put-requires-clause-place : goal.put-requires-clause-place

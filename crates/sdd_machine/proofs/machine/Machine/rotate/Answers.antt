@@ -1,12 +1,12 @@
 use Rattle.std.proofs.Common.{◌<◌, length, refl, sym, ap, subst, ◌∙◌, get_or, arith}
 use Rattle.sdd_machine.specs.Table.{Place, rotated}
 use Rattle.sdd_machine.specs.Bags.{ThreeBags, BagsOfPlaces, no_items}
-use Rattle.sdd_machine.proofs.Seen.{at_seen, within_seen, with_trio}
+use Rattle.sdd_machine.proofs.Views.{at_seen, within_seen, with_trio}
 use Rattle.std.specs.FinSet as set
 use Rattle.std.proofs.Common.{List}
 use Rattle.sdd_machine.specs.Views.{IsMachineState}
-use Rattle.sdd_machine.proofs.Seen.{fits_rotated, within_bags}
-use Rattle.sdd_machine.proofs.Seen.{seen}
+use Rattle.sdd_machine.proofs.Views.{fits_rotated, within_bags}
+use Rattle.sdd_machine.proofs.Views.{seen}
 use Rattle.sdd_machine.specs.Bags as bags
 use Rattle.sdd_machine.proofs.machine.Machine.rotate.Goals as goal
 

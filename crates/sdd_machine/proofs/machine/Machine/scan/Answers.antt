@@ -1,4 +1,4 @@
-use Rattle.sdd_machine.proofs.Seen.{held_seen}
+use Rattle.sdd_machine.proofs.Views.{held_seen}
 use Rattle.sdd_machine.proofs.machine.Machine.scan.Goals as goal
 
 pub returns-clause-held : goal.returns-clause-held

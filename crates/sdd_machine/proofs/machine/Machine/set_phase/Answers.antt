@@ -4,7 +4,7 @@ use Rattle.sdd_machine.specs.declared.machine.places.PlacePhase.{PlacePhase}
 use Rattle.sdd_machine.specs.Table.{phased}
 use Rattle.sdd_machine.specs.Bags.{no_items}
 use Rattle.sdd_machine.specs.Views.{place_of, free_post}
-use Rattle.sdd_machine.proofs.Seen.{within_seen, with_post, fits_written}
+use Rattle.sdd_machine.proofs.Views.{within_seen, with_post, fits_written}
 use Rattle.sdd_machine.proofs.machine.Machine.set_phase.Goals as goal
 
 pub index_mut-requires : goal.index_mut-requires

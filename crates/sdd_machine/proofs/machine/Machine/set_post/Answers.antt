@@ -1,6 +1,6 @@
 use Rattle.std.proofs.Common.{◌<◌, length, refl, rules}
 use Rattle.sdd_machine.specs.Table.{posted}
-use Rattle.sdd_machine.proofs.Seen.{within_seen, with_post, fits_written}
+use Rattle.sdd_machine.proofs.Views.{within_seen, with_post, fits_written}
 use Rattle.sdd_machine.proofs.machine.Machine.set_post.Goals as goal
 
 pub index_mut-requires : goal.index_mut-requires

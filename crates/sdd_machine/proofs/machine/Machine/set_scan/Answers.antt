@@ -1,4 +1,4 @@
-use Rattle.sdd_machine.proofs.Seen.{fits_scanned}
+use Rattle.sdd_machine.proofs.Views.{fits_scanned}
 use Rattle.sdd_machine.proofs.machine.Machine.set_scan.Goals as goal
 
 pub invariant_of-self : goal.invariant_of-self

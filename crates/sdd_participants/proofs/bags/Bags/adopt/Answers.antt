@@ -1,5 +1,5 @@
 use Rattle.std.proofs.Common.{ap}
-use Rattle.sdd_participants.proofs.Aging.{adopted-waiting}
+use Rattle.sdd_participants.proofs.AgedBags.{adopted-waiting}
 use Rattle.sdd_participants.proofs.bags.Bags.adopt.Goals as goal
 
 pub returns-clause-adopted : goal.returns-clause-adopted

@@ -1,5 +1,5 @@
 use Rattle.std.proofs.Common.{sym}
-use Rattle.sdd_participants.proofs.Aging.{due-aged}
+use Rattle.sdd_participants.proofs.AgedBags.{due-aged}
 use Rattle.sdd_participants.proofs.bags.Bags.due.Goals as goal
 
 pub returns : goal.returns

@@ -1,7 +1,7 @@
 use Rattle.std.proofs.Common.{arith, ap}
 use Rattle.std.proofs.lemmas.Grind.{common_steps}
 use Rattle.sdd_participants.specs.Bags.{Bags}
-use Rattle.sdd_participants.proofs.Aging.{none-waiting}
+use Rattle.sdd_participants.proofs.AgedBags.{none-waiting}
 use Rattle.sdd_participants.proofs.bags.Bags.is_empty.Goals as goal
 use Rattle.sdd_participants.proofs.bags.Bags.is_empty.Goals.{then-is_empty, else-is_empty}
 

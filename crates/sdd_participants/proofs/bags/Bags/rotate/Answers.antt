@@ -1,5 +1,5 @@
 use Rattle.std.proofs.Common.{sym, ap}
-use Rattle.sdd_participants.proofs.Aging.{left-aged, due-aged, length-left-due}
+use Rattle.sdd_participants.proofs.AgedBags.{left-aged, due-aged, length-left-due}
 use Rattle.sdd_participants.proofs.bags.Bags.rotate.Goals as goal
 
 pub returns-clause-kept : goal.returns-clause-kept

@@ -1,6 +1,6 @@
 use Rattle.std.proofs.Common.{◌∙◌, ap}
 use Rattle.sdd_participants.specs.Tally.{one_more}
-use Rattle.sdd_participants.proofs.Counting.{counted}
+use Rattle.sdd_participants.proofs.CountedTally.{counted}
 use Rattle.sdd_participants.proofs.counter.Counter.count.Goals as goal
 
 -- src/counter.rt:39:5

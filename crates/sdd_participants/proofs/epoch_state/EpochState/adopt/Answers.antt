@@ -1,7 +1,7 @@
 use Rattle.std.proofs.Common.{◌≡◌, ◌+◌, ◌<◌, ◌≤◌, ap, arith, length, subst, sym, true, false, ◌∙◌}
 use Rattle.sdd_participants.specs.PlaceStates.{is_ended}
 use Rattle.sdd_participants.specs.EpochState.{EpochState, adopted_below, phase_at}
-use Rattle.sdd_participants.proofs.Adopting.{Adopts, adopted-next, adopts-below, live-after, live-apart, two-waiting, waiting-total}
+use Rattle.sdd_participants.proofs.Adoptions.{Adopts, adopted-next, adopts-below, live-after, live-apart, two-waiting, waiting-total}
 use Rattle.sdd_participants.proofs.epoch_state.EpochState.adopt.Goals as goal
 use Rattle.sdd_participants.proofs.epoch_state.EpochState.adopt.Goals.{then-is_ended, else-is_ended}
 

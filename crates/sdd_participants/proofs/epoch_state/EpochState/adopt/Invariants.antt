@@ -1,6 +1,6 @@
 use Rattle.std.proofs.Common.{◌≡◌, length}
 use Rattle.sdd_participants.specs.EpochState.{adopted_below}
-use Rattle.sdd_participants.proofs.Adopting.{Adopts}
+use Rattle.sdd_participants.proofs.Adoptions.{Adopts}
 use Rattle.sdd_participants.proofs.epoch_state.EpochState.adopt.Given as goal
 
 -- what the places so far left is adopted

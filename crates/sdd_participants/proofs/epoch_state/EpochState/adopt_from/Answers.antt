@@ -2,7 +2,7 @@ use Rattle.std.proofs.Common.{◌<◌, length, ap, List}
 use Rattle.sdd_participants.specs.Slab.{without_entry}
 use Rattle.sdd_participants.specs.EpochState.{EpochState}
 use Rattle.sdd_participants.specs.declared.participant.Participant.{Participant}
-use Rattle.sdd_participants.proofs.Adopting.{adopted-places}
+use Rattle.sdd_participants.proofs.Adoptions.{adopted-places}
 use Rattle.sdd_participants.proofs.epoch_state.EpochState.adopt_from.Goals as goal
 
 pub returns : goal.returns

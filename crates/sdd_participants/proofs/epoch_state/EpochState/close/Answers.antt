@@ -1,4 +1,4 @@
-use Rattle.sdd_participants.proofs.Adopting.{keeps-closed}
+use Rattle.sdd_participants.proofs.Adoptions.{keeps-closed}
 use Rattle.sdd_participants.proofs.epoch_state.EpochState.close.Goals as goal
 
 pub returns-else-index-gt1-clause-kept : goal.returns-else-index-gt1-clause-kept

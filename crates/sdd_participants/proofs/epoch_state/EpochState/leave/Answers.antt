@@ -1,5 +1,5 @@
 use Rattle.std.proofs.Common.{true}
-use Rattle.sdd_participants.proofs.Adopting.{scans-there, scans-if}
+use Rattle.sdd_participants.proofs.Adoptions.{scans-there, scans-if}
 use Rattle.sdd_participants.proofs.epoch_state.EpochState.leave.Goals as goal
 
 pub rest-requires : goal.rest-requires

@@ -2,7 +2,7 @@ use Rattle.std.proofs.Common.{◌≡◌, ℕ, ◌<◌, false, length, refl, sym,
 use Rattle.sdd_participants.specs.PlaceStates.{is_ended}
 use Rattle.sdd_participants.specs.Slab.{entry_at}
 use Rattle.sdd_participants.specs.EpochState.{EpochState, adopted, scanned, raised, place_at, nobody}
-use Rattle.sdd_participants.proofs.Adopting.{none-left, nothing-left, there-is}
+use Rattle.sdd_participants.proofs.Adoptions.{none-left, nothing-left, there-is}
 use Rattle.sdd_participants.proofs.epoch_state.EpochState.scan.Goals as goal
 use Rattle.sdd_participants.proofs.epoch_state.EpochState.scan.Goals.{then-self, else-self}
 

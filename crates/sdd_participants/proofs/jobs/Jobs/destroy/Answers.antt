@@ -1,4 +1,4 @@
-use Rattle.sdd_participants.proofs.Beside.{not-last}
+use Rattle.sdd_participants.proofs.JobsAtPlaces.{not-last}
 use Rattle.sdd_participants.proofs.jobs.Jobs.destroy.Goals as goal
 
 pub unreachable-requires : goal.unreachable-requires

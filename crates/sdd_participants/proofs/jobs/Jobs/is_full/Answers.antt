@@ -1,5 +1,5 @@
 use Rattle.std.proofs.Common.{sym}
-use Rattle.sdd_participants.proofs.Beside.{full-by}
+use Rattle.sdd_participants.proofs.JobsAtPlaces.{full-by}
 use Rattle.sdd_participants.proofs.jobs.Jobs.is_full.Goals as goal
 
 pub returns : goal.returns

@@ -1,4 +1,4 @@
-use Rattle.sdd_participants.proofs.Beside.{beside-none}
+use Rattle.sdd_participants.proofs.JobsAtPlaces.{beside-none}
 use Rattle.sdd_participants.proofs.jobs.Jobs.new.Goals as goal
 
 pub invariant_of-result : goal.invariant_of-result

@@ -1,5 +1,5 @@
 use Rattle.std.proofs.Common.{Some, refl, sym, ◌∙◌}
-use Rattle.sdd_participants.proofs.Beside.{beside-set, full-by, nothing-found}
+use Rattle.sdd_participants.proofs.JobsAtPlaces.{beside-set, full-by, nothing-found}
 use Rattle.sdd_participants.proofs.jobs.Jobs.put.Goals as goal
 
 pub returns-in_default : goal.returns-in_default

@@ -1,6 +1,6 @@
 use Rattle.std.proofs.Common.{IsSome, None, refl}
 use Rattle.sdd_participants.specs.Slab.{entry_at}
-use Rattle.sdd_participants.proofs.Beside.{beside-set, some-beside}
+use Rattle.sdd_participants.proofs.JobsAtPlaces.{beside-set, some-beside}
 use Rattle.sdd_participants.proofs.jobs.Jobs.take.Goals as goal
 
 pub release-requires : goal.release-requires

@@ -1,6 +1,6 @@
 use Rattle.std.proofs.Common.{arith, refl, Some}
 use Rattle.std.proofs.lemmas.List.{length-set}
-use Rattle.sdd_participants.proofs.Listed.{listed-claimed}
+use Rattle.sdd_participants.proofs.EmptyPlaces.{listed-claimed}
 use Rattle.sdd_participants.specs.declared.place_states.PlaceState.TheVariants.{Live}
 use Rattle.sdd_participants.proofs.place_states.PlaceStates.claim.Goals as goal
 

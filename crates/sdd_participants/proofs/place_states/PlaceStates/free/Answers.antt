@@ -1,7 +1,7 @@
 use Rattle.std.proofs.Common.{IsSome, None, arith, refl}
 use Rattle.std.proofs.lemmas.List.{length-set}
 use Rattle.sdd_participants.specs.Slab.{entry_at}
-use Rattle.sdd_participants.proofs.Listed.{listed-released, room-left}
+use Rattle.sdd_participants.proofs.EmptyPlaces.{listed-released, room-left}
 use Rattle.sdd_participants.proofs.place_states.PlaceStates.free.Goals as goal
 
 pub push_reserved-requires : goal.push_reserved-requires

@@ -1,6 +1,6 @@
 use Rattle.std.proofs.Common.{IsSome, arith}
 use Rattle.sdd_participants.specs.Slab.{but_empty, entry_at}
-use Rattle.sdd_participants.proofs.Shown.{but-at, but-inside}
+use Rattle.sdd_participants.proofs.ShownEntries.{but-at, but-inside}
 use Rattle.sdd_participants.proofs.slab.Slab.at.Goals as goal
 
 pub index-requires : goal.index-requires

@@ -1,7 +1,7 @@
 use Rattle.std.proofs.Common.{arith, refl}
 use Rattle.sdd_participants.specs.Slab.{IsEmptyAt, IsFull, but_empty}
-use Rattle.sdd_participants.proofs.Listed.{full-from-count, listed-claimed, listed-last, listed-still}
-use Rattle.sdd_participants.proofs.Shown.{but-claimed, but-still, length-but}
+use Rattle.sdd_participants.proofs.EmptyPlaces.{full-from-count, listed-claimed, listed-last, listed-still}
+use Rattle.sdd_participants.proofs.ShownEntries.{but-claimed, but-still, length-but}
 use Rattle.sdd_participants.proofs.slab.Slab.claim.Goals as goal
 
 pub index_mut-requires : goal.index_mut-requires

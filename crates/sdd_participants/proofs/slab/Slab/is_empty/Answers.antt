@@ -1,5 +1,5 @@
 use Rattle.std.proofs.Common.{arith, ap, sym, length, ◌∙◌}
-use Rattle.sdd_participants.proofs.Listed.{empty-by-lengths}
+use Rattle.sdd_participants.proofs.EmptyPlaces.{empty-by-lengths}
 use Rattle.sdd_participants.proofs.slab.Slab.is_empty.Goals as goal
 
 pub returns : goal.returns

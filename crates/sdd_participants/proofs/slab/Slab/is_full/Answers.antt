@@ -1,5 +1,5 @@
 use Rattle.std.proofs.Common.{arith, vec_len}
-use Rattle.sdd_participants.proofs.Listed.{full-by-length}
+use Rattle.sdd_participants.proofs.EmptyPlaces.{full-by-length}
 use Rattle.sdd_participants.proofs.slab.Slab.is_full.Goals as goal
 
 pub returns : goal.returns

@@ -1,5 +1,5 @@
 use Rattle.std.proofs.Common.{arith}
-use Rattle.sdd_participants.proofs.Shown.{length-but}
+use Rattle.sdd_participants.proofs.ShownEntries.{length-but}
 use Rattle.sdd_participants.proofs.slab.Slab.len.Goals as goal
 
 pub returns : goal.returns

@@ -1,5 +1,5 @@
-use Rattle.sdd_participants.proofs.Fresh.{fresh-as}
-use Rattle.sdd_participants.proofs.Shown.{but-all}
+use Rattle.sdd_participants.proofs.NewSlab.{fresh-as}
+use Rattle.sdd_participants.proofs.ShownEntries.{but-all}
 use Rattle.sdd_participants.proofs.slab.Slab.new.Goals as goal
 
 pub invariant_of-result : goal.invariant_of-result

@@ -1,7 +1,7 @@
 use Rattle.std.proofs.Common.{IsSome, arith, refl}
 use Rattle.sdd_participants.specs.Slab.{but_empty, entry_at}
-use Rattle.sdd_participants.proofs.Listed.{listed-released, room-left}
-use Rattle.sdd_participants.proofs.Shown.{but-more}
+use Rattle.sdd_participants.proofs.EmptyPlaces.{listed-released, room-left}
+use Rattle.sdd_participants.proofs.ShownEntries.{but-more}
 use Rattle.sdd_participants.proofs.slab.Slab.release.Goals as goal
 
 pub push_reserved-requires : goal.push_reserved-requires

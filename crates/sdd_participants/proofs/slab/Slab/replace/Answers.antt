@@ -1,7 +1,7 @@
 use Rattle.std.proofs.Common.{IsSome, arith}
 use Rattle.sdd_participants.specs.Slab.{but_empty, entry_at}
-use Rattle.sdd_participants.proofs.Listed.{listed-replaced, unlisted}
-use Rattle.sdd_participants.proofs.Shown.{but-inside, but-set}
+use Rattle.sdd_participants.proofs.EmptyPlaces.{listed-replaced, unlisted}
+use Rattle.sdd_participants.proofs.ShownEntries.{but-inside, but-set}
 use Rattle.sdd_participants.proofs.slab.Slab.replace.Goals as goal
 
 pub index_mut-requires : goal.index_mut-requires

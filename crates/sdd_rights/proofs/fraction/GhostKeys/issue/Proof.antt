@@ -1,13 +1,13 @@
 -- `issue` takes the next number.
 use Rattle.sdd_rights.proofs.Names.{◌≡◌, [], ◌∷◌, refl, List, ℕ, suc, ◌+◌, ◌^◌, arith, a_type, named, Val, vptr, inst_fn, SProp, emp, ‵, raw, ◌⊛◌, later, await, ◌$◌, ◌∵◌, !, qed, by, keep, split, fjoin, use0, use1, move, fsplit, fsplit3, fjoin3, join, feq_i, rewrite, no_more, and_then, returns, enter, alloc_all, pass_all, free_all, look_at, get, sets, agg, tables, RattleType, RefOf, owns, types_at, plain, nothing, opens, closes, param, layouts, Stays, stay_dropped, stay_ref, walk_of, Goes-dropped, Goes-ref, fact, fact_i, ftrue, Fml, fsep, flft, Lft, yes, mut_vals, mut_Tells, shr_vals, shr_Tells, proved, leaves, token_val, Gv, gnil}
-use Rattle.sdd_rights.specs.Units.{units, told, book_owns, tokens}
+use Rattle.sdd_rights.specs.Units.{units, told, keys_own, tokens}
 use base.Fraction.{full_share}
 use base.FractionLaws.{Counts-all}
 use types.Tokens.{lft_new}
 use Rattle.sdd_rights.proofs.Steps.{issues, tokens_in}
 use Rattle.sdd_rights.proofs.Fields.{Pin, pin_made}
-use Rattle.sdd_rights.specs.contracts.fraction.Fraction as part
-use Rattle.sdd_rights.specs.contracts.fraction.GhostKeys as book
+use Rattle.sdd_rights.specs.contracts.fraction.Fraction as fraction
+use Rattle.sdd_rights.specs.contracts.fraction.GhostKeys as gamma
 use Rattle.sdd_rights.specs.contracts.fraction.GhostKeys.issue.{ended, clauses}
 use Rattle.sdd_rights.specs.contracts.fraction.GhostKeys.issue.Key.{name as #self}
 use Rattle.sdd_rights.proofs.fraction.GhostKeys.issue.Statement.{statement}
@@ -16,7 +16,7 @@ use Rattle.sdd_rights.proofs.fraction.GhostKeys.issue.Code as code
 pub issue_spec : {M : Type 1} → statement M
 issue_spec 𝓤 𝓛 𝓜 𝓡 wired X L =
     let H = 𝓛.H in let 𝓣 = tables 𝓤 H 𝓜 𝓡 𝓡.env in let R : RattleType = param 0 X in let En = ended X in let inst = layouts (a_type ∷ []) (X, tt) in
-    let fn = inst_fn inst code.function in let Row : RattleType = book.the_row R in let c = clauses X 𝓛 𝓜.mem 𝓡.returns in
+    let fn = inst_fn inst code.function in let Row : RattleType = gamma.the_row R in let c = clauses X 𝓛 𝓜.mem 𝓡.returns in
     let self = plain (λ _. Row) in let arg = RefOf (1 ∷ []) tt (plain (λ _. R)) (λ _. tt) in
     let hs : Stays En.signature.params En.kept = (stay_ref (0 ∷ []) tt self, (stay_dropped arg yes, tt)) in
     proved 𝓛 En hs c 𝓜 𝓡 (Goes-ref 𝓛 3 0 tt self, (Goes-dropped 𝓛 3 arg yes (λ κs x f. refl), tt)) (#self inst) fn (code.unfolded 𝓤 H 𝓜 𝓡 wired (X, tt))
@@ -33,10 +33,10 @@ issue_spec 𝓤 𝓛 𝓜 𝓡 wired X L =
     enter ! 𝓣.C 𝓣.Λ fn (vptr b o ∷ vptr b' o' ∷ []) Post $ alloc_all ! (λ l. pass_all ! refl ((tt, tt), ((tt, tt), tt)) $
     opens ! tt Row b o (λ vs. move ! (1 ∷ []) $ fsplit ! $ move ! (1 ∷ []) $
     lft_new ! tt (λ r. let g : Gv = told R.coded r x gnil in
-    let new : (part.the_row R).Denot = record { of = record {}; home = d.home; number = d.next; units = 2 ^ 63; round = r; kind = x; shown = gnil } in
+    let new : (fraction.the_row R).Denot = record { of = record {}; home = d.home; number = d.next; units = 2 ^ 63; lifetime = r; kind = x; shown = gnil } in
     use1 𝓛 (‵ (tokens r (2 ^ 63))) (tokens_in 𝓛 r (2 ^ 63) full_share (Counts-all 63)) $ move ! (1 ∷ []) $
-    use1 𝓛 (later (‵ (book_owns d.home.name (suc d.next)) ⊛ ‵ (units d.home.name d.next g (2 ^ 63)))) (issues 𝓛 d.home.name d.next g) $ await ! tt $
-    split ! $ rewrite ! 0 (λ (m : ℕ). ‵ (book_owns d.home.name m)) next refl $ move ! (1 ∷ 2 ∷ []) $ fjoin ! $ move ! (1 ∷ 0 ∷ []) $
+    use1 𝓛 (later (‵ (keys_own d.home.name (suc d.next)) ⊛ ‵ (units d.home.name d.next g (2 ^ 63)))) (issues 𝓛 d.home.name d.next g) $ await ! tt $
+    split ! $ rewrite ! 0 (λ (m : ℕ). ‵ (keys_own d.home.name m)) next refl $ move ! (1 ∷ 2 ∷ []) $ fjoin ! $ move ! (1 ∷ 0 ∷ []) $
     sets ! (agg ! (no_more !)) refl (tt, tt) $ sets ! (agg ! (and_then ! (get ! refl) (no_more !))) refl (tt, (tt, tt)) $
     move ! (2 ∷ 0 ∷ []) $ fjoin ! $ move ! (2 ∷ 0 ∷ 3 ∷ 4 ∷ 5 ∷ []) $ closes ! tt Row d' vs b o $
     feq_i ! (List Val) (vptr b o ∷ []) (vptr b o ∷ []) refl $ fjoin3 ! $ nothing ! $ nothing ! $ fjoin ! $ move ! (1 ∷ 0 ∷ []) $ fjoin ! $

@@ -1,9 +1,9 @@
--- A book is a new name, with every number under it.
+-- A ghost map is a new name, with every number under it.
 use Rattle.sdd_rights.proofs.Names.{List, [], ◌∷◌, refl, ℕ, a_type, Val, inst_fn, SProp, emp, ‵, raw, ◌⊛◌, ◌$◌, ◌∵◌, !, qed, by, keep, split, join, fjoin, use0, some, later, pick, await, no_more, and_then, returns, enter, alloc_all, pass_all, free_all, look_at, get, sets, agg, tables, RattleType, owns, types_at, nothing, param, layouts, alive, Stays, walk_of, fact, fact_i, ◌≡◌, proved, leaves, token_val, plain, usize, stay_dropped, Goes-dropped, yes, uint_vals, uint_Tells, w64, vint}
 use Rattle.std.specs.Prelude.{false}
 use Rattle.atomic_table.specs.Seated.{TableId}
-use Rattle.sdd_rights.specs.Units.{book_owns}
-use Rattle.sdd_rights.proofs.Steps.{book_new}
+use Rattle.sdd_rights.specs.Units.{keys_own}
+use Rattle.sdd_rights.proofs.Steps.{keys_new}
 use Rattle.sdd_rights.proofs.Fields.{Cover, cover_made}
 use Rattle.sdd_rights.specs.contracts.fraction.GhostKeys.new.{ended, clauses}
 use Rattle.sdd_rights.specs.contracts.fraction.GhostKeys.new.Key.{name as #self}
@@ -21,7 +21,7 @@ new_spec 𝓤 𝓛 𝓜 𝓡 wired U _ =
     qed 𝓛 ((raw (alive 𝓛 En.signature κs qs) ⊛ ‵ (owns (types_at En.signature.params κs) a y.0.4)) ∷ raw ((c κs a).requires gh) ∷ []) ∵
     split ! $ keep ! (0 ∷ []) $
     enter ! 𝓣.C 𝓣.Λ fn (vint w64 m ∷ []) Post $ alloc_all ! (λ l. pass_all ! refl ((tt, record { fits = are.0.1 }), tt) $
-    use0 𝓛 (later (some (λ (γ : ℕ). ‵ (book_owns γ 0)))) (book_new 𝓛) $ await ! tt $ pick ! (λ γ.
+    use0 𝓛 (later (some (λ (γ : ℕ). ‵ (keys_own γ 0)))) (keys_new 𝓛) $ await ! tt $ pick ! (λ γ.
     use0 𝓛 (‵ ((Cover W).own_val (tt, tt) (token_val ∷ []))) (cover_made W 𝓛) $ fjoin ! $
     sets ! (agg ! (no_more !)) refl (tt, tt) $ sets ! (agg ! (and_then ! (get ! refl) (no_more !))) refl (tt, (tt, tt)) $
     use0 𝓛 (raw (fact 𝓤 (none ≡ none))) (fact_i 𝓤 (none ≡ none) (emp 𝓤) refl) $ use0 𝓛 (raw (fact 𝓤 (0 ≡ 0))) (fact_i 𝓤 (0 ≡ 0) (emp 𝓤) refl) $ join ! $

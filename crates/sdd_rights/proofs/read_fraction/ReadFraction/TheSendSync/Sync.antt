@@ -4,4 +4,4 @@ use Rattle.atomic_table.specs.Seated.{halved}
 use Rattle.sdd_rights.specs.contracts.read_fraction.ReadFraction.{the_row}
 
 pub sync : IsSync the_row
-sync = record { shared = λ d b o κ. ((((tt, (λ q. tt)), tt), (λ q. tt)), ((λ q. entry_keyless halved d.book d.number _), (λ q. tt))) }
+sync = record { shared = λ d b o κ. ((((tt, (λ q. tt)), tt), (λ q. tt)), ((λ q. entry_keyless halved d.gamma d.number _), (λ q. tt))) }

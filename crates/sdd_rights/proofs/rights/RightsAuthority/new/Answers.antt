@@ -3,7 +3,7 @@ use Rattle.sdd_rights.specs.Units.{GhostName}
 use Rattle.sdd_rights.specs.RightsAuthority.{whole}
 use Rattle.sdd_rights.specs.declared.fraction.GhostKeys.{GhostKeys}
 use Rattle.sdd_rights.specs.declared.right.StandingKind.{StandingKind}
-use Rattle.sdd_rights.proofs.Issuing.{each-issued, kept-issued}
+use Rattle.sdd_rights.proofs.IssuedFractions.{each-issued, kept-issued}
 use Rattle.sdd_rights.proofs.rights.RightsAuthority.new.Goals as goal
 
 pub loop-number-preserved : goal.loop-number-preserved
@@ -11,11 +11,11 @@ loop-number-preserved c =
     let was = c.loop-number.invariant in
     let issued = c.issue.ensures in
     let pushed = c.push_reserved.ensures in
-    let home = ap (λ (b : GhostKeys StandingKind). b.home) issued.book in
+    let home = ap (λ (b : GhostKeys StandingKind). b.home) issued.keys in
     record {
       size = ap (λ (h : GhostName). h.size) home ∙ was.size;
       tables = ap (λ (h : GhostName). h.tables) home ∙ was.tables;
-      next = ap (λ (b : GhostKeys StandingKind). b.next) issued.book ∙ ap (λ (n : ℕ). n + 1) was.next;
+      next = ap (λ (b : GhostKeys StandingKind). b.next) issued.keys ∙ ap (λ (n : ℕ). n + 1) was.next;
       len = omega (arith, was.len, pushed.len);
       room = omega (arith, was.room, pushed.capacity);
       kept = kept-issued _ _ _ _ _ pushed.items was.kept issued.kind issued.units;

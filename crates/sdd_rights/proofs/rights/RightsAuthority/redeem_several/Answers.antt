@@ -1,12 +1,19 @@
 use Rattle.std.proofs.Common.{◌≡◌, ◌<◌, length, arith, refl}
-use Rattle.sdd_rights.proofs.Keeping.{kept-changed}
+use Rattle.sdd_rights.proofs.KeptFractions.{kept-changed}
 use Rattle.sdd_rights.proofs.rights.RightsAuthority.redeem_several.Goals as goal
 
 pub returns-clause-kept : goal.returns-clause-kept
 returns-clause-kept c =
     let size = c.self.invariant.size in
-    let sizes : c.self.inside.book.home.size ≡ c.args.self.now.home.size = (λ i. (c.self.view_is i).home.size) in
-    let home : c.args.several.part.home.size ≡ c.args.self.now.home.size = (λ i. (c.requires i).size) in
-    let inside : c.number-number.result < length c.self.inside.parts.items = omega (arith, size, sizes, c.number-number.ensures, c.args.several.inside, home) in
+    let sizes : c.self.inside.keys.home.size ≡ c.args.self.now.home.size = (λ i. (c.self.view_is i).home.size) in
+    let home : c.args.several.fraction.home.size ≡ c.args.self.now.home.size = (λ i. (c.requires i).size) in
+    let inside : c.number-number.result < length c.self.inside.fractions.items = omega (
+      arith,
+      size,
+      sizes,
+      c.number-number.ensures,
+      c.args.several.inside,
+      home,
+    ) in
     rw (← c.self.view_is) (kept-changed _ _ _ _ _ inside c.index_mut-kept.ensures.value (λ e.
     rw (c.join.ensures.joined) rw (c.apart.ensures.kept.0, c.apart.ensures.kept.1, e, c.args.several.due) refl))

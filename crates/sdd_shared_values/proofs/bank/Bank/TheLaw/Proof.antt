@@ -8,14 +8,14 @@ use denote.Struct.Laws.{field_copy}
 use denote.Struct.Lending.{of_Lends}
 use Rattle.core.specs.contracts.marker.PhantomData as P
 use Rattle.atomic_table.specs.declared.shared.TableRule as rule
-use Rattle.sdd_witness.proofs.Kept.{kept_laws, Lends-kept}
+use Rattle.sdd_witness.proofs.DuplicableShares.{kept_laws, Lends-kept}
 use Rattle.sdd_shared_values.specs.declared.bank.Treasury as treasury
 use Rattle.sdd_shared_values.specs.declared.value_fraction.ValueFraction.{ValueFraction}
 use Rattle.sdd_shared_values.specs.Bank.{bank_owns}
 use Rattle.sdd_shared_values.specs.contracts.value_fraction.ValueFraction.{the_row}
 use Rattle.sdd_shared_values.specs.contracts.bank.Bank as C
 use Rattle.sdd_shared_values.proofs.bank.Bank.TheLaw.Statement.{statement}
-use Rattle.sdd_shared_values.proofs.Banking.{bank_twice}
+use Rattle.sdd_shared_values.proofs.BankDeals.{bank_twice}
 
 pub shares : (V K Y B : RattleType) (g : rule.Ghosts Y.Denot ValueFraction V.Denot K.Denot) (gB : treasury.Ghosts B.Denot V.Denot) (L : Laws V) (L' : Laws K)
     (M : Laws Y) (M' : Laws B) → statement V K Y B g gB L L' M M'

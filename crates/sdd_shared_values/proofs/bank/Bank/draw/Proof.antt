@@ -9,12 +9,12 @@ use Rattle.atomic_table.specs.Seated.{TableId, age, inner, common, mine}
 use Rattle.atomic_table.proofs.Fields.{HandData}
 use Rattle.sdd_shared_values.specs.Bank.{bank_owns, AllowsDeal, Leaves}
 use Rattle.sdd_shared_values.specs.ValueFractions.{FractionContent}
-use Rattle.sdd_shared_values.proofs.Banking.{draws, drawn, BankData}
+use Rattle.sdd_shared_values.proofs.BankDeals.{draws, drawn, BankData}
 use Rattle.sdd_shared_values.proofs.Fields.{token_val, Peg, peg_made}
 use base.Fml.{fex, fbor}
 use Rattle.atomic_table.specs.contracts.shared.Shared as table
 use Rattle.atomic_table.specs.contracts.shared.Seat as seat
-use Rattle.sdd_shared_values.specs.contracts.value_fraction.ValueFraction as stake
+use Rattle.sdd_shared_values.specs.contracts.value_fraction.ValueFraction as fraction
 use Rattle.sdd_shared_values.specs.contracts.bank.Bank as bank
 use Rattle.sdd_shared_values.specs.contracts.bank.Bank.draw.{ended, clauses}
 use Rattle.sdd_shared_values.specs.contracts.bank.Bank.draw.Key.{name as #self}
@@ -24,7 +24,7 @@ use Rattle.sdd_shared_values.proofs.bank.Bank.draw.Code as code
 pub draw_spec : {M : Type 1} → statement M
 unfolding Rattle.atomic_table.specs.Seated.seal
 draw_spec 𝓤 𝓛 𝓜 𝓡 wired V K P B Mv _ _ _ _ _ g d gB dB g' d' _ _ _ =
-    let H = 𝓛.H in let 𝓣 = tables 𝓤 H 𝓜 𝓡 𝓡.env in let R : RattleType = stake.the_row in let W : RattleType = param 0 V in
+    let H = 𝓛.H in let 𝓣 = tables 𝓤 H 𝓜 𝓡 𝓡.env in let R : RattleType = fraction.the_row in let W : RattleType = param 0 V in
     let X : RattleType = param 1 K in let Y : RattleType = param 2 P in let Z : RattleType = param 3 B in let En = ended V K P B Mv g d gB dB g' d' in
     let inst = bounded (a_type ∷ a_type ∷ a_type ∷ a_type ∷ a_type ∷ []) (V, (K, (P, (B, (Mv, tt))))) (dcons d (dcons dB (dcons d' dnil))) in
     let fn = inst_fn inst code.function in
@@ -91,7 +91,7 @@ draw_spec 𝓤 𝓛 𝓜 𝓡 wired V K P B Mv _ _ _ _ _ g d gB dB g' d' _ _ _ =
     (draws 𝓛 cv (g.holds e.key) w p z s id v e.id gB.ours gB.banked offered then n.1.0 n.1.1 ne allowed) $ await ! tt $ split ! $ fpick ! (λ got. fsplit3 ! $
     fpick ! (λ told. drop ! $
     -- [what is drawn; the seat's content; the token; the field; the cell; the open borrow; the open token; what all know; the bank's token; the others]
-    let u : Me R.Denot V.Denot = got.1 in let h' : Sr.Denot = record h { me = u } in let new : R.Denot = record { of = record {}; lot = got.0 } in
+    let u : Me R.Denot V.Denot = got.1 in let h' : Sr.Denot = record h { me = u } in let new : R.Denot = record { of = record {}; content = got.0 } in
     let Ids : Type 0 = (h.table_id ≡ h.table_id) × (id ≡ id) in let Then : Type 0 = then got.0 u in
     sets ! (agg ! (no_more !)) refl (tt, tt) $ sets ! (agg ! (and_then ! (get ! refl) (no_more !))) refl (tt, (tt, tt)) $
     rewrite ! 1 (λ (x : TableId). ‵ (mine R cv.code x id u)) (sym at_table.0) refl $ move ! (3 ∷ 1 ∷ []) $ fjoin ! $

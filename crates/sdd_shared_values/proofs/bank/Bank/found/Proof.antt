@@ -7,14 +7,14 @@ use Rattle.atomic_table.specs.Table.{Me, Splits}
 use Rattle.atomic_table.specs.Seated.{TableId, age, common, mine}
 use Rattle.atomic_table.proofs.Fields.{HandData}
 use Rattle.atomic_table.proofs.Moves.{common_twice}
-use Rattle.sdd_witness.proofs.Opened.{parts, two}
+use Rattle.sdd_witness.proofs.TableInvariant.{parts, two}
 use Rattle.sdd_shared_values.specs.Bank.{bank_owns}
-use Rattle.sdd_shared_values.proofs.Banking.{makes, BankData, bank_made}
+use Rattle.sdd_shared_values.proofs.BankDeals.{makes, BankData, bank_made}
 use Rattle.sdd_shared_values.proofs.Fields.{token_val}
 use base.Fml.{fex}
 use Rattle.atomic_table.specs.contracts.shared.Shared as table
 use Rattle.atomic_table.specs.contracts.shared.Seat as seat
-use Rattle.sdd_shared_values.specs.contracts.value_fraction.ValueFraction as stake
+use Rattle.sdd_shared_values.specs.contracts.value_fraction.ValueFraction as fraction
 use Rattle.sdd_shared_values.specs.contracts.bank.Bank as bank
 use Rattle.sdd_shared_values.specs.contracts.bank.Bank.found.{ended, clauses}
 use Rattle.sdd_shared_values.specs.contracts.bank.Bank.found.Key.{name as #self}
@@ -24,7 +24,7 @@ use Rattle.sdd_shared_values.proofs.bank.Bank.found.Code as code
 pub found_spec : {M : Type 1} → statement M
 unfolding Rattle.atomic_table.specs.Seated.seal
 found_spec 𝓤 𝓛 𝓜 𝓡 wired V K P B Mv _ _ _ _ _ g d gB dB g' d' _ _ _ =
-    let H = 𝓛.H in let 𝓣 = tables 𝓤 H 𝓜 𝓡 𝓡.env in let R : RattleType = stake.the_row in let W : RattleType = param 0 V in
+    let H = 𝓛.H in let 𝓣 = tables 𝓤 H 𝓜 𝓡 𝓡.env in let R : RattleType = fraction.the_row in let W : RattleType = param 0 V in
     let X : RattleType = param 1 K in let Y : RattleType = param 2 P in let Z : RattleType = param 3 B in let En = ended V K P B Mv g d gB dB g' d' in
     let inst = bounded (a_type ∷ a_type ∷ a_type ∷ a_type ∷ a_type ∷ []) (V, (K, (P, (B, (Mv, tt))))) (dcons d (dcons dB (dcons d' dnil))) in
     let fn = inst_fn inst code.function in

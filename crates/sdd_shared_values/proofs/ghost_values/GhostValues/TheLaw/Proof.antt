@@ -6,11 +6,11 @@ use denote.Struct.Laws.{field_copy}
 use denote.Struct.Lending.{of_Lends}
 use Rattle.core.specs.contracts.marker.PhantomData as P
 use Rattle.atomic_table.specs.Seated.{fact}
-use Rattle.sdd_witness.proofs.Kept.{kept_laws, Lends-kept}
+use Rattle.sdd_witness.proofs.DuplicableShares.{kept_laws, Lends-kept}
 use Rattle.sdd_shared_values.specs.GhostValues.{AreCoded}
 use Rattle.sdd_shared_values.specs.contracts.ghost_values.GhostValues as C
 use Rattle.sdd_shared_values.proofs.ghost_values.GhostValues.TheLaw.Statement.{statement}
-use Rattle.sdd_shared_values.proofs.Ledgers.{known_twice}
+use Rattle.sdd_shared_values.proofs.GhostCodes.{known_twice}
 
 pub shares : (T : RattleType) (L : Laws T) → statement T L
 shares T L = of_Lends (C.struct T) (C.the_codes T.Denot T.coded (P.the_row T).coded) (C.the_heap T) (C.the_lent T)

@@ -6,7 +6,7 @@ use Rattle.atomic_table.proofs.Walks.{proved, leaves}
 use Rattle.sdd_shared_values.specs.SharedValues.{showing}
 use Rattle.sdd_shared_values.specs.GhostValues.{AreCoded}
 use Rattle.sdd_shared_values.specs.contracts.ghost_values.GhostValues as ledger
-use Rattle.sdd_shared_values.proofs.Ledgers.{filled_coded}
+use Rattle.sdd_shared_values.proofs.GhostCodes.{filled_coded}
 use Rattle.sdd_shared_values.specs.contracts.ghost_values.GhostValues.fill.{ended, clauses}
 use Rattle.sdd_shared_values.specs.contracts.ghost_values.GhostValues.fill.Key.{name as #self}
 use Rattle.sdd_shared_values.proofs.ghost_values.GhostValues.fill.Statement.{statement}

@@ -6,7 +6,7 @@ use Rattle.atomic_table.proofs.Walks.{proved, leaves}
 use Rattle.sdd_shared_values.specs.GhostValues.{AreCoded}
 use Rattle.sdd_shared_values.specs.contracts.ghost_values.GhostValues as ledger
 use Rattle.sdd_shared_values.proofs.Fields.{token_val}
-use Rattle.sdd_shared_values.proofs.Ledgers.{LedgerData, ledger_made, empty_coded}
+use Rattle.sdd_shared_values.proofs.GhostCodes.{LedgerData, ledger_made, empty_coded}
 use Rattle.sdd_shared_values.specs.contracts.ghost_values.GhostValues.new.{ended, clauses}
 use Rattle.sdd_shared_values.specs.contracts.ghost_values.GhostValues.new.Key.{name as #self}
 use Rattle.sdd_shared_values.proofs.ghost_values.GhostValues.new.Statement.{statement}

@@ -1,4 +1,4 @@
--- `take` opens what the seat carries, ends the round of the value by all its tokens, and moves the value out.
+-- `take` opens what the seat carries, ends the lifetime of the value by all its tokens, and moves the value out.
 use Rattle.atomic_table.proofs.Names.{◌≡◌, ℕ, [], ◌∷◌, List, sym, refl, ap, ◌∙◌, a_type, named, Val, vptr, inst_fn, SProp, emp, Lft, Fml, ftrue, fsep, flft, ‵, raw, ◌⊛◌, some, given, later, at_ret, ◌$◌, ◌∵◌, !, qed, by, move, keep, drop, split, split3, join, fsplit, fsplit3, fjoin, fjoin3, pick, learn, use0, use1, await, rewrite, feq_i, stop, fld, of_opd, first, blocks, exec, returns, enter, alloc_all, pass_all, free_all, look_at, get, through, sets, sets_last, env, sub, whole, look_in, tables, yes, RattleType, owns, types_at, plain, Ptr, block_ptr, nothing, heard, param, bounded, dcons, dnil, Stays, stay_dropped, stay_ref, walk_of, Goes-dropped, Goes-ref, fact, fact_i, Is, shows, cell_at, peeks, RefOf, mut_vals, mut_Tells, shr_vals, shr_Tells, opens, closes, unhide, hidden_shr, looks, shuts, lent_out, Tuple, shr_bor-open, obor_close, tokens_halve, sem, ◌^◌, all_e, apply∗, use2, load, vint, w64, usize, uint_vals, uint_Tells, subst, full_share, bin, fpick, ◌*◌, ◌+◌, ◌<◌, arith, block_of, count_of, at_block}
 use base.Fml.{fhide, finv, flent, froom, fat}
 use base.Logic.{sep, all}
@@ -16,22 +16,22 @@ use Rattle.atomic_table.proofs.Walks.{proved, leaves}
 use Rattle.atomic_table.specs.Seated.{TableId, carried, age, place as where_, names}
 use Rattle.atomic_table.proofs.Fields.{HandData}
 use Rattle.sdd_rights.specs.Units.{units, tokens}
-use Rattle.sdd_shared_values.specs.ValueFractions.{FractionContent, agreed_on, part, purse}
-use Rattle.sdd_shared_values.specs.CarriedFractions.{lots, with_lots}
+use Rattle.sdd_shared_values.specs.ValueFractions.{FractionContent, agreed_on, part, holdings}
+use Rattle.sdd_shared_values.specs.CarriedFractions.{contents, with_contents}
 use Rattle.sdd_shared_values.proofs.Rules.{rule_at}
 use denote.Memory.{mem}
 use types.Run.{size_lit}
 use Rattle.core.proofs.ptr.Rows.{times_below, one_below}
 use Rattle.core.proofs.slots.Bodies.{after}
-use Rattle.sdd_shared_values.specs.SharedValues.{full_shown, IsValueCode, rule, shelf_shares, most, AreWhole, HasWhole, top_turned}
+use Rattle.sdd_shared_values.specs.SharedValues.{full_shown, IsValueCode, rule, values_shares, most, AreWhole, HasWhole, top_turned}
 use Rattle.atomic_table.specs.contracts.shared.Shared as table
 use Rattle.atomic_table.specs.contracts.shared.Seat as seat
-use Rattle.sdd_shared_values.specs.contracts.value_fraction.ValueFraction as stake
-use Rattle.sdd_shared_values.specs.contracts.shared_values.SharedValues as shelf
-use Rattle.sdd_shared_values.proofs.Fields.{shelf_of, ShelfData, shelf_told, shelf_opens}
-use Rattle.sdd_shared_values.proofs.Carried.{Shuts, opens_all, lots_long}
-use Rattle.sdd_shared_values.proofs.Collect.{whole_out, whole_in, top_long, agree_top}
-use Rattle.sdd_shared_values.proofs.Takes.{round_begins, round_ends, takes_out, leaves_room}
+use Rattle.sdd_shared_values.specs.contracts.value_fraction.ValueFraction as fraction
+use Rattle.sdd_shared_values.specs.contracts.shared_values.SharedValues as values
+use Rattle.sdd_shared_values.proofs.Fields.{values_of, ValuesData, values_told, values_opens}
+use Rattle.sdd_shared_values.proofs.CarriedFractions.{Shuts, opens_all, contents_long}
+use Rattle.sdd_shared_values.proofs.WholeFractions.{whole_out, whole_in, top_long, agree_top}
+use Rattle.sdd_shared_values.proofs.ValueMoves.{lifetime_begins, lifetime_ends, takes_out, leaves_room}
 use Rattle.sdd_shared_values.specs.contracts.shared_values.SharedValues.take.{ended, clauses}
 use Rattle.sdd_shared_values.specs.contracts.shared_values.SharedValues.take.Key.{name as #self}
 use Rattle.sdd_shared_values.proofs.shared_values.SharedValues.take.Statement.{statement}
@@ -42,12 +42,12 @@ unfolding Rattle.atomic_table.specs.Seated.seal
 take_spec 𝓤 𝓛 𝓜 𝓡 wired T F V K P L _ _ _ _ gF dF g d _ _ =
     let H = 𝓛.H in let A = 𝓛.A in let 𝓣 = tables 𝓤 H 𝓜 𝓡 𝓡.env in let R : RattleType = param 0 T in let B : RattleType = param 1 F in
     let W : RattleType = param 2 V in
-    let X : RattleType = param 3 K in let Y : RattleType = param 4 P in let S : RattleType = stake.the_row in let En = ended T F V K P gF dF g d in
+    let X : RattleType = param 3 K in let Y : RattleType = param 4 P in let S : RattleType = fraction.the_row in let En = ended T F V K P gF dF g d in
     let inst = bounded (a_type ∷ a_type ∷ a_type ∷ a_type ∷ a_type ∷ []) (T, (F, (V, (K, (P, tt))))) (dcons dF (dcons d dnil)) in
     let fn = inst_fn inst code.function in
     let ty = layout T in
-    let Row : RattleType = shelf.the_row R B gF in let Sr : RattleType = seat.the_row S W in let Tr : RattleType = table.the_row S W X Y g in
-    let D : RattleType = ShelfData R B gF in let DH : RattleType = HandData S W X Y g in let c = clauses T F V K P gF dF g d 𝓛 𝓜.mem 𝓡.returns in
+    let Row : RattleType = values.the_row R B gF in let Sr : RattleType = seat.the_row S W in let Tr : RattleType = table.the_row S W X Y g in
+    let D : RattleType = ValuesData R B gF in let DH : RattleType = HandData S W X Y g in let c = clauses T F V K P gF dF g d 𝓛 𝓜.mem 𝓡.returns in
     let self = RefOf (0 ∷ []) tt (plain (λ _. Row)) (λ _. tt) in let sitter = plain (λ _. Sr) in
     let about = RefOf (2 ∷ []) tt (plain (λ _. Tr)) (λ _. tt) in let num = plain (λ _. usize) in
     let hs : Stays En.signature.params En.kept = (
@@ -80,9 +80,9 @@ take_spec 𝓤 𝓛 𝓜 𝓡 wired T F V K P L _ _ _ _ gF dF g d _ _ =
     let b : ℕ = a.0.ref_ptr.0 in let o : ℕ = a.0.ref_ptr.1 in let b' : ℕ = a.1.1.0.ref_ptr.0 in let o' : ℕ = a.1.1.0.ref_ptr.1 in
     let b″ : ℕ = a.1.1.1.0.ref_ptr.0 in let o″ : ℕ = a.1.1.1.0.ref_ptr.1 in let i : ℕ = a.1.0 in let k : ℕ = a.1.1.1.1.0 in
     let κ : Lft = κs.0 in let κ″ : Lft = κs.1.1.0 in let f : Row.Denot = a.0.now in let s : Sr.Denot = a.1.1.0.now in let t : Tr.Denot = a.1.1.1.0.now in
-    let p : Ptr = f.ptr in let γ : ℕ = f.book in let N : ℕ = f.size in let bp : ℕ = block_of p in let size : ℕ = (mem R).size in
+    let p : Ptr = f.ptr in let γ : ℕ = f.gamma in let N : ℕ = f.size in let bp : ℕ = block_of p in let size : ℕ = (mem R).size in
     let op : ℕ = i * size + count_of p in let here : Ptr = block_ptr bp op in let z : TableId = t.table_id in let α : Lft = age z in let xs = s.me.1 in
-    let hold : List FractionContent = lots xs in let more : List FractionContent = lib.ListN.drop k hold in
+    let hold : List FractionContent = contents xs in let more : List FractionContent = lib.ListN.drop k hold in
     let bag : TableId → List (ℕ × S.Denot) → Fml = λ u us. carried (age u) S (where_ u) (names u) u.slots us in
     let others : Fml = fsep (flft κs.1.1.1.0 qs.1.1.1.0) (fsep (flft κs.1.1.1.1.0 qs.1.1.1.1.0) (fsep (flft κs.1.1.1.1.1.0 qs.1.1.1.1.1.0)
     (fsep (flft κs.1.1.1.1.1.1.0 qs.1.1.1.1.1.1.0) (fsep (flft κs.1.1.1.1.1.1.1.0 qs.1.1.1.1.1.1.1.0) ftrue)))) in
@@ -112,7 +112,7 @@ take_spec 𝓤 𝓛 𝓜 𝓡 wired T F V K P L _ _ _ _ gF dF g d _ _ =
     ) in let Post : Val → SProp 𝓤 = (walk_of 𝓛 En hs c).post y in
     qed 𝓛 (((‵ (flft κ qs.0) ⊛ ‵ (flft κs.1.0 qs.1.0) ⊛ ‵ (flft κ″ qs.1.1.0) ⊛ ‵ others) ⊛ ‵ (owns (types_at En.signature.params κs) a y.0.4)) ∷
     raw (fact 𝓤 _) ∷ raw (fact 𝓤 _) ∷ raw (fact 𝓤 _) ∷ raw (fact 𝓤 _) ∷ raw (fact 𝓤 _) ∷ raw (fact 𝓤 AtTable) ∷ raw (fact 𝓤 Inside) ∷ raw (fact 𝓤 All) ∷ []) ∵
-    keep ! (6 ∷ 7 ∷ 8 ∷ 0 ∷ []) $ heard ! AtTable (λ at_table. heard ! Inside (λ near. heard ! All (λ top. let n : ℕ = top.newest.round in
+    keep ! (6 ∷ 7 ∷ 8 ∷ 0 ∷ []) $ heard ! AtTable (λ at_table. heard ! Inside (λ near. heard ! All (λ top. let n : ℕ = top.newest.lifetime in
     let u : Gv = top.newest.shown in
     split ! $ split3 ! $ move ! (2 ∷ []) $ split ! $ move ! (4 ∷ []) $ fsplit ! $ move ! (1 ∷ []) $ fsplit ! $ drop ! $ fsplit ! $ move ! (2 ∷ 0 ∷ 1 ∷ []) $
     move ! (2 ∷ []) $ fsplit ! $ fsplit ! $ drop ! $
@@ -120,9 +120,9 @@ take_spec 𝓤 𝓛 𝓜 𝓡 wired T F V K P L _ _ _ _ gF dF g d _ _ =
     (lent_out 𝓛 (table.struct S W X Y g) (table.the_codes S.Denot V.Denot K.Denot P.Denot S.coded W.coded X.coded Y.coded (marker.the_row (Tuple (Y ∷ W ∷ X ∷
     []))).coded) (table.the_heap S W X Y g) (table.the_lent S W X Y g) κ″ t b″ o″) $
     split ! $ drop ! $ move ! (2 ∷ []) $ fsplit ! $ drop ! $
-    use1 𝓛 (‵ (hidden_shr D κ (p, (tt, tt)) b o) ⊛ ‵ (fhide (shelf_shares R Fit p γ N κ)))
-    (lent_out 𝓛 (shelf.struct R B gF) (shelf.the_codes T.Denot F.Denot R.coded B.coded (marker.the_row B).coded)
-    (shelf.the_heap R B gF) (shelf.the_lent R B gF) κ f b o) $ split ! $
+    use1 𝓛 (‵ (hidden_shr D κ (p, (tt, tt)) b o) ⊛ ‵ (fhide (values_shares R Fit p γ N κ)))
+    (lent_out 𝓛 (values.struct R B gF) (values.the_codes T.Denot F.Denot R.coded B.coded (marker.the_row B).coded)
+    (values.the_heap R B gF) (values.the_lent R B gF) κ f b o) $ split ! $
     move ! (4 ∷ []) $ fsplit3 ! $ keep ! (3 ∷ 4 ∷ 5 ∷ 1 ∷ 2 ∷ 7 ∷ 8 ∷ 9 ∷ 10 ∷ []) $
     enter ! 𝓣.C 𝓣.Λ fn (vptr b o ∷ vint w64 i ∷ vptr b' o' ∷ vptr b″ o″ ∷ vint w64 k ∷ []) Post $
     alloc_all ! (λ l. pass_all ! refl ((tt, tt), ((tt, record { fits = are.1.0.1 }), ((tt, tt), ((tt, tt), ((tt, record { fits = are.1.1.1.1.0.1 }), tt))))) $
@@ -135,24 +135,24 @@ take_spec 𝓤 𝓛 𝓜 𝓡 wired T F V K P L _ _ _ _ gF dF g d _ _ =
     shr_bor-open ! tt (tokens_halve 𝓛 α) (λ r. move ! (4 ∷ 5 ∷ 8 ∷ []) $
     opens ! tt Sr b' o' (λ ts. move ! (1 ∷ []) $ fsplit ! $ move ! (1 ∷ []) $ fsplit ! $ move ! (1 ∷ []) $
     rewrite ! 0 (λ (v : TableId). ‵ (bag v xs)) at_table refl $ let Back = Shuts 𝓛 α (where_ z) (names z) z.slots xs r in
-    move ! (0 ∷ 8 ∷ []) $ use2 𝓛 (later (‵ (purse hold) ⊛ raw (all 𝓤 Back))) (opens_all 𝓛 α (where_ z) (names z) z.slots xs r) $ await ! tt $ split ! $
-    use1 𝓛 (given (AreWhole γ i n u k hold) (‵ (purse hold))) (agree_top 𝓛 γ i k hold top.newest top.others top.there top.parts top.whole) $ learn ! (λ all_.
-    use1 𝓛 (‵ (part γ i n u most) ⊛ ‵ (purse more)) (whole_out 𝓛 γ i n u k hold all_) $ split ! $ fsplit ! $
-    -- [the units; their tokens; the other stakes; the way back; the view; the field; the cell; the open borrow; the names; the table's open token; the rule;
+    move ! (0 ∷ 8 ∷ []) $ use2 𝓛 (later (‵ (holdings hold) ⊛ raw (all 𝓤 Back))) (opens_all 𝓛 α (where_ z) (names z) z.slots xs r) $ await ! tt $ split ! $
+    use1 𝓛 (given (AreWhole γ i n u k hold) (‵ (holdings hold))) (agree_top 𝓛 γ i k hold top.newest top.others top.there top.parts top.whole) $ learn ! (λ all_.
+    use1 𝓛 (‵ (part γ i n u most) ⊛ ‵ (holdings more)) (whole_out 𝓛 γ i n u k hold all_) $ split ! $ fsplit ! $
+    -- [the units; their tokens; the other fractions; the way back; the view; the field; the cell; the open borrow; the names; the table's open token; the rule;
     -- the place; the others; the token]
-    use0 𝓛 (later (some (λ (m : ℕ). ‵ (tokens m 1) ⊛ ‵ (tokens m most)))) (round_begins 𝓛) $ await ! tt $ pick ! (λ m. split ! $
+    use0 𝓛 (later (some (λ (m : ℕ). ‵ (tokens m 1) ⊛ ‵ (tokens m most)))) (lifetime_begins 𝓛) $ await ! tt $ pick ! (λ m. split ! $
     move ! (3 ∷ 0 ∷ []) $ join ! $ move ! (2 ∷ 0 ∷ []) $ join ! $ move ! (11 ∷ []) $
     use1 𝓛 (‵ (finv (rule R here γ i Fit)) ⊛ ‵ (finv (rule R here γ i Fit))) (𝓛.invs.inv_dup (rule R here γ i Fit)) $ split ! $ move ! (0 ∷ 2 ∷ []) $
     use2 𝓛 (later (some (λ (x : T.Denot). given ((u ≡ full_shown (R.coded.code x)) × Fit x)
     (‵ (units γ i (agreed_on m (gnum 0)) most) ⊛ ‵ (tokens n (2 ^ 63)) ⊛ ‵ (flent (n ∷ []) (lies_at R full_share here x))))))
     (takes_out 𝓛 γ i R Fit here n u m top.so) $ await ! tt $ pick ! (λ x. learn ! (λ so. split3 ! $ move ! (1 ∷ 2 ∷ []) $
-    use2 𝓛 (later (‵ (lies_at R full_share here x))) (round_ends 𝓛 n (lies_at R full_share here x)) $ await ! tt $
+    use2 𝓛 (later (‵ (lies_at R full_share here x))) (lifetime_ends 𝓛 n (lies_at R full_share here x)) $ await ! tt $
     use1 𝓛 (some (λ (v : Val). ‵ (fat full_share ty bp op v) ⊛ ‵ (R.own_val x (v ∷ [])))) (part_out 𝓛 R refl full_share x bp op) $ pick ! (λ v. split ! $
     move ! (1 ∷ []) $
     peeks ! R (Is R) (shows 𝓛 R) x (v ∷ []) (λ is. let tv : Tr₀ (has_ty ty v) × WT v = (((param_laws 0 T L).lawful 𝓛).typed x (v ∷ []) is).0 in
     move ! (14 ∷ 16 ∷ []) $
-    looks ! tt D (shelf_opens R B gF 𝓛) (p, (tt, tt)) b o (λ q vs. move ! (1 ∷ []) $ peeks ! D (Is D) (shows 𝓛 D) (p, (tt, tt)) vs (λ is-so.
-    let ev : vs ≡ shelf_of (block_ptr bp (count_of p)) ∷ [] = shelf_told R B gF p vs is-so ∙ ap (λ (q : Ptr). shelf_of q ∷ []) (at_block p fit.0) in
+    looks ! tt D (values_opens R B gF 𝓛) (p, (tt, tt)) b o (λ q vs. move ! (1 ∷ []) $ peeks ! D (Is D) (shows 𝓛 D) (p, (tt, tt)) vs (λ is-so.
+    let ev : vs ≡ values_of (block_ptr bp (count_of p)) ∷ [] = values_told R B gF p vs is-so ∙ ap (λ (q : Ptr). values_of q ∷ []) (at_block p fit.0) in
     rewrite ! 1 (λ (ws : List Val). ‵ (cell_at q D.mir ws b o)) ev refl $
     sets ! (of_opd ! (load ! (through ! refl (fld ! refl (stop !))) (look_in ! 1 (sub ! 0 refl (whole !))))) refl (tt, tt) $
     rewrite ! 1 (λ (ws : List Val). ‵ (cell_at q D.mir ws b o)) (sym ev) refl $ move ! (1 ∷ 0 ∷ 2 ∷ []) $ shuts ! tt D q (p, (tt, tt)) vs b o $
@@ -161,11 +161,11 @@ take_spec 𝓤 𝓛 𝓜 𝓡 wired T F V K P L _ _ _ _ gF dF g d _ _ =
     exec ! 𝓣.C 𝓣.Λ Ev (after 2 fn.body) (at_ret Ev Post) $ sets ! (of_opd ! (get ! refl)) refl tv $
     move ! (3 ∷ []) $ use1 𝓛 (‵ (froom ty bp op)) (𝓛.laws.at_room ty bp op v) $ use1 𝓛 (‵ (froom (bare ty) bp op)) (𝓛.laws.room-raw ty bp op) $
     move ! (4 ∷ 0 ∷ []) $ join ! $ move ! (4 ∷ 0 ∷ []) $ use2 𝓛 (later (‵ (units γ i (agreed_on m gnil) most))) (leaves_room 𝓛 γ i R Fit here m) $ await ! tt $
-    let hold' : List FractionContent = top_turned m gnil k hold in let long = top_long m gnil k hold ∙ lots_long xs in let ys = with_lots xs hold' in
+    let hold' : List FractionContent = top_turned m gnil k hold in let long = top_long m gnil k hold ∙ contents_long xs in let ys = with_contents xs hold' in
     let s' : Sr.Denot = record s { me = (s.me.0, ys) } in
-    move ! (0 ∷ 4 ∷ []) $ fjoin ! $ move ! (0 ∷ 4 ∷ []) $ use2 𝓛 (‵ (purse hold')) (whole_in 𝓛 γ i n u k hold m gnil all_) $
+    move ! (0 ∷ 4 ∷ []) $ fjoin ! $ move ! (0 ∷ 4 ∷ []) $ use2 𝓛 (‵ (holdings hold')) (whole_in 𝓛 γ i n u k hold m gnil all_) $
     move ! (4 ∷ []) $ use1 𝓛 (raw (Back (hold', long))) (all_e 𝓤 Back (hold', long)) $ move ! (1 ∷ 0 ∷ []) $
-    use2 𝓛 (later (‵ (bag z ys) ⊛ ‵ (flft α r))) (apply∗ 𝓤 (sem 𝓛 (purse hold')) (H.⇛ (sep 𝓤 (sem 𝓛 (bag z ys)) (A.lft α r)))) $ await ! tt $ split ! $
+    use2 𝓛 (later (‵ (bag z ys) ⊛ ‵ (flft α r))) (apply∗ 𝓤 (sem 𝓛 (holdings hold')) (H.⇛ (sep 𝓤 (sem 𝓛 (bag z ys)) (A.lft α r)))) $ await ! tt $ split ! $
     -- [what is carried; the table's token; the token; the place; the value; the view; the field; the cell; ..]
     rewrite ! 0 (λ (v : TableId). ‵ (bag v ys)) (sym at_table) refl $ move ! (5 ∷ 0 ∷ []) $ fjoin ! $ move ! (5 ∷ 0 ∷ []) $ fjoin ! $
     move ! (5 ∷ 0 ∷ 6 ∷ 7 ∷ 8 ∷ []) $ closes ! tt Sr s' ts b' o' $
@@ -173,7 +173,7 @@ take_spec 𝓤 𝓛 𝓜 𝓡 wired T F V K P L _ _ _ _ gF dF g d _ _ =
     move ! (0 ∷ 6 ∷ []) $ join ! $ move ! (2 ∷ 0 ∷ []) $ join ! $ move ! (2 ∷ 0 ∷ []) $ join ! $ move ! (1 ∷ []) $ nothing ! $ nothing ! $ fjoin ! $
     nothing ! $ fjoin ! $ move ! (1 ∷ 0 ∷ []) $ fjoin ! $ nothing ! $ fjoin ! $ nothing ! $ fjoin ! $
     let Value : Type 0 = (n' : ℕ) × AreWhole γ i n' (full_shown (R.coded.code x)) k hold in
-    let Seats : Type 0 = (m' : ℕ) × (s' ≡ record s { me = (s.me.0, with_lots xs (top_turned m' gnil k hold)) }) in
+    let Seats : Type 0 = (m' : ℕ) × (s' ≡ record s { me = (s.me.0, with_contents xs (top_turned m' gnil k hold)) }) in
     use0 𝓛 (raw (fact 𝓤 (Fit x))) (fact_i 𝓤 (Fit x) (emp 𝓤) so.1) $
     use0 𝓛 (raw (fact 𝓤 Value)) (fact_i 𝓤 Value (emp 𝓤) (n, subst (λ (v : Gv). AreWhole γ i n v k hold) so.0 all_)) $ join ! $
     use0 𝓛 (raw (fact 𝓤 Seats)) (fact_i 𝓤 Seats (emp 𝓤) (m, refl)) $ join ! $

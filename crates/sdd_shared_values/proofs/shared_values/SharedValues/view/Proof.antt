@@ -1,4 +1,5 @@
--- `view` opens the place's rule beside a share of the grip's unit, and shows the value for as long as the grip is borrowed, which holds a token of the round.
+-- `view` opens the place's rule beside a share of the read fraction's unit, and shows the value for as long as the read fraction is borrowed, which holds a
+-- token of the lifetime.
 use Rattle.atomic_table.proofs.Names.{◌≡◌, ℕ, [], ◌∷◌, List, sym, refl, ap, ◌∙◌, a_type, named, Val, vptr, inst_fn, SProp, emp, Lft, Fml, ftrue, fsep, flft, ‵, raw, ◌⊛◌, some, given, later, at_ret, ◌$◌, ◌∵◌, !, qed, by, move, keep, drop, split, join, fsplit, fsplit3, fjoin, pick, learn, use0, use1, use2, await, rewrite, feq_i, stop, fld, addr, of_opd, first, blocks, exec, returns, enter, alloc_all, pass_all, free_all, look_at, get, through, sets, sets_last, env, sub, whole, look_in, tables, yes, RattleType, owns, types_at, plain, Ptr, block_ptr, nothing, heard, param, bounded, dcons, dnil, Stays, stay_dropped, walk_of, Goes-dropped, fact, fact_i, Is, shows, cell_at, peeks, block_of, count_of, at_block, RefOf, shr_vals, shr_Tells, unhide, hidden_shr, looks, shuts, lent_out, shr_bor-open, obor_close, load, bin, vint, w64, usize, uint_vals, uint_Tells, fpick, ◌*◌, ◌+◌, ◌^◌, ◌<◌, arith}
 use base.Stored.{Gv}
 use base.Fml.{fhide, finv, fshr_bor}
@@ -15,15 +16,15 @@ use Rattle.core.proofs.slots.Bodies.{after}
 use Rattle.core.specs.contracts.marker.PhantomData as marker
 use Rattle.atomic_table.proofs.Walks.{proved, leaves}
 use Rattle.sdd_rights.specs.Units.{share_of}
-use Rattle.sdd_rights.specs.ReadFraction.{agreed_on, grip_shares}
+use Rattle.sdd_rights.specs.ReadFraction.{agreed_on, read_fraction_shares}
 use Rattle.sdd_rights.proofs.Steps.{halves_at}
 use Rattle.sdd_rights.proofs.Fields.{Hilt}
-use Rattle.sdd_shared_values.specs.SharedValues.{full_shown, rule, shelf_shares}
+use Rattle.sdd_shared_values.specs.SharedValues.{full_shown, rule, values_shares}
 use Rattle.sdd_shared_values.proofs.Rules.{rule_at}
-use Rattle.sdd_shared_values.proofs.Fields.{shelf_of, ShelfData, shelf_told, shelf_opens}
-use Rattle.sdd_shared_values.proofs.Looks.{looks_at_share}
-use Rattle.sdd_rights.specs.contracts.read_fraction.ReadFraction as grip
-use Rattle.sdd_shared_values.specs.contracts.shared_values.SharedValues as shelf
+use Rattle.sdd_shared_values.proofs.Fields.{values_of, ValuesData, values_told, values_opens}
+use Rattle.sdd_shared_values.proofs.ReadFractions.{looks_at_share}
+use Rattle.sdd_rights.specs.contracts.read_fraction.ReadFraction as read_fraction
+use Rattle.sdd_shared_values.specs.contracts.shared_values.SharedValues as values
 use Rattle.sdd_shared_values.specs.contracts.shared_values.SharedValues.view.{ended, clauses}
 use Rattle.sdd_shared_values.specs.contracts.shared_values.SharedValues.view.Key.{name as #self}
 use Rattle.sdd_shared_values.proofs.shared_values.SharedValues.view.Statement.{statement}
@@ -34,7 +35,7 @@ view_spec 𝓤 𝓛 𝓜 𝓡 wired T F L _ gF dF _ =
     let H = 𝓛.H in let 𝓣 = tables 𝓤 H 𝓜 𝓡 𝓡.env in let R : RattleType = param 0 T in let B : RattleType = param 1 F in let En = ended T F gF dF in
     let c = clauses T F gF dF 𝓛 𝓜.mem 𝓡.returns in
     let inst = bounded (a_type ∷ a_type ∷ []) (T, (F, tt)) (dcons dF dnil) in let fn = inst_fn inst code.function in let laws = (param_laws 0 T L).shr_laws in
-    let Row : RattleType = shelf.the_row R B gF in let Gr : RattleType = grip.the_row in let D : RattleType = ShelfData R B gF in
+    let Row : RattleType = values.the_row R B gF in let Gr : RattleType = read_fraction.the_row in let D : RattleType = ValuesData R B gF in
     let self = RefOf (0 ∷ []) tt (plain (λ _. Row)) (λ _. tt) in let num = plain (λ _. usize) in let arg = RefOf (0 ∷ []) tt (plain (λ _. Gr)) (λ _. tt) in
     let hs : Stays En.signature.params En.kept = (stay_dropped self yes, (stay_dropped num yes, (stay_dropped arg yes, tt))) in
     proved 𝓛 En hs c 𝓜 𝓡 (
@@ -45,27 +46,28 @@ view_spec 𝓤 𝓛 𝓜 𝓡 wired T F L _ gF dF _ =
     (λ κs. (shr_Tells (named 0) κs.0 Row, (uint_Tells w64, (shr_Tells (named 0) κs.0 Gr, tt)))) (λ κs qs bounds a gh are.
     let b : ℕ = a.0.ref_ptr.0 in let o : ℕ = a.0.ref_ptr.1 in let i : ℕ = a.1.0 in let b' : ℕ = a.1.1.0.ref_ptr.0 in let o' : ℕ = a.1.1.0.ref_ptr.1 in
     let κ : Lft = κs.0 in let f : Row.Denot = a.0.now in let d : Gr.Denot = a.1.1.0.now in
-    let p : Ptr = f.ptr in let γ : ℕ = f.book in let m : ℕ = f.size in let r : ℕ = d.round in let g : Gv = agreed_on r d.shown in
+    let p : Ptr = f.ptr in let γ : ℕ = f.gamma in let m : ℕ = f.size in let r : ℕ = d.lifetime in let g : Gv = agreed_on r d.shown in
     let bp : ℕ = block_of p in let size : ℕ = (mem R).size in let op : ℕ = i * size + count_of p in let here : Ptr = block_ptr bp op in
     let there : Val = vptr bp op in let ls = λ (x : T.Denot). lent_at_shr_laws R laws here x in
     let others : Fml = fsep (flft κs.1.0 qs.1.0) (fsep (flft κs.1.1.0 qs.1.1.0) ftrue) in
     let Fit : T.Denot → Type 0 = gF.fits f.table γ m in
-    let Inside : Type 0 = i < m in let Book : Type 0 = d.book ≡ γ in let Number : Type 0 = d.number ≡ i in
+    let Inside : Type 0 = i < m in let Gamma : Type 0 = d.gamma ≡ γ in let Number : Type 0 = d.number ≡ i in
     let y : (walk_of 𝓛 En hs c).Ghost = ((κs, qs, bounds, a, (vptr b o ∷ [], (vint w64 i ∷ [], (vptr b' o' ∷ [], tt)))), gh) in
     let Post : Val → SProp 𝓤 = (walk_of 𝓛 En hs c).post y in
     qed 𝓛 (((‵ (flft κ qs.0) ⊛ ‵ others) ⊛ ‵ (owns (types_at En.signature.params κs) a y.0.4)) ∷ raw (fact 𝓤 _) ∷ raw (fact 𝓤 _) ∷ raw (fact 𝓤 Inside) ∷
-    raw (fact 𝓤 Book) ∷ raw (fact 𝓤 Number) ∷ []) ∵
-    keep ! (3 ∷ 4 ∷ 5 ∷ 0 ∷ []) $ heard ! Inside (λ near. heard ! Book (λ books. heard ! Number (λ numbers. split ! $ split ! $ move ! (2 ∷ []) $
-    -- [self; the number; the grip and the rest; the token; the others]
+    raw (fact 𝓤 Gamma) ∷ raw (fact 𝓤 Number) ∷ []) ∵
+    keep ! (3 ∷ 4 ∷ 5 ∷ 0 ∷ []) $ heard ! Inside (λ near. heard ! Gamma (λ books. heard ! Number (λ numbers. split ! $ split ! $ move ! (2 ∷ []) $
+    -- [self; the number; the read fraction and the rest; the token; the others]
     fsplit3 ! $ fsplit ! $ drop ! $ move ! (2 ∷ []) $ fsplit ! $ fsplit ! $ drop ! $
-    use1 𝓛 (‵ (hidden_shr Hilt κ (tt, tt) b' o') ⊛ ‵ (fhide (grip_shares d.book d.number r d.shown κ)))
-    (lent_out 𝓛 grip.struct (grip.the_codes (marker.the_row u64).coded) grip.the_heap grip.the_lent κ d b' o') $ split ! $ drop ! $
-    -- [the grip; _; self; ..]
+    use1 𝓛 (‵ (hidden_shr Hilt κ (tt, tt) b' o') ⊛ ‵ (fhide (read_fraction_shares d.gamma d.number r d.shown κ)))
+    (lent_out 𝓛 read_fraction.struct (read_fraction.the_codes
+    (marker.the_row u64).coded) read_fraction.the_heap read_fraction.the_lent κ d b' o') $ split ! $ drop ! $
+    -- [the read fraction; _; self; ..]
     move ! (2 ∷ []) $
-    use1 𝓛 (‵ (hidden_shr D κ (p, (tt, tt)) b o) ⊛ ‵ (fhide (shelf_shares R Fit p γ m κ)))
-    (lent_out 𝓛 (shelf.struct R B gF) (shelf.the_codes T.Denot F.Denot R.coded B.coded (marker.the_row B).coded)
-    (shelf.the_heap R B gF) (shelf.the_lent R B gF) κ f b o) $ split ! $ keep ! (0 ∷ 1 ∷ 2 ∷ 5 ∷ 6 ∷ []) $
-    -- [the field; the rule; the grip; the token; the others]
+    use1 𝓛 (‵ (hidden_shr D κ (p, (tt, tt)) b o) ⊛ ‵ (fhide (values_shares R Fit p γ m κ)))
+    (lent_out 𝓛 (values.struct R B gF) (values.the_codes T.Denot F.Denot R.coded B.coded (marker.the_row B).coded)
+    (values.the_heap R B gF) (values.the_lent R B gF) κ f b o) $ split ! $ keep ! (0 ∷ 1 ∷ 2 ∷ 5 ∷ 6 ∷ []) $
+    -- [the field; the rule; the read fraction; the token; the others]
     enter ! 𝓣.C 𝓣.Λ fn (vptr b o ∷ vint w64 i ∷ vptr b' o' ∷ []) Post $
     alloc_all ! (λ l. pass_all ! refl ((tt, tt), ((tt, record { fits = are.1.0.1 }), ((tt, tt), tt))) $ let Ev = env fn.locals l in
     move ! (1 ∷ []) $ unhide ! $ fsplit ! $ fpick ! (λ fit. drop ! $
@@ -73,7 +75,7 @@ view_spec 𝓤 𝓛 𝓜 𝓡 wired T F L _ gF dF _ =
     let near_enough : i * size < 2 ^ 63 = times_below i m size (2 ^ 63) (omega arith) fit.1 in let fm : i * size < 2 ^ 64 = omega arith in
     use1 𝓛 (‵ (finv (rule R here γ i Fit))) (rule_at 𝓛 R Fit bp γ m (count_of p) i near) $
     move ! (2 ∷ []) $ unhide ! $ fsplit ! $ rewrite ! 0 (λ (n : ℕ × ℕ). ‵ (fshr_bor κ (share_of n.0 n.1 g))) (λ j. (books j, numbers j)) refl $
-    -- [the unit; the round's token; the rule; the field; the token; the others]
+    -- [the unit; the lifetime's token; the rule; the field; the token; the others]
     move ! (0 ∷ 4 ∷ []) $ shr_bor-open ! tt (halves_at 𝓛 γ i g) (λ s. move ! (3 ∷ 1 ∷ []) $
     use2 𝓛 (later (some (λ (x : T.Denot). given ((d.shown ≡ full_shown (R.coded.code x)) × Fit x) (‵ (lent_at R here x (r ∷ [])) ⊛ ‵ (share_of γ i g s)))))
     (looks_at_share 𝓛 R Fit here γ i ls r d.shown s d.full) $ await ! tt $ pick ! (λ x. learn ! (λ so. split ! $
@@ -81,8 +83,8 @@ view_spec 𝓤 𝓛 𝓜 𝓡 wired T F L _ gF dF _ =
     use2 𝓛 (‵ (lent_at R here x κ)) (moves_from 𝓛 (lent_at R here x) (ls x) κ (r ∷ []) (r ∷ []) (meet_⊑_left (r ∷ []) κ)) $
     -- [the value; the token; the field; the others]
     fsplit ! $ drop ! $ hide ! $ move ! (2 ∷ 1 ∷ []) $
-    looks ! tt D (shelf_opens R B gF 𝓛) (p, (tt, tt)) b o (λ q vs. move ! (1 ∷ []) $ peeks ! D (Is D) (shows 𝓛 D) (p, (tt, tt)) vs (λ is-so.
-    let ev : vs ≡ shelf_of (block_ptr bp (count_of p)) ∷ [] = shelf_told R B gF p vs is-so ∙ ap (λ (t : Ptr). shelf_of t ∷ []) (at_block p fit.0) in
+    looks ! tt D (values_opens R B gF 𝓛) (p, (tt, tt)) b o (λ q vs. move ! (1 ∷ []) $ peeks ! D (Is D) (shows 𝓛 D) (p, (tt, tt)) vs (λ is-so.
+    let ev : vs ≡ values_of (block_ptr bp (count_of p)) ∷ [] = values_told R B gF p vs is-so ∙ ap (λ (t : Ptr). values_of t ∷ []) (at_block p fit.0) in
     rewrite ! 1 (λ (ws : List Val). ‵ (cell_at q D.mir ws b o)) ev refl $ first ! $ blocks ! $
     sets ! (of_opd ! (load ! (through ! refl (fld ! refl (stop !))) (look_in ! 1 (sub ! 0 refl (whole !))))) refl (tt, tt) $
     rewrite ! 1 (λ (ws : List Val). ‵ (cell_at q D.mir ws b o)) (sym ev) refl $ move ! (1 ∷ 0 ∷ 2 ∷ []) $ shuts ! tt D q (p, (tt, tt)) vs b o $

@@ -45,7 +45,7 @@ use denote.Laws.{Is, shows}
 use denote.RawPtr.{block_of, count_of, at_block}
 use denote.Steps.{peeks}
 use Rattle.core.proofs.mem.Param.{R}
-use Rattle.sdd_values.proofs.Rooms.{Hd, hold_had, hold_told}
+use Rattle.sdd_values.proofs.UninitMemory.{Hd, hold_had, hold_told}
 use Rattle.sdd_shared_values.specs.Memory.{Frees}
 use Rattle.sdd_shared_values.proofs.Fields.{strip_of, ClearingData, clearing_told}
 use Rattle.sdd_shared_values.specs.contracts.unused_memory.UnusedMemory as clearing

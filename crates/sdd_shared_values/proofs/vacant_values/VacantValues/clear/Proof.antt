@@ -7,7 +7,7 @@ use Rattle.core.proofs.slots.Leases.{block_ty}
 use Rattle.atomic_table.proofs.Walks.{proved, leaves}
 use Rattle.sdd_shared_values.specs.SharedValues.{Spans}
 use Rattle.sdd_shared_values.proofs.Fields.{strip_of, strip_good, plot_told, ClearingData, clearing_made}
-use Rattle.sdd_shared_values.proofs.Housing.{uproots}
+use Rattle.sdd_shared_values.proofs.VacantPlaces.{uproots}
 use Rattle.sdd_shared_values.specs.contracts.unused_memory.UnusedMemory as clearing
 use Rattle.sdd_shared_values.specs.contracts.vacant_values.VacantValues as plot
 use Rattle.sdd_shared_values.specs.contracts.vacant_values.VacantValues.clear.{ended, clauses}
@@ -29,7 +29,7 @@ clear_spec 𝓤 𝓛 𝓜 𝓡 wired T L =
     qed 𝓛 ((raw (alive 𝓛 En.signature κs qs) ⊛ ‵ (owns (types_at En.signature.params κs) a y.0.4)) ∷ raw ((c κs a).requires gh) ∷ []) ∵
     keep ! (0 ∷ []) $ split ! $ move ! (1 ∷ []) $ fsplit ! $ fsplit ! $ drop ! $ fsplit ! $ fpick ! (λ fit. drop ! $ let at : p ≡ q = at_block p fit.0 in
     -- [the places; _; the tokens]
-    use1 𝓛 (‵ (froom (ty_array (elτ E) n) b o)) (uproots E 𝓛 h.book b n 0 o) $
+    use1 𝓛 (‵ (froom (ty_array (elτ E) n) b o)) (uproots E 𝓛 h.gamma b n 0 o) $
     use1 𝓛 (‵ (froom (block_ty E n) b o)) (𝓛.laws.room-raw (ty_array (elτ E) n) b o) $
     nothing ! $ fpack ! (Spans R q n) (λ _. ftrue) (tt, fit.1) $ fjoin ! $
     use0 𝓛 (‵ ((ClearingData R).own_val (q, tt) (strip_of q ∷ []))) (clearing_made R 𝓛 q) $ fjoin ! $

@@ -1,4 +1,4 @@
--- `of` makes vacant places of the room, each with a number, and a stake in each.
+-- `of` makes vacant places of the room, each with a number, and a fraction in each.
 use Rattle.atomic_table.proofs.Names.{◌≡◌, ℕ, ◌^◌, ◌<◌, List, [], ◌∷◌, refl, ap, Val, vstruct, vcons, vnil, inst_fn, SProp, emp, id⊢, ftrue, ‵, raw, ◌⊛◌, some, given, later, ◌$◌, ◌∵◌, !, qed, by, move, keep, split, join, fsplit, fjoin, fpack, pick, learn, use0, use1, use2, await, rewrite, feq_i, stop, fld, of_opd, no_more, and_then, returns, enter, alloc_all, pass_all, free_all, look_at, get, get_in, sets, is, agg, sub, whole, tables, no, RattleType, Valss, owns, types_at, plain, Ptr, block_ptr, ptr_val, nothing, param, Stays, stay_dropped, walk_of, Goes-dropped, fact, fact_i, heard, WT, alive}
 use base.Fml.{froom}
 use base.Logic.{never}
@@ -13,15 +13,15 @@ use Rattle.core.proofs.slots.Leases.{lease_val, block_ty, args}
 use Rattle.std_alloc.specs.Vec.Ownership.{FitsInBlock}
 use Rattle.atomic_table.proofs.Walks.{proved, leaves}
 use Rattle.atomic_table.proofs.Rights.{lease_good}
-use Rattle.sdd_rights.specs.Units.{book_owns}
-use Rattle.sdd_rights.proofs.Steps.{book_new}
-use Rattle.sdd_values.proofs.Rooms.{Rm, Hd, held, room_had, hold_made, room_told}
-use Rattle.sdd_shared_values.specs.ValueFractions.{FractionContent, purse}
+use Rattle.sdd_rights.specs.Units.{keys_own}
+use Rattle.sdd_rights.proofs.Steps.{keys_new}
+use Rattle.sdd_values.proofs.UninitMemory.{Rm, Hd, held, room_had, hold_made, room_told}
+use Rattle.sdd_shared_values.specs.ValueFractions.{FractionContent, holdings}
 use Rattle.sdd_shared_values.specs.Memory.{IsHoldOf}
 use Rattle.sdd_shared_values.specs.SharedValues.{Spans, plots, AreVacant}
-use Rattle.sdd_shared_values.proofs.Fields.{strip_of, token_val, PlotData, plot_made, StockData, stock_made}
-use Rattle.sdd_shared_values.proofs.Housing.{lays}
-use Rattle.sdd_shared_values.specs.contracts.fraction_list.FractionList as stock
+use Rattle.sdd_shared_values.proofs.Fields.{strip_of, token_val, PlotData, plot_made, FractionListData, fraction_list_made}
+use Rattle.sdd_shared_values.proofs.VacantPlaces.{lays}
+use Rattle.sdd_shared_values.specs.contracts.fraction_list.FractionList as fraction_list
 use Rattle.sdd_shared_values.specs.contracts.vacant_values.VacantValues as plot
 use Rattle.sdd_shared_values.specs.contracts.vacant_values.VacantValues.of.{ended, clauses}
 use Rattle.sdd_shared_values.specs.contracts.vacant_values.VacantValues.of.Key.{name as #self}
@@ -33,7 +33,7 @@ of_spec 𝓤 𝓛 𝓜 𝓡 wired T A L LA g d dd _ _ =
     let H = 𝓛.H in let 𝓣 = tables 𝓤 H 𝓜 𝓡 𝓡.env in let E : El = record { row = T; laws = L } in
     let Z : Al = record { row = A; laws = LA; g = g; d = d; drops = dd } in
     let R : RattleType = param 0 T in let Rr : RattleType = Rm E Z in let En = ended T A g d dd in let c = clauses T A g d dd 𝓛 𝓜.mem 𝓡.returns in
-    let Row : RattleType = plot.the_row R in let Sr : RattleType = stock.the_row in
+    let Row : RattleType = plot.the_row R in let Sr : RattleType = fraction_list.the_row in
     let inst = args E Z in let fn = inst_fn inst code.function in
     let self = plain (λ _. Rr) in let hs : Stays En.signature.params En.kept = (stay_dropped self no, tt) in
     proved 𝓛 En hs c 𝓜 𝓡 (Goes-dropped 𝓛 2 self no (λ κs x f. refl), tt) (#self inst) fn (code.unfolded 𝓤 H 𝓜 𝓡 wired (T, (A, tt)) d dd)
@@ -51,15 +51,16 @@ of_spec 𝓤 𝓛 𝓜 𝓡 wired T A L LA g d dd _ _ =
     enter ! 𝓣.C 𝓣.Λ fn (lease_val p n ∷ []) Post $ alloc_all ! (λ l. pass_all ! refl (lease_good p n fk, tt) $
     let lease : WT (lease_val q n) = (tt, (record { fits = fk }, (tt, tt))) in
     let all : Val = vstruct (vcons (strip_of q) (vcons token_val (vcons (lease_val q n) vnil))) in
-    use0 𝓛 (later (some (λ (γ : ℕ). ‵ (book_owns γ 0)))) (book_new 𝓛) $ await ! tt $ pick ! (λ γ.
-    use2 𝓛 (later (some (λ (ls : List FractionContent). given (AreVacant γ 0 n ls) (‵ (plots R b γ n 0 o) ⊛ ‵ (purse ls))))) (lays E 𝓛 γ b n 0 o) $ await ! tt $
+    use0 𝓛 (later (some (λ (γ : ℕ). ‵ (keys_own γ 0)))) (keys_new 𝓛) $ await ! tt $ pick ! (λ γ.
+    use2 𝓛 (later (some (λ (ls : List FractionContent). given (AreVacant γ 0 n ls) (‵ (plots R b γ n 0 o) ⊛ ‵ (holdings ls)))))
+    (lays E 𝓛 γ b n 0 o) $ await ! tt $
     pick ! (λ ls. learn ! (λ vacant. split ! $
-    -- [the places; the stakes; the right; _; the tokens]
+    -- [the places; the fractions; the right; _; the tokens]
     nothing ! $ fpack ! (Spans R q n) (λ _. ftrue) (tt, fits.0) $ fjoin ! $
     use0 𝓛 (‵ ((PlotData R).own_val (q, tt) (strip_of q ∷ []))) (plot_made R 𝓛 q) $ fjoin ! $ move ! (1 ∷ []) $
-    use0 𝓛 (‵ (StockData.own_val (tt, tt) (token_val ∷ []))) (stock_made 𝓛) $ fjoin ! $ move ! (2 ∷ []) $ hold_made E Z ! h.alloc b o n fk $
-    -- [the right; the stock; the plot; _; the tokens]
-    let new : Row.Denot = record { ptr = q; book = γ; size = n } in let rest : Sr.Denot = record { of = record {}; lots = ls } in
+    use0 𝓛 (‵ (FractionListData.own_val (tt, tt) (token_val ∷ []))) (fraction_list_made 𝓛) $ fjoin ! $ move ! (2 ∷ []) $ hold_made E Z ! h.alloc b o n fk $
+    -- [the right; the list of fractions; the plot; _; the tokens]
+    let new : Row.Denot = record { ptr = q; gamma = γ; size = n } in let rest : Sr.Denot = record { of = record {}; contents = ls } in
     nothing ! $ move ! (1 ∷ 0 ∷ []) $ fjoin ! $ move ! (1 ∷ 0 ∷ []) $ fjoin ! $ move ! (1 ∷ 0 ∷ []) $ fjoin ! $
     feq_i ! (List Val) (all ∷ []) (all ∷ []) refl $ fjoin ! $
     fpack ! (Valss (Row ∷ Sr ∷ Hd E Z ∷ [])) (within (Declared.shape (tuple_type (Row ∷ Sr ∷ Hd E Z ∷ []))) (new, (rest, (held E Z h.alloc b o n, tt)))

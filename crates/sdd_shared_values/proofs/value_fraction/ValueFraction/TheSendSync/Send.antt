@@ -14,7 +14,7 @@ pub send : IsSend the_row
 send = record {
   owned = λ d vs. (
     (λ vss. (tt, ((λ uss. (tt, tt)), tt))),
-    ((λ q c. entry_keyless halved d.lot.book d.lot.number _), lent_keyless d.lot.lent d.lot.round d.lot.units),
+    ((λ q c. entry_keyless halved d.content.gamma d.content.number _), lent_keyless d.content.lent d.content.lifetime d.content.units),
   );
   leaving = λ k f vs. tt;
 }

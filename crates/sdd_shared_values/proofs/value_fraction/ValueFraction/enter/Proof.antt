@@ -8,12 +8,12 @@ use Rattle.atomic_table.specs.Seated.{TableId, age, inner, common, mine}
 use Rattle.atomic_table.proofs.Fields.{HandData}
 use Rattle.sdd_shared_values.specs.Bank.{bank_owns, AllowsDeal, Comes}
 use Rattle.sdd_shared_values.specs.ValueFractions.{FractionContent}
-use Rattle.sdd_shared_values.proofs.Banking.{brings, brought, BankData}
+use Rattle.sdd_shared_values.proofs.BankDeals.{brings, brought, BankData}
 use Rattle.sdd_shared_values.proofs.Fields.{token_val, peg_told}
 use base.Fml.{fex, fbor}
 use Rattle.atomic_table.specs.contracts.shared.Shared as table
 use Rattle.atomic_table.specs.contracts.shared.Seat as seat
-use Rattle.sdd_shared_values.specs.contracts.value_fraction.ValueFraction as stake
+use Rattle.sdd_shared_values.specs.contracts.value_fraction.ValueFraction as fraction
 use Rattle.sdd_shared_values.specs.contracts.bank.Bank as bank
 use Rattle.sdd_shared_values.specs.contracts.value_fraction.ValueFraction.enter.{ended, clauses}
 use Rattle.sdd_shared_values.specs.contracts.value_fraction.ValueFraction.enter.Key.{name as #self}
@@ -23,7 +23,7 @@ use Rattle.sdd_shared_values.proofs.value_fraction.ValueFraction.enter.Code as c
 pub enter_spec : {M : Type 1} → statement M
 unfolding Rattle.atomic_table.specs.Seated.seal
 enter_spec 𝓤 𝓛 𝓜 𝓡 wired V K P B Mv _ _ _ _ _ g d gB dB g' d' _ _ _ =
-    let H = 𝓛.H in let 𝓣 = tables 𝓤 H 𝓜 𝓡 𝓡.env in let R : RattleType = stake.the_row in let W : RattleType = param 0 V in
+    let H = 𝓛.H in let 𝓣 = tables 𝓤 H 𝓜 𝓡 𝓡.env in let R : RattleType = fraction.the_row in let W : RattleType = param 0 V in
     let X : RattleType = param 1 K in let Y : RattleType = param 2 P in let Z : RattleType = param 3 B in let En = ended V K P B Mv g d gB dB g' d' in
     let inst = bounded (a_type ∷ a_type ∷ a_type ∷ a_type ∷ a_type ∷ []) (V, (K, (P, (B, (Mv, tt))))) (dcons d (dcons dB (dcons d' dnil))) in
     let fn = inst_fn inst code.function in
@@ -51,9 +51,9 @@ enter_spec 𝓤 𝓛 𝓜 𝓡 wired V K P B Mv _ _ _ _ _ g d gB dB g' d' _ _ _ 
     let b″ : ℕ = a.1.1.1.0.ref_ptr.0 in let o″ : ℕ = a.1.1.1.0.ref_ptr.1 in let e : Br.Denot = a.1.0.now in
     let κ : Lft = κs.0 in let κ' : Lft = κs.1.0 in let κ″ : Lft = κs.1.1.0 in let t : Row.Denot = a.1.1.0.now in let h : Sr.Denot = a.1.1.1.0.now in
     let z : TableId = t.table_id in let α : Lft = age z in let cv : Coded V.Denot = W.coded in
-    let id : ℕ = h.id in let v : Me R.Denot V.Denot = h.me in let offered : FractionContent → Type 0 = (λ (l : FractionContent). l ≡ a.0.lot) in
+    let id : ℕ = h.id in let v : Me R.Denot V.Denot = h.me in let offered : FractionContent → Type 0 = (λ (l : FractionContent). l ≡ a.0.content) in
     let then : FractionContent → Me R.Denot V.Denot
-    → Type 0 = g'.then a.0.lot.number v in
+    → Type 0 = g'.then a.0.content.number v in
     let others : Fml = fsep (flft κs.1.1.1.0 qs.1.1.1.0) (fsep (flft κs.1.1.1.1.0 qs.1.1.1.1.0) (fsep (flft κs.1.1.1.1.1.0 qs.1.1.1.1.1.0)
     (fsep (flft κs.1.1.1.1.1.1.0 qs.1.1.1.1.1.1.0) (fsep (flft κs.1.1.1.1.1.1.1.0 qs.1.1.1.1.1.1.1.0) ftrue)))) in
     let AtTable : Type 0 = (h.table_id ≡ z) × (e.table_id ≡ z) in
@@ -64,7 +64,7 @@ enter_spec 𝓤 𝓛 𝓜 𝓡 wired V K P B Mv _ _ _ _ _ g d gB dB g' d' _ _ _ 
     raw (fact 𝓤 _) ∷ raw (fact 𝓤 _) ∷ raw (fact 𝓤 _) ∷ raw (fact 𝓤 _) ∷ raw (fact 𝓤 _) ∷ raw (fact 𝓤 AtTable) ∷ raw (fact 𝓤 Allowed) ∷ []) ∵
     keep ! (6 ∷ 7 ∷ 0 ∷ []) $ heard ! AtTable (λ at_table. heard ! Allowed (λ allowed.
     split ! $ split3 ! $ move ! (2 ∷ []) $ split ! $ move ! (4 ∷ []) $ fsplit3 ! $
-    -- [the stake; the bank; the others; the tokens of the seat, of the others, of the bank and of the table]
+    -- [the fraction; the bank; the others; the tokens of the seat, of the others, of the bank and of the table]
     fsplit ! $ drop ! $ move ! (1 ∷ []) $ fsplit ! $ drop ! $
     use1 𝓛 (‵ (hidden_shr DB κ (tt, tt) b o) ⊛ ‵ (fhide (bank.the_lent W X Y Z g gB e (block_ptr b o) κ))) (lent_out 𝓛 (bank.struct W X Y Z g gB)
     (bank.the_codes V.Denot K.Denot P.Denot B.Denot W.coded X.coded Y.coded Z.coded (marker.the_row (Tuple (Y ∷ W ∷ X ∷ Z ∷ []))).coded)
@@ -87,12 +87,12 @@ enter_spec 𝓤 𝓛 𝓜 𝓡 wired V K P B Mv _ _ _ _ _ g d gB dB g' d' _ _ _ 
     fsplit3 ! $ fpick ! (λ ne. drop ! $
     move ! (13 ∷ 3 ∷ []) $ join ! $ move ! (9 ∷ 0 ∷ []) $ join ! $ move ! (1 ∷ 2 ∷ 0 ∷ []) $
     use3 𝓛 (later (‵ (fex (Me R.Denot V.Denot) (brought 𝓛 cv (g.holds e.key) w p z s id v e.id gB.ours gB.banked offered then)) ⊛ ‵ (flft α s)))
-    (brings 𝓛 cv (g.holds e.key) w p z s id v e.id gB.ours gB.banked offered then n.1.0 n.1.1 a.0.lot (λ l is. is) ne allowed) $ await ! tt $ split ! $
+    (brings 𝓛 cv (g.holds e.key) w p z s id v e.id gB.ours gB.banked offered then n.1.0 n.1.1 a.0.content (λ l is. is) ne allowed) $ await ! tt $ split ! $
     fpick ! (λ u. fsplit ! $
     fpick ! (λ told. drop ! $
     -- [the seat's content; the token; the field; the cell; the open borrow; the open token; what all know; the bank's token; the others]
     let h' : Sr.Denot = record h { me = u } in
-    let Ids : Type 0 = (h.table_id ≡ h.table_id) × (id ≡ id) in let Then : Type 0 = then a.0.lot u in
+    let Ids : Type 0 = (h.table_id ≡ h.table_id) × (id ≡ id) in let Then : Type 0 = then a.0.content u in
     rewrite ! 0 (λ (x : TableId). ‵ (mine R cv.code x id u)) (sym at_table.0) refl $ move ! (2 ∷ 0 ∷ []) $ fjoin ! $
     move ! (2 ∷ 0 ∷ 3 ∷ 4 ∷ 5 ∷ []) $ closes ! tt Sr h' vs b″ o″ $ feq_i ! (List Val) (vptr b″ o″ ∷ []) (vptr b″ o″ ∷ []) refl $ fjoin3 ! $
     -- [the seat; its token; the table's token; the open token; what all know; the bank's token; the others]

@@ -1,4 +1,4 @@
-use Rattle.sdd_space.proofs.Letting.{spills-if}
+use Rattle.sdd_world_model.proofs.ContentsGivenUp.{spills-if}
 use Rattle.sdd_space.proofs.atomic_shared.AtomicShared.close.Goals as goal
 
 pub returns-in-Some-clause-own : goal.returns-in-Some-clause-own

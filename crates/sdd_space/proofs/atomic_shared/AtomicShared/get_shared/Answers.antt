@@ -1,4 +1,4 @@
-use Rattle.sdd_space.proofs.Sharing.{shares}
+use Rattle.sdd_space.proofs.CellOwners.{shares}
 use Rattle.sdd_space.proofs.atomic_shared.AtomicShared.get_shared.Goals as goal
 
 pub returns-in-Ok-clause-exact : goal.returns-in-Ok-clause-exact

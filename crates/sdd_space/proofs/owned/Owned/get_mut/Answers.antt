@@ -2,8 +2,8 @@ use Rattle.std.proofs.Common.{◌≡◌, ℕ, Some, rules}
 use Rattle.std.proofs.lemmas.Result.{IfErr-weaker, MatchResult-weaker}
 use Rattle.sdd_participants.specs.declared.standing.Standing.TheVariants.{Owned}
 use Rattle.sdd_space.specs.Owned.{slot_of}
-use Rattle.sdd_space.specs.World.{standing_at}
-use Rattle.sdd_space.proofs.InPlace.{refused-sole}
+use Rattle.sdd_world_model.specs.World.{standing_at}
+use Rattle.sdd_world_model.proofs.InPlace.{refused-sole}
 use Rattle.sdd_space.proofs.SameOwner.{same-owned}
 use Rattle.sdd_space.proofs.owned.Owned.get_mut.Goals as goal
 

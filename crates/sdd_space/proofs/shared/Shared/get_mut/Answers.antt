@@ -1,8 +1,8 @@
 use Rattle.std.proofs.Common.{ℕ, rules}
 use Rattle.std.proofs.lemmas.Result.{IfErr-weaker, MatchResult-weaker}
 use Rattle.sdd_space.specs.Shared.{slot_of}
-use Rattle.sdd_space.specs.World.{standing_at}
-use Rattle.sdd_space.proofs.InPlace.{alone-one, refused-shared}
+use Rattle.sdd_world_model.specs.World.{standing_at}
+use Rattle.sdd_world_model.proofs.InPlace.{alone-one, refused-shared}
 use Rattle.sdd_space.proofs.SameOwner.{same-shared}
 use Rattle.sdd_space.proofs.shared.Shared.get_mut.Goals as goal
 

@@ -2,7 +2,7 @@ use Rattle.std.proofs.Common.{◌≡◌, ap, subst, sym, ◌∙◌}
 use Rattle.sdd_participants.specs.Slab.{IsEmptyAt}
 use Rattle.sdd_rights.specs.Right.{number_of, home_of}
 use Rattle.sdd_rights.specs.declared.right.Right.{Right}
-use Rattle.sdd_space.specs.WorldChanges.{made_shared}
+use Rattle.sdd_world_model.specs.WorldChanges.{made_shared}
 use Rattle.sdd_space.proofs.shared.Shared.new.Goals as goal
 
 pub returns-in-Ok : goal.returns-in-Ok

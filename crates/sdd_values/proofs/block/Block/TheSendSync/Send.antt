@@ -5,9 +5,9 @@ use denote.Struct.Struct.{exits_of}
 use denote.Struct.Owning.{shape, fields, to}
 use Rattle.std_alloc.proofs.SendSync.{quiet}
 use Rattle.sdd_values.specs.contracts.block.Block.{the_row, the_type}
-use Rattle.sdd_values.proofs.Sent.{block_Keyless}
+use Rattle.sdd_values.proofs.BlockSend.{block_Keyless}
 
 pub send : (T : RattleType) → IsSend T → IsSync T → IsSend (the_row T)
 send T s y = let O = the_type T in let ps : IsSend RawPtr = search sendable in
-    owning_send O (ps, tt) (λ d. block_Keyless T s y d.ptr d.values d.stakes) (λ k. quiet (to O) (exits_of k (fields O)) ((struct_send (shape O)
+    owning_send O (ps, tt) (λ d. block_Keyless T s y d.ptr d.values d.fractions) (λ k. quiet (to O) (exits_of k (fields O)) ((struct_send (shape O)
     (ps, tt)).leaving k))

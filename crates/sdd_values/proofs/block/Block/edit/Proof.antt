@@ -1,4 +1,4 @@
--- `edit` ends the value's round by all its tokens, and lends the value, which the block follows.
+-- `edit` ends the value's lifetime by all its tokens, and lends the value, which the block follows.
 use Rattle.atomic_table.proofs.Names.{◌≡◌, ℕ, ◌+◌, ◌*◌, ◌^◌, ◌<◌, length, [], ◌∷◌, List, sym, refl, ap, ◌∙◌, subst, arith, a_type, named, Val, vptr, vint, inst_fn, SProp, emp, ent, Lft, Share, Fml, ftrue, fsep, flft, ‵, raw, ◌⊛◌, some, later, await, at_ret, group, pick, ◌$◌, ◌∵◌, !, qed, by, move, keep, drop, split, split3, join, fsplit, fsplit3, fjoin, fpick, fpack, use0, use1, use2, rewrite, stop, fld, addr, of_opd, load, bin, first, blocks, exec, returns, enter, alloc_all, pass_all, free_all, look_at, get, through, sets, sets_last, env, sub, whole, look_in, tables, yes, no, RattleType, owns, types_at, plain, Ptr, block_ptr, nothing, heard, param, layouts, Stays, stay_dropped, walk_of, Goes-dropped, Goes-spent_ref, fact, fact_i, Is, shows, cell_at, peeks, block_of, count_of, at_block, RefMutOf, mut_vals, mut_Tells, opens, w64, usize, uint_vals, uint_Tells, mem, full_share, sem, Logic, Ura, done, follows}
 use base.Fml.{GName}
 use base.Logic.{sep}
@@ -18,8 +18,8 @@ use Rattle.std.specs.Prelude.{Option, slice_index_or, slice_set}
 use Rattle.sdd_values.specs.Block.{AreUnlent, IsUnlent, IsBlockAt, spot, spots}
 use Rattle.sdd_values.specs.Lending.{with_value}
 use Rattle.sdd_values.proofs.Fields.{strip_of, BlockData, block_told, block_made}
-use Rattle.sdd_values.proofs.Rounds.{all_home, to_plain, from_plain}
-use Rattle.sdd_values.proofs.Spots.{besides, spot_out, spot_in}
+use Rattle.sdd_values.proofs.Lifetimes.{all_home, to_plain, from_plain}
+use Rattle.sdd_values.proofs.BlockValues.{besides, spot_out, spot_in}
 use Rattle.sdd_values.specs.declared.block.Block.{Block}
 use Rattle.sdd_values.specs.contracts.block.Block as block
 use Rattle.sdd_values.specs.contracts.block.Block.edit.{ended, clauses}
@@ -31,8 +31,8 @@ module _ {M : Type 1} {𝓤 : Ura M} (𝓛 : Logic 𝓤) (R : RattleType) (rb ro
   abbrev Row : RattleType
   Row = block.the_row R
 
-  abbrev stakes : List (Option ℕ)
-  stakes = slice_index_or f.stakes i []
+  abbrev fractions : List (Option ℕ)
+  fractions = slice_index_or f.fractions i []
 
   abbrev bp : ℕ
   bp = block_of f.ptr
@@ -45,18 +45,18 @@ module _ {M : Type 1} {𝓤 : Ura M} (𝓛 : Logic 𝓤) (R : RattleType) (rb ro
 
   -- all of the block but the value
   abbrev Rest : Fml
-  Rest = fsep (fits_fact (length stakes < 2 ^ 63)) (fsep (besides 𝓛 R bp op f.values f.stakes i) (cell_at full_share Row.mir (strip_of f.ptr ∷ []) rb ro))
+  Rest = fsep (fits_fact (length fractions < 2 ^ 63)) (fsep (besides 𝓛 R bp op f.values f.fractions i) (cell_at full_share Row.mir (strip_of f.ptr ∷ []) rb ro))
 
-  back : IsBlockAt R f.ptr f.values f.stakes → i < length f.values → i < length f.stakes → AreUnlent stakes → (w : R.Denot)
+  back : IsBlockAt R f.ptr f.values f.fractions → i < length f.values → i < length f.fractions → AreUnlent fractions → (w : R.Denot)
       → ent 𝓤 (sep 𝓤 (sem 𝓛 ((mem R).own_at w bp at)) (sem 𝓛 Rest)) (sem 𝓛 ((mem Row).own_at (with_value f i w) rb ro))
   unfolding part_of
-  back fit near in_stakes home w = let p : Ptr = f.ptr in let xs' = slice_set f.values i w in let vs : List Val = strip_of p ∷ [] in
+  back fit near in_fractions home w = let p : Ptr = f.ptr in let xs' = slice_set f.values i w in let vs : List Val = strip_of p ∷ [] in
       let here : Ptr = block_ptr bp at in
       qed 𝓛 (‵ (lies_at R full_share here w) ∷ ‵ Rest ∷ []) ∵ move ! (1 ∷ []) $ fsplit3 ! $ move ! (3 ∷ 0 ∷ []) $
-      use2 𝓛 (‵ (spot R here w stakes)) (from_plain 𝓛 R here w stakes home) $
-      use2 𝓛 (‵ (spots R bp op xs' (slice_set f.stakes i stakes))) (spot_in 𝓛 R bp op f.values f.stakes i w stakes near in_stakes) $
-      rewrite ! 0 (λ (ss : List (List (Option ℕ))). ‵ (spots R bp op xs' ss)) (set-get_or f.stakes i []) refl $
-      nothing ! $ fpack ! (IsBlockAt R p xs' f.stakes) (λ _. ftrue)
+      use2 𝓛 (‵ (spot R here w fractions)) (from_plain 𝓛 R here w fractions home) $
+      use2 𝓛 (‵ (spots R bp op xs' (slice_set f.fractions i fractions))) (spot_in 𝓛 R bp op f.values f.fractions i w fractions near in_fractions) $
+      rewrite ! 0 (λ (ss : List (List (Option ℕ))). ‵ (spots R bp op xs' ss)) (set-get_or f.fractions i []) refl $
+      nothing ! $ fpack ! (IsBlockAt R p xs' f.fractions) (λ _. ftrue)
       (fit.0, subst (λ (n : ℕ). n * (mem R).size < 2 ^ 63) (sym (length-set f.values i w)) fit.1, fit.2 ∙ sym (length-set f.values i w)) $ fjoin ! $
       use0 𝓛 (‵ ((BlockData R).own_val (p, tt) vs)) (block_made R 𝓛 p) $ fjoin ! $ move ! (1 ∷ 0 ∷ []) $ fjoin ! $
       fpack ! (List Val) (λ us. fsep (cell_at full_share Row.mir us rb ro) (Row.own_val (with_value f i w) us)) vs $ done !
@@ -71,7 +71,7 @@ edit_spec 𝓤 𝓛 𝓜 𝓡 wired T L =
     (#self inst) fn (code.unfolded 𝓤 H 𝓜 𝓡 wired (T, tt))
     (λ κs. (mut_vals, (uint_vals w64, tt))) (λ κs. (mut_Tells (named 0) κs.0 Br, (uint_Tells w64, tt))) (λ κs qs bounds a gh are.
     let b : ℕ = a.0.ref_ptr.0 in let o : ℕ = a.0.ref_ptr.1 in let γ : GName = a.0.ghost_name in let κ : Lft = κs.0 in let q : Share = qs.0 in
-    let f : Br.Denot = a.0.now in let i : ℕ = a.1.0 in let p : Ptr = f.ptr in let xs = f.values in let ss = f.stakes in let s : ℕ = (mem R).size in
+    let f : Br.Denot = a.0.now in let i : ℕ = a.1.0 in let p : Ptr = f.ptr in let xs = f.values in let ss = f.fractions in let s : ℕ = (mem R).size in
     let base : ℕ = block_of p in let start : ℕ = count_of p in let place : ℕ = i * s + start in let here : Ptr = block_ptr base place in
     let now : List (Option ℕ) = slice_index_or ss i [] in let others : Fml = fsep (flft κs.1.0 qs.1.0) ftrue in
     let Inside : Type 0 = i < length xs in let Home : Type 0 = IsUnlent ss i in

@@ -12,7 +12,7 @@ use Rattle.atomic_table.proofs.Walks.{proved, leaves}
 use Rattle.std.specs.Prelude.{slice_index_or}
 use Rattle.sdd_values.specs.Block.{block_shares}
 use Rattle.sdd_values.proofs.Fields.{strip_of, BlockData, block_told, block_opens}
-use Rattle.sdd_values.proofs.Spots.{shows_at}
+use Rattle.sdd_values.proofs.BlockValues.{shows_at}
 use Rattle.sdd_values.specs.contracts.block.Block as block
 use Rattle.sdd_values.specs.contracts.block.Block.get.{ended, clauses}
 use Rattle.sdd_values.specs.contracts.block.Block.get.Key.{name as #self}
@@ -30,7 +30,7 @@ get_spec 𝓤 𝓛 𝓜 𝓡 wired T L =
     (#self inst) fn (code.unfolded 𝓤 H 𝓜 𝓡 wired (T, tt))
     (λ κs. (shr_vals, (uint_vals w64, tt))) (λ κs. (shr_Tells (named 0) κs.0 Row, (uint_Tells w64, tt))) (λ κs qs bounds a gh are.
     let b : ℕ = a.0.ref_ptr.0 in let o : ℕ = a.0.ref_ptr.1 in let κ : Lft = κs.0 in let f : Row.Denot = a.0.now in let i : ℕ = a.1.0 in
-    let p : Ptr = f.ptr in let bp : ℕ = block_of p in let op : ℕ = count_of p in let xs = f.values in let ss = f.stakes in let s : ℕ = (mem R).size in
+    let p : Ptr = f.ptr in let bp : ℕ = block_of p in let op : ℕ = count_of p in let xs = f.values in let ss = f.fractions in let s : ℕ = (mem R).size in
     let others : Fml = fsep (flft κs.1.0 qs.1.0) ftrue in let Asked : Type 0 = i < length xs in
     let y : (walk_of 𝓛 En hs c).Ghost = ((κs, qs, bounds, a, (vptr b o ∷ [], (vint w64 i ∷ [], tt))), gh) in
     let Post : Val → SProp 𝓤 = (walk_of 𝓛 En hs c).post y in

@@ -1,12 +1,12 @@
--- All rounds end by all their tokens, and the values come out.
+-- All lifetimes end by all their tokens, and the values come out.
 use Rattle.atomic_table.proofs.Names.{◌≡◌, ℕ, ◌*◌, ◌^◌, ◌<◌, [], ◌∷◌, length, refl, a_type, Val, inst_fn, SProp, emp, Lft, Share, ftrue, flft, ‵, raw, ◌⊛◌, later, await, ◌$◌, ◌∵◌, !, qed, by, move, keep, drop, split, join, fsplit, fjoin, fpick, fpack, use0, use1, stop, fld, of_opd, no_more, and_then, returns, enter, alloc_all, pass_all, free_all, look_at, get, get_in, sets, agg, sub, whole, tables, no, RattleType, owns, types_at, plain, Ptr, nothing, param, layouts, Stays, stay_dropped, walk_of, Goes-dropped, fact, fact_i, heard, block_of, count_of, InBlock, mem}
 use types.SemTy.{cells}
 use Rattle.std.specs.Prelude.{slice_index_or}
 use Rattle.atomic_table.proofs.Walks.{proved, leaves}
 use Rattle.sdd_values.specs.Block.{AreUnlent, IsUnlent}
 use Rattle.sdd_values.proofs.Fields.{strip_of, strip_good, Ptr-Good, StripData, strip_made, block_told}
-use Rattle.sdd_values.proofs.Rounds.{all_home}
-use Rattle.sdd_values.proofs.Spots.{of_rows, comes_out}
+use Rattle.sdd_values.proofs.Lifetimes.{all_home}
+use Rattle.sdd_values.proofs.BlockValues.{of_rows, comes_out}
 use Rattle.sdd_values.specs.contracts.raw_slice.RawSlice as strips
 use Rattle.sdd_values.specs.contracts.block.Block as block
 use Rattle.sdd_values.specs.contracts.block.Block.into_strip.{ended, clauses}
@@ -22,7 +22,7 @@ into_strip_spec 𝓤 𝓛 𝓜 𝓡 wired T L =
     let self = plain (λ _. Row) in let hs : Stays En.signature.params En.kept = (stay_dropped self no, tt) in
     proved 𝓛 En hs c 𝓜 𝓡 (Goes-dropped 𝓛 1 self no (λ κs x f. refl), tt) (#self inst) fn (code.unfolded 𝓤 H 𝓜 𝓡 wired (T, tt))
     (λ κs. ((λ x. strip_of x.ptr ∷ []), tt)) (λ κs. ((λ x vs so. block_told R x.ptr vs so.0), tt)) (λ κs qs bounds a gh are.
-    let κ : Lft = κs.0 in let q : Share = qs.0 in let p : Ptr = a.0.ptr in let xs = a.0.values in let ss = a.0.stakes in let bp : ℕ = block_of p in
+    let κ : Lft = κs.0 in let q : Share = qs.0 in let p : Ptr = a.0.ptr in let xs = a.0.values in let ss = a.0.fractions in let bp : ℕ = block_of p in
     let op : ℕ = count_of p in
     let Asked : Type 0 = (at : ℕ) → IsUnlent ss at in
     let y : (walk_of 𝓛 En hs c).Ghost = ((κs, qs, bounds, a, (strip_of p ∷ [], tt)), gh) in let Post : Val → SProp 𝓤 = (walk_of 𝓛 En hs c).post y in

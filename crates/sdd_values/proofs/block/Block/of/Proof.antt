@@ -1,4 +1,4 @@
--- The values of a strip lie plain, and all stakes are home.
+-- The values of a strip lie plain, and all fractions are home.
 use Rattle.atomic_table.proofs.Names.{◌≡◌, ℕ, ◌*◌, ◌^◌, ◌<◌, List, [], ◌∷◌, length, refl, arith, a_type, Val, vint, inst_fn, SProp, emp, Lft, Share, ftrue, flft, ‵, raw, ◌⊛◌, given, ◌$◌, ◌∵◌, !, qed, by, move, keep, drop, split, join, fsplit, fjoin, fpack, learn, use0, use1, stop, fld, of_opd, no_more, and_then, returns, enter, alloc_all, pass_all, free_all, look_at, get, get_in, sets, agg, sub, whole, tables, yes, no, RattleType, owns, types_at, plain, Ptr, nothing, param, layouts, Stays, stay_dropped, walk_of, Goes-dropped, fact, fact_i, block_of, count_of, uint_vals, uint_Tells, InBlock, mem, replicate, length-replicate}
 use mir.Syntax.{w32}
 use denote.Builtin.{u32}
@@ -8,7 +8,7 @@ use Rattle.atomic_table.specs.Seated.{strip}
 use Rattle.atomic_table.proofs.Dealing.{strip_lies}
 use Rattle.sdd_values.specs.Block.{IsBlockAt, spots}
 use Rattle.sdd_values.proofs.Fields.{strip_of, strip_good, Ptr-Good, strip_told, BlockData, block_made}
-use Rattle.sdd_values.proofs.Spots.{lays_out}
+use Rattle.sdd_values.proofs.BlockValues.{lays_out}
 use Rattle.sdd_values.specs.contracts.raw_slice.RawSlice as strips
 use Rattle.sdd_values.specs.contracts.block.Block as block
 use Rattle.sdd_values.specs.contracts.block.Block.of.{ended, clauses}
@@ -30,7 +30,7 @@ of_spec 𝓤 𝓛 𝓜 𝓡 wired T L =
     let bp : ℕ = block_of p in let op : ℕ = count_of p in let ss = replicate (length xs) (replicate k None) in
     let y : (walk_of 𝓛 En hs c).Ghost = ((κs, qs, bounds, a, (strip_of p ∷ [], (vint w32 k ∷ [], tt))), gh) in
     let Post : Val → SProp 𝓤 = (walk_of 𝓛 En hs c).post y in
-    let new : Row.Denot = record { ptr = p; values = xs; stakes = ss } in
+    let new : Row.Denot = record { ptr = p; values = xs; fractions = ss } in
     qed 𝓛 (((‵ (flft κ q) ⊛ ‵ ftrue) ⊛ ‵ (owns (types_at En.signature.params κs) a y.0.4)) ∷ raw ((c κs a).requires gh) ∷ []) ∵
     keep ! (0 ∷ []) $ split ! $ split ! $ move ! (2 ∷ []) $ fsplit ! $ fsplit ! $ keep ! (1 ∷ 3 ∷ []) $
     use1 𝓛 (given (InBlock p × (length xs * (mem R).size < 2 ^ 63)) (‵ (strip R p xs))) (strip_lies 𝓛 R p xs) $ learn ! (λ fp. fsplit ! $ drop ! $

@@ -1,4 +1,4 @@
--- What was lent to a tenure comes back once it has ended, for all values at once.
+-- What was lent to a section comes back once it has ended, for all values at once.
 use Rattle.atomic_table.proofs.Names.{◌≡◌, ℕ, [], ◌∷◌, List, refl, ◌∙◌, a_type, named, Val, vptr, vint, vunit, inst_fn, SProp, emp, Lft, Fml, ftrue, fsep, flft, ‵, raw, ◌⊛◌, later, await, ◌$◌, ◌∵◌, !, qed, by, move, keep, drop, split, join, fsplit, fsplit3, fjoin, fjoin3, fpick, fpack, use0, use1, use2, feq_i, of_opd, unit_lit, returns, enter, alloc_all, pass_all, free_all, look_at, sets, tables, yes, RattleType, owns, types_at, plain, Ptr, nothing, heard, param, layouts, Stays, stay_dropped, stay_ref, walk_of, Goes-dropped, Goes-ref, fact, fact_i, block_of, count_of, RefOf, mut_vals, mut_Tells, shr_vals, shr_Tells, opens, closes, unhide, hidden_shr, lent_out, w64, usize, uint_vals, uint_Tells, u64}
 use base.Fml.{fhide}
 use lib.ListN.{length-map}
@@ -6,9 +6,9 @@ use Rattle.core.specs.contracts.marker.PhantomData as marker
 use Rattle.atomic_table.proofs.Walks.{proved, leaves}
 use Rattle.std.specs.Prelude.{None, slice_index_or, slice_set}
 use Rattle.sdd_values.specs.ReadSection.{ended_shares}
-use Rattle.sdd_values.specs.Block.{IsBlockAt, IsFreeFor, stake_at, settled, spots}
+use Rattle.sdd_values.specs.Block.{IsBlockAt, IsFreeFor, fraction_at, settled, spots}
 use Rattle.sdd_values.proofs.Fields.{Sign}
-use Rattle.sdd_values.proofs.Spots.{of_rows, settles_all}
+use Rattle.sdd_values.proofs.BlockValues.{of_rows, settles_all}
 use Rattle.sdd_values.specs.contracts.block.Block as block
 use Rattle.sdd_values.specs.contracts.ended_section.EndedSection as over
 use Rattle.sdd_values.specs.contracts.block.Block.settle.{ended, clauses}
@@ -29,10 +29,10 @@ settle_spec 𝓤 𝓛 𝓜 𝓡 wired T L =
     (λ κs qs bounds a gh are.
     let b : ℕ = a.0.ref_ptr.0 in let o : ℕ = a.0.ref_ptr.1 in let b' : ℕ = a.1.1.0.ref_ptr.0 in let o' : ℕ = a.1.1.0.ref_ptr.1 in
     let κ : Lft = κs.0 in let κ' : Lft = κs.1.0 in let f : Row.Denot = a.0.now in let r : ℕ = a.1.0 in let e : Er.Denot = a.1.1.0.now in let t : ℕ = e.name in
-    let p : Ptr = f.ptr in let bp : ℕ = block_of p in let op : ℕ = count_of p in let xs = f.values in let ss = f.stakes in
-    let ss' = settled r ss in let f' : Row.Denot = record f { stakes = ss' } in
+    let p : Ptr = f.ptr in let bp : ℕ = block_of p in let op : ℕ = count_of p in let xs = f.values in let ss = f.fractions in
+    let ss' = settled r ss in let f' : Row.Denot = record f { fractions = ss' } in
     let others : Fml = fsep (flft κ' qs.1.0) (fsep (flft κs.1.1.0 qs.1.1.0) ftrue) in
-    let Asked : Type 0 = (at : ℕ) → IsFreeFor t (stake_at ss at r) in
+    let Asked : Type 0 = (at : ℕ) → IsFreeFor t (fraction_at ss at r) in
     let y : (walk_of 𝓛 En hs c).Ghost = ((κs, qs, bounds, a, (vptr b o ∷ [], (vint w64 r ∷ [], (vptr b' o' ∷ [], tt)))), gh) in
     let Post : Val → SProp 𝓤 = (walk_of 𝓛 En hs c).post y in
     qed 𝓛 (((‵ (flft κ qs.0) ⊛ ‵ others) ⊛ ‵ (owns (types_at En.signature.params κs) a y.0.4)) ∷ raw (fact 𝓤 _) ∷ raw (fact 𝓤 Asked) ∷ []) ∵
@@ -49,7 +49,7 @@ settle_spec 𝓤 𝓛 𝓜 𝓡 wired T L =
     -- [the spots; the field; the cell; the open borrow; the names; the end; the others]
     move ! (0 ∷ 6 ∷ []) $ use2 𝓛 (later (‵ (spots R bp op xs ss'))) (settles_all 𝓛 R bp t r op xs ss (of_rows
     (λ row. IsFreeFor t (slice_index_or row r None)) ss asked)) $ await ! tt $
-    nothing ! $ fpack ! (IsBlockAt R p xs ss') (λ _. ftrue) (fit.0, fit.1, length-map ss (λ stakes. slice_set stakes r None) ∙ fit.2) $ fjoin ! $
+    nothing ! $ fpack ! (IsBlockAt R p xs ss') (λ _. ftrue) (fit.0, fit.1, length-map ss (λ fractions. slice_set fractions r None) ∙ fit.2) $ fjoin ! $
     move ! (1 ∷ 0 ∷ []) $ fjoin ! $ move ! (1 ∷ 0 ∷ []) $ closes ! tt Row f' vs b o $ feq_i ! (List Val) (vptr b o ∷ []) (vptr b o ∷ []) refl $ fjoin3 ! $
     nothing ! $ nothing ! $ fjoin ! $ nothing ! $ fjoin ! $ move ! (1 ∷ 0 ∷ []) $ fjoin ! $ move ! (1 ∷ 2 ∷ []) $ join ! $
     sets ! (of_opd ! (unit_lit !)) refl (tt, tt) $ use0 𝓛 (raw (fact 𝓤 (p ≡ p))) (fact_i 𝓤 (p ≡ p) (emp 𝓤) refl) $

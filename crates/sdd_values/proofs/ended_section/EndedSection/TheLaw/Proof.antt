@@ -8,7 +8,7 @@ use denote.Struct.Lending.{of_Lends}
 use Rattle.core.specs.contracts.marker.PhantomData as P
 use Rattle.sdd_values.specs.contracts.ended_section.EndedSection as C
 use Rattle.sdd_values.proofs.ended_section.EndedSection.TheLaw.Statement.{statement}
-use Rattle.sdd_witness.proofs.Kept.{kept_laws, Lends-kept}
+use Rattle.sdd_witness.proofs.DuplicableShares.{kept_laws, Lends-kept}
 
 pub shares : statement
 shares = of_Lends C.struct (C.the_codes (P.the_row u64).coded) C.the_heap C.the_lent

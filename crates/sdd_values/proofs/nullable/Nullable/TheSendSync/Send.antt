@@ -1,4 +1,4 @@
--- Nobody owns a sight, so it may go anywhere.
+-- Nobody owns a nullable, so it may go anywhere.
 use denote.RattleType.{RattleType}
 use denote.Param.Send.{IsSend, IsSync}
 use Rattle.sdd_values.specs.contracts.nullable.Nullable.{the_row}

@@ -1,24 +1,24 @@
--- What a `&` to a sight of a value has, a `&` to the value has.
+-- What a `&` to a nullable of a value has, a `&` to the value has.
 use Rattle.atomic_table.proofs.Names.{◌≡◌, ℕ, [], ◌∷◌, List, refl, a_type, named, Val, vptr, inst_fn, SProp, emp, Lft, Fml, ftrue, fsep, flft, ‵, raw, ◌⊛◌, at_ret, ◌$◌, ◌∵◌, !, qed, by, move, keep, drop, split, fsplit, fjoin, use0, rewrite, feq_i, stop, addr, of_opd, first, blocks, exec, returns, enter, alloc_all, pass_all, free_all, look_at, get, through, sets, sets_last, env, tables, yes, RattleType, owns, types_at, plain, nothing, heard, param, layouts, Stays, stay_dropped, walk_of, Goes-dropped, fact, fact_i, RefOf, shr_vals, shr_Tells, hidden_shr}
 use Rattle.std.proofs.Common.{true≢false, sym}
 use Rattle.core.proofs.slots.Bodies.{after}
 use Rattle.atomic_table.proofs.Walks.{proved, leaves}
 use Rattle.std.specs.Prelude.{Option, Some, None, IsSome}
-use Rattle.sdd_values.specs.contracts.nullable.Nullable as sight
+use Rattle.sdd_values.specs.contracts.nullable.Nullable as nullable
 use Rattle.sdd_values.specs.contracts.nullable.Nullable.get.{ended, clauses}
 use Rattle.sdd_values.specs.contracts.nullable.Nullable.get.Key.{name as #self}
 use Rattle.sdd_values.proofs.nullable.Nullable.get.Statement.{statement}
 use Rattle.sdd_values.proofs.nullable.Nullable.get.Code as code
 
-in_sight : {X : Type 0} (shown : Option X) → IsSome shown → (x : X) × (shown ≡ Some x)
-in_sight None is = absurd (true≢false (sym is))
-in_sight (Some x) is = (x, refl)
+in_nullable : {X : Type 0} (shown : Option X) → IsSome shown → (x : X) × (shown ≡ Some x)
+in_nullable None is = absurd (true≢false (sym is))
+in_nullable (Some x) is = (x, refl)
 
 pub get_spec : {M : Type 1} → statement M
 get_spec 𝓤 𝓛 𝓜 𝓡 wired T L =
     let H = 𝓛.H in let 𝓣 = tables 𝓤 H 𝓜 𝓡 𝓡.env in let R : RattleType = param 0 T in let En = ended T in
     let inst = layouts (a_type ∷ []) (T, tt) in let fn = inst_fn inst code.function in
-    let c = clauses T 𝓛 𝓜.mem 𝓡.returns in let Row : RattleType = sight.the_row R in
+    let c = clauses T 𝓛 𝓜.mem 𝓡.returns in let Row : RattleType = nullable.the_row R in
     let self = RefOf (0 ∷ []) tt (plain (λ _. Row)) (λ _. tt) in let hs : Stays En.signature.params En.kept = (stay_dropped self yes, tt) in
     proved 𝓛 En hs c 𝓜 𝓡 (Goes-dropped 𝓛 2 self yes (λ κs x f. refl), tt) (#self inst) fn (code.unfolded 𝓤 H 𝓜 𝓡 wired (T, tt))
     (λ κs. (shr_vals, tt)) (λ κs. (shr_Tells (named 0) κs.0 Row, tt)) (λ κs qs bounds a gh are.
@@ -27,7 +27,7 @@ get_spec 𝓤 𝓛 𝓜 𝓡 wired T L =
     let y : (walk_of 𝓛 En hs c).Ghost = ((κs, qs, bounds, a, (vptr b o ∷ [], tt)), gh) in
     let Post : Val → SProp 𝓤 = (walk_of 𝓛 En hs c).post y in
     qed 𝓛 (((‵ (flft κ qs.0) ⊛ ‵ others) ⊛ ‵ (owns (types_at En.signature.params κs) a y.0.4)) ∷ raw (fact 𝓤 _) ∷ raw (fact 𝓤 Asked) ∷ []) ∵
-    keep ! (2 ∷ 0 ∷ []) $ heard ! Asked (λ is. let x : R.Denot = (in_sight shown is).0 in let told : shown ≡ Some x = (in_sight shown is).1 in
+    keep ! (2 ∷ 0 ∷ []) $ heard ! Asked (λ is. let x : R.Denot = (in_nullable shown is).0 in let told : shown ≡ Some x = (in_nullable shown is).1 in
     split ! $ move ! (1 ∷ []) $ fsplit ! $ fsplit ! $ drop ! $
     rewrite ! 0 (λ (z : Option R.Denot). ‵ (hidden_shr Row κ z b o)) told refl $ keep ! (2 ∷ 0 ∷ []) $
     -- [the tokens; the value]

@@ -1,4 +1,4 @@
--- A `&` to a sight of nothing has nothing, wherever it points.
+-- A `&` to a nullable that shows nothing has nothing, wherever it points.
 use Rattle.atomic_table.proofs.Names.{◌≡◌, [], ◌∷◌, List, refl, a_type, Val, vptr, inst_fn, SProp, emp, Lft, Fml, ftrue, fsep, flft, ‵, raw, ◌⊛◌, at_ret, ◌$◌, ◌∵◌, !, qed, by, keep, drop, split, fjoin, use0, feq_i, stop, addr, of_opd, first, blocks, exec, returns, enter, alloc_all, pass_all, free_all, look_at, get, through, sets, sets_last, lands_as, env, tables, RattleType, owns, types_at, nothing, param, layouts, Stays, walk_of, fact, fact_i}
 use base.Logic.{id⊢}
 use base.Fml.{fhide}
@@ -30,6 +30,6 @@ none_spec 𝓤 𝓛 𝓜 𝓡 wired T L =
     exec ! 𝓣.C 𝓣.Λ Ev (after 1 fn.body) (at_ret Ev Post) $ sets ! (of_opd ! (get ! refl)) refl (tt, tt) $
     use0 𝓛 (‵ (fhide ftrue)) (id⊢ 𝓤 (emp 𝓤)) $ feq_i ! (List Val) (vptr b 0 ∷ []) (vptr b 0 ∷ []) refl $ fjoin ! $ nothing ! $
     use0 𝓛 (raw (fact 𝓤 Empty)) (fact_i 𝓤 Empty (emp 𝓤) refl) $
-    -- [the fact; no parameters; the sight; the tokens]
+    -- [the fact; no parameters; the nullable; the tokens]
     returns ! (look_at ! 0 refl) $ free_all ! refl $ keep ! (3 ∷ 1 ∷ 2 ∷ 0 ∷ []) $
     by ! (leaves 𝓛 En hs c y (vptr b 0) (record { ref_ptr = (b, 0); now = None }) tt tt))))

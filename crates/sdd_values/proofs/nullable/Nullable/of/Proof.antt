@@ -1,4 +1,4 @@
--- What a `&` to the value has, a `&` to the sight of it has.
+-- What a `&` to the value has, a `&` to the nullable of it has.
 use Rattle.atomic_table.proofs.Names.{◌≡◌, ℕ, [], ◌∷◌, List, refl, a_type, named, Val, vptr, inst_fn, SProp, emp, Lft, Fml, ftrue, fsep, flft, ‵, raw, ◌⊛◌, at_ret, ◌$◌, ◌∵◌, !, qed, by, move, keep, drop, split, fsplit, fjoin, use0, feq_i, stop, addr, of_opd, first, blocks, exec, returns, enter, alloc_all, pass_all, free_all, look_at, get, through, sets, sets_last, env, tables, yes, RattleType, owns, types_at, plain, nothing, param, layouts, Stays, stay_dropped, walk_of, Goes-dropped, fact, fact_i, RefOf, shr_vals, shr_Tells}
 use Rattle.core.proofs.slots.Bodies.{after}
 use Rattle.atomic_table.proofs.Walks.{proved, leaves}
@@ -30,6 +30,6 @@ of_spec 𝓤 𝓛 𝓜 𝓡 wired T L =
     exec ! 𝓣.C 𝓣.Λ Ev (after 1 fn.body) (at_ret Ev Post) $ sets ! (of_opd ! (get ! refl)) refl (tt, tt) $
     move ! (1 ∷ []) $ feq_i ! (List Val) (vptr b o ∷ []) (vptr b o ∷ []) refl $ fjoin ! $ nothing ! $ nothing ! $ fjoin ! $
     use0 𝓛 (raw (fact 𝓤 (Some x ≡ Some x))) (fact_i 𝓤 (Some x ≡ Some x) (emp 𝓤) refl) $
-    -- [the fact; the parameter; the sight; the tokens]
+    -- [the fact; the parameter; the nullable; the tokens]
     returns ! (look_at ! 0 refl) $ free_all ! refl $ keep ! (3 ∷ 1 ∷ 2 ∷ 0 ∷ []) $
     by ! (leaves 𝓛 En hs c y (vptr b o) (record { ref_ptr = (b, o); now = Some x }) (tt, tt) (tt, tt))))

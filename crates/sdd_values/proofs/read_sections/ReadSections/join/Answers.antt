@@ -1,11 +1,11 @@
 use Rattle.std.proofs.Common.{◌≡◌, ◌<◌, length, arith, refl}
-use Rattle.sdd_values.proofs.Keeping.{kept-changed}
+use Rattle.sdd_values.proofs.KeptSections.{kept-changed}
 use Rattle.sdd_values.proofs.read_sections.ReadSections.join.Goals as goal
 
 pub returns-clause-kept : goal.returns-clause-kept
 returns-clause-kept c =
     let size = c.self.invariant.size in
-    let sizes : c.self.inside.book.home.size ≡ c.args.self.now.home.size = (λ i. (c.self.view_is i).home.size) in
-    let inside : c.args.reader < length c.self.inside.parts.items = omega (arith, size, sizes, c.requires.inside) in
+    let sizes : c.self.inside.keys.home.size ≡ c.args.self.now.home.size = (λ i. (c.self.view_is i).home.size) in
+    let inside : c.args.reader < length c.self.inside.sections.items = omega (arith, size, sizes, c.requires.inside) in
     rw (← c.self.view_is) (kept-changed _ _ _ _ _ inside c.index_mut-kept.ensures.value (λ e.
     rw (c.join.ensures.joined) rw (c.apart.ensures.kept.0, c.apart.ensures.kept.1, e) refl))

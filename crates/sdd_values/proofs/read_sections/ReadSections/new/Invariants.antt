@@ -2,16 +2,16 @@ use Rattle.std.proofs.Common.{◌≡◌, ◌≤◌, ◌<◌, ◌^◌, ℕ, vec_l
 use Rattle.sdd_rights.specs.declared.fraction.Fraction.{Fraction}
 use Rattle.sdd_values.specs.declared.read_sections.SectionState.{SectionState}
 use Rattle.sdd_values.specs.declared.read_sections.SectionState.TheVariants.{Closed}
-use Rattle.sdd_values.specs.ReadSections.{ArePartsUpTo}
+use Rattle.sdd_values.specs.ReadSections.{AreSectionsUpTo}
 use Rattle.sdd_values.proofs.read_sections.ReadSections.new.Given as goal
 
 abbrev pub invariant-loop-number : goal.invariant-loop-number
 invariant-loop-number l = record {
-  size : l.book.home.size ≡ l.size;
-  next : l.book.next ≡ l._number;
-  len : vec_len l.parts ≡ l._number;
-  room : l.size ≤ vec_capacity l.parts;
-  closed : (k : ℕ) (d : Fraction SectionState) → k < l._number → ((slice_index_or l.parts.items k d).kind ≡ Closed)
-      × ((slice_index_or l.parts.items k d).units ≡ 2 ^ 63);
-  each : ArePartsUpTo l.book.home l.parts.items;
+  size : l.keys.home.size ≡ l.size;
+  next : l.keys.next ≡ l._number;
+  len : vec_len l.sections ≡ l._number;
+  room : l.size ≤ vec_capacity l.sections;
+  closed : (k : ℕ) (d : Fraction SectionState) → k < l._number → ((slice_index_or l.sections.items k d).kind ≡ Closed)
+      × ((slice_index_or l.sections.items k d).units ≡ 2 ^ 63);
+  each : AreSectionsUpTo l.keys.home l.sections.items;
 }

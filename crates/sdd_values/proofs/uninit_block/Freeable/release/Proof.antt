@@ -52,7 +52,7 @@ use Rattle.atomic_table.specs.Seated.{strip}
 use Rattle.atomic_table.proofs.Dealing.{strip_lies}
 use Rattle.atomic_table.proofs.Raw.{all as places, of_strip}
 use Rattle.sdd_values.proofs.Fields.{strip_of, StripData, strip_told}
-use Rattle.sdd_values.proofs.Rooms.{Hd, hold_had, hold_told}
+use Rattle.sdd_values.proofs.UninitMemory.{Hd, hold_had, hold_told}
 use Rattle.sdd_values.specs.contracts.raw_slice.RawSlice as strips
 use Rattle.sdd_values.specs.contracts.uninit_block.Freeable.release as F
 use Rattle.sdd_values.specs.contracts.uninit_block.Freeable.release.Key.{name as #self}

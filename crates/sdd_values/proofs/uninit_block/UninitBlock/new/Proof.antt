@@ -57,7 +57,7 @@ use Rattle.core.proofs.slots.Leases.{uncapped, lease_val, block_ty, block_size, 
 use Rattle.std_alloc.specs.Vec.Ownership.{FitsInBlock}
 use denote.Builtin.{usize}
 use denote.Plain.{uint_vals, uint_Tells}
-use Rattle.sdd_values.proofs.Rooms.{Rm, made, room_made}
+use Rattle.sdd_values.proofs.UninitMemory.{Rm, made, room_made}
 use Rattle.sdd_values.specs.contracts.uninit_block.UninitBlock.new as F
 use Rattle.sdd_values.specs.contracts.uninit_block.UninitBlock.new.Key.{name as #self}
 use Rattle.sdd_values.proofs.uninit_block.UninitBlock.new.Statement as stated

@@ -21,7 +21,7 @@ use Rattle.atomic_table.proofs.Walks.{proved, leaves}
 use Rattle.atomic_table.proofs.Calls.{fm}
 use Rattle.atomic_table.proofs.Rights.{lease_good}
 use Rattle.atomic_table.proofs.Raw.{Row, all as places, row_Typed, From, at_from, Made, from_goes, from_gives}
-use Rattle.sdd_values.proofs.Rooms.{Rm, Hd, held, room_had, hold_made, room_told}
+use Rattle.sdd_values.proofs.UninitMemory.{Rm, Hd, held, room_had, hold_made, room_told}
 use Rattle.sdd_values.specs.contracts.uninit_block.UninitBlock.open.{ended, clauses}
 use Rattle.sdd_values.specs.contracts.uninit_block.UninitBlock.open.Key.{name as #self}
 use Rattle.sdd_values.proofs.uninit_block.UninitBlock.open.Statement.{statement}

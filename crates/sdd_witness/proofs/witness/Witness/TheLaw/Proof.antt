@@ -6,7 +6,7 @@ use denote.Struct.Lending.{of_Lends}
 use Rattle.core.specs.contracts.marker.PhantomData as P
 use Rattle.sdd_witness.specs.contracts.witness.Witness as C
 use Rattle.sdd_witness.proofs.witness.Witness.TheLaw.Statement.{statement}
-use Rattle.sdd_witness.proofs.Shown.{shown_laws, lends_shown}
+use Rattle.sdd_witness.proofs.WitnessShares.{shown_laws, lends_shown}
 
 pub shares : statement
 shares = of_Lends C.struct (C.the_codes (P.the_row u64).coded) C.the_heap C.the_lent

@@ -9,7 +9,7 @@ use Rattle.atomic_table.specs.Seated.{TableId, age, mine}
 use Rattle.atomic_table.proofs.Fields.{HandData}
 use Rattle.sdd_witness.specs.Witness.{witness_owns}
 use Rattle.sdd_witness.proofs.Fields.{token_val, pin_told}
-use Rattle.sdd_witness.proofs.Opened.{absorbs}
+use Rattle.sdd_witness.proofs.TableInvariant.{absorbs}
 use Rattle.atomic_table.specs.contracts.shared.Shared as table
 use Rattle.atomic_table.specs.contracts.shared.Seat as seat
 use Rattle.sdd_witness.specs.contracts.witness.Witness as wit

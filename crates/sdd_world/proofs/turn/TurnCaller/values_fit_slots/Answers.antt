@@ -1,4 +1,4 @@
-use Rattle.sdd_world.proofs.Filled.{as-many, bare}
+use Rattle.sdd_world.proofs.FilledSlots.{as-many, bare}
 use Rattle.sdd_world.proofs.turn.TurnCaller.values_fit_slots.Goals as goal
 
 pub returns-clause-many : goal.returns-clause-many

@@ -3,7 +3,7 @@ use Rattle.std.specs.Prelude.{is_some, unwrap_or}
 use Rattle.std.proofs.lemmas.List.{get_or-set_same}
 use Rattle.sdd_rights.specs.Right.{number_of}
 use Rattle.sdd_participants.specs.declared.standing.CellContents.{CellContents}
-use Rattle.sdd_standings.specs.Cells.{cell_with}
+use Rattle.sdd_world_model.specs.Cells.{cell_with}
 use Rattle.sdd_world_slots.proofs.SlotsKept.{inside-some}
 use Rattle.sdd_space.specs.Ptr.{cell_seen}
 use Rattle.sdd_world.proofs.turn.TurnCells.compare_exchange.Goals as goal

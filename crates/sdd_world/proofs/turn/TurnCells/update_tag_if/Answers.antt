@@ -1,6 +1,6 @@
 use Rattle.std.proofs.Common.{refl, sym, ap, ◌∙◌, subst, [], Bool, Some, of_calls, ℕ}
 use Rattle.sdd_rights.specs.Right.{number_of}
-use Rattle.sdd_space.specs.WorldChanges.{with_cell}
+use Rattle.sdd_world_model.specs.WorldChanges.{with_cell}
 use Rattle.sdd_participants.specs.declared.standing.CellContents.{CellContents}
 use Rattle.sdd_world_core.specs.WorldCore.{WorldCore}
 use Rattle.sdd_world.proofs.turn.TurnCells.update_tag_if.Goals as goal

@@ -1,11 +1,11 @@
 use Rattle.std.proofs.Common.{ℕ, ◌≡◌, ◌∙◌, arith, false, true, refl, sym}
 use Rattle.sdd_rights.specs.Right.{raw_number_of}
 use Rattle.std.proofs.lemmas.Bool.Decides.{nat_tests}
-use Rattle.sdd_space.specs.World.{place_at}
-use Rattle.sdd_space.proofs.Four.{all-closed}
-use Rattle.sdd_space.proofs.Own.{collector-own}
-use Rattle.sdd_space.proofs.Collecting.{collected-ends}
-use Rattle.sdd_world_core.proofs.Collecting.{count-closed}
+use Rattle.sdd_world_model.specs.World.{place_at}
+use Rattle.sdd_world_model.proofs.AcceleratedReclaim.{all-closed}
+use Rattle.sdd_world_model.proofs.ParticipantChanges.{collector-own}
+use Rattle.sdd_world_model.proofs.Collecting.{collected-ends}
+use Rattle.sdd_world_core.proofs.CollectorClosed.{count-closed}
 use Rattle.sdd_world.proofs.turn.TurnCollectors.close_collector.Goals as goal
 
 pub returns-clause-own : goal.returns-clause-own

@@ -1,5 +1,5 @@
 use Rattle.std.proofs.Common.{ℕ}
-use Rattle.sdd_space.proofs.Closes.{goes-up, how-closed, inner-count, own-closed}
+use Rattle.sdd_world_model.proofs.GuardClosed.{goes-up, how-closed, inner-count, own-closed}
 use Rattle.sdd_participants.specs.EpochState.{closed}
 use Rattle.sdd_world.proofs.turn.TurnGuards.close_guard.Goals as goal
 

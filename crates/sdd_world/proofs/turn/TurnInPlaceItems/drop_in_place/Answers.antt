@@ -2,9 +2,9 @@ use Rattle.std.proofs.Common.{ℕ, ap, ◌∙◌, arith}
 use Rattle.std.specs.Prelude.{is_some}
 use Rattle.sdd_participants.specs.EpochState.{EpochState}
 use Rattle.sdd_rights.specs.Right.{number_of}
-use Rattle.sdd_space.proofs.Housed.{live-is}
-use Rattle.sdd_space.proofs.InPlace.{dropped-others}
-use Rattle.sdd_space.proofs.Own.{gives-grows, Gives-dropped}
+use Rattle.sdd_world_model.proofs.PlacesMatchStates.{live-is}
+use Rattle.sdd_world_model.proofs.InPlace.{dropped-others}
+use Rattle.sdd_world_model.proofs.ParticipantChanges.{gives-grows, Gives-dropped}
 use Rattle.sdd_world.proofs.turn.TurnInPlaceItems.drop_in_place.Goals as goal
 
 pub invariant_of-world : goal.invariant_of-world

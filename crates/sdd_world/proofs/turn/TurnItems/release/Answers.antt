@@ -1,6 +1,6 @@
 use Rattle.std.proofs.Common.{ap, arith}
 use Rattle.std.specs.Prelude.{is_some}
-use Rattle.sdd_space.proofs.Housed.{live-is}
+use Rattle.sdd_world_model.proofs.PlacesMatchStates.{live-is}
 use Rattle.sdd_world.proofs.turn.TurnItems.release.Goals as goal
 
 pub invariant_of-world : goal.invariant_of-world

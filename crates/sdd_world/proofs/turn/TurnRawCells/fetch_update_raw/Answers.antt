@@ -2,7 +2,7 @@ use Rattle.std.proofs.Common.{refl, sym, ap, ◌∙◌, subst, [], Option, Some,
 use Rattle.sdd_rights.specs.Right.{raw_number_of}
 use Rattle.sdd_participants.specs.declared.standing.RawCellContents.{RawCellContents}
 use Rattle.sdd_space.specs.declared.raw_ptr.RawPtr.{RawPtr}
-use Rattle.sdd_space.specs.WorldChanges.{with_pointer}
+use Rattle.sdd_world_model.specs.WorldChanges.{with_pointer}
 use Rattle.sdd_world_core.specs.WorldCore.{WorldCore}
 use Rattle.sdd_world.proofs.turn.TurnRawCells.fetch_update_raw.Goals as goal
 

@@ -1,4 +1,4 @@
-use Rattle.sdd_space.proofs.Passing.{guards-pass}
+use Rattle.sdd_world_model.proofs.AcceleratedGuards.{guards-pass}
 use Rattle.sdd_world.proofs.world.World.accelerated_guards_pass.Goals as goal
 
 pub returns : goal.returns

@@ -1,4 +1,4 @@
-use Rattle.sdd_space.proofs.Adopted.{adopts-what-is-left}
+use Rattle.sdd_world_model.proofs.Adoption.{adopts-what-is-left}
 use Rattle.sdd_world.proofs.world.World.adopts_what_is_left.Goals as goal
 
 pub returns : goal.returns

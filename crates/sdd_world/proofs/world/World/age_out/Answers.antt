@@ -1,14 +1,14 @@
 use Rattle.std.proofs.Common.{◌<◌, ◌≢◌, [], length, arith}
 use Rattle.sdd_participants.specs.EpochState.{pace_of}
-use Rattle.sdd_space.specs.World.{AnyGuardOpen, place_at}
-use Rattle.sdd_space.specs.WorldChanges.{changed}
-use Rattle.sdd_space.proofs.Housed.{Whole-changed, Whole-paced, IsTaken, items, taken-changed}
-use Rattle.sdd_space.proofs.Weights.{KeepsSizes-trans}
-use Rattle.sdd_space.proofs.Whole.{abreast-paced}
+use Rattle.sdd_world_model.specs.World.{AnyGuardOpen, place_at}
+use Rattle.sdd_world_model.specs.WorldChanges.{changed}
+use Rattle.sdd_world_model.proofs.PlacesMatchStates.{Whole-changed, Whole-paced, IsTaken, items, taken-changed}
+use Rattle.sdd_world_model.proofs.WaitingCounts.{KeepsSizes-trans}
+use Rattle.sdd_world_model.proofs.WorldInvariant.{abreast-paced}
 use Rattle.sdd_world.specs.Closing.{aged_out}
 use Rattle.sdd_world.proofs.Closing.{MovesWaiting-aged_out, MovesWaiting-guards}
 use Rattle.sdd_world_core.proofs.Lending.{readers-keep}
-use Rattle.sdd_world_core.proofs.Quiet.{home-quiet, lent-quiet}
+use Rattle.sdd_world_core.proofs.NoGuards.{home-quiet, lent-quiet}
 use Rattle.sdd_world.proofs.world.World.age_out.Goals as goal
 
 pub change-requires-clause-home : goal.change-requires-clause-home

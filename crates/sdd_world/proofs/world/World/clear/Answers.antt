@@ -3,7 +3,7 @@ use Rattle.std.proofs.lemmas.Grind.{common_steps}
 use Rattle.sdd_participants.specs.EpochState.{without_waiting, place_at, with_place}
 use Rattle.sdd_world.specs.Closing.{all_aged_out}
 use Rattle.sdd_world.proofs.Closing.{all_aged_out-append, emptied_to-more, emptied-guards}
-use Rattle.sdd_world_core.proofs.Quiet.{quiet-same}
+use Rattle.sdd_world_core.proofs.NoGuards.{quiet-same}
 use Rattle.sdd_world.proofs.world.World.clear.Goals as goal
 
 pub loop-place-preserved : goal.loop-place-preserved

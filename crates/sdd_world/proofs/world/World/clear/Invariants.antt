@@ -1,5 +1,5 @@
 use Rattle.std.proofs.Common.{◌≡◌, ℕ, List, length}
-use Rattle.sdd_space.specs.World.{AnyGuardOpen}
+use Rattle.sdd_world_model.specs.World.{AnyGuardOpen}
 use Rattle.sdd_world.specs.Closing.{all_aged_out}
 use Rattle.sdd_world.proofs.Closing.{emptied_to}
 use Rattle.sdd_world.proofs.world.World.clear.Given as goal

@@ -1,9 +1,9 @@
 use Rattle.std.proofs.Common.{◌≡◌, [], ◌∷◌, ◌++◌, ap, ◌∙◌, refl, sym, IsTrue}
-use Rattle.sdd_space.specs.World.{place_at}
+use Rattle.sdd_world_model.specs.World.{place_at}
 use Rattle.sdd_world.specs.Closing.{aged_out}
 use Rattle.sdd_world.proofs.Closing.{MovesWaiting-refl, MovesWaiting-trans, MovesWaiting-aged_out, MovesWaiting-guards}
 use Rattle.sdd_world.proofs.Closing.{all_aged_out-append, aged_out-ahead, aged_out-range}
-use Rattle.sdd_world_core.proofs.Quiet.{quiet-same}
+use Rattle.sdd_world_core.proofs.NoGuards.{quiet-same}
 use Rattle.sdd_world.proofs.world.World.clear_place.Goals as goal
 
 pub loop-self-init : goal.loop-self-init

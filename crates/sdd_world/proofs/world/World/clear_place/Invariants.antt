@@ -1,5 +1,5 @@
 use Rattle.std.proofs.Common.{◌≡◌, ℕ, ◌<◌, List, length}
-use Rattle.sdd_space.specs.World.{AnyGuardOpen, place_at}
+use Rattle.sdd_world_model.specs.World.{AnyGuardOpen, place_at}
 use Rattle.sdd_world.specs.Closing.{all_aged_out}
 use Rattle.sdd_world.proofs.Closing.{ahead, MovesWaiting}
 use Rattle.sdd_world.proofs.world.World.clear_place.Given as goal

@@ -1,11 +1,11 @@
 use Rattle.std.proofs.Common.{◌≡◌, subst, sym, refl, inl, inr, ap, ◌∙◌, IsTrue}
-use Rattle.sdd_space.specs.World.{World, AnyGuardOpen}
-use Rattle.sdd_space.specs.WorldInvariant.{IsCounted, IsWhole, taken}
+use Rattle.sdd_world_model.specs.World.{World, AnyGuardOpen}
+use Rattle.sdd_world_model.specs.WorldInvariant.{IsCounted, IsWhole, taken}
 use Rattle.sdd_participants.specs.Slab.{entry_at}
 use Rattle.sdd_participants.specs.declared.tally.Tally.{Tally}
 use Rattle.sdd_world_core.specs.Closing.{NothingIsOut}
 use Rattle.sdd_world.proofs.Closing.{emptied-live}
-use Rattle.sdd_world.proofs.Sweeping.{sweeps, nothing-out, all-went, all-counted, none-out-goes, plain-goes, none-taken-at-end, tally-accounts}
+use Rattle.sdd_world.proofs.Sweeps.{sweeps, nothing-out, all-went, all-counted, none-out-goes, plain-goes, none-taken-at-end, tally-accounts}
 use Rattle.sdd_world.proofs.world.World.close.Goals as goal
 
 pub returns-then-is_guarded : goal.returns-then-is_guarded

@@ -1,4 +1,4 @@
-use Rattle.sdd_space.proofs.Housed.{ended-lives}
+use Rattle.sdd_world_model.proofs.PlacesMatchStates.{ended-lives}
 use Rattle.sdd_world.proofs.world.World.end.Goals as goal
 
 pub returns-clause-others : goal.returns-clause-others

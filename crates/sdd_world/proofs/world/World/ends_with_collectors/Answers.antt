@@ -1,4 +1,4 @@
-use Rattle.sdd_space.proofs.Collecting.{collected-ends}
+use Rattle.sdd_world_model.proofs.Collecting.{collected-ends}
 use Rattle.sdd_world.proofs.world.World.ends_with_collectors.Goals as goal
 
 pub returns : goal.returns

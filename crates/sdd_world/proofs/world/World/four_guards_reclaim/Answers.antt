@@ -1,4 +1,4 @@
-use Rattle.sdd_space.proofs.Four.{four-guards}
+use Rattle.sdd_world_model.proofs.AcceleratedReclaim.{four-guards}
 use Rattle.sdd_world.proofs.world.World.four_guards_reclaim.Goals as goal
 
 pub returns : goal.returns

@@ -1,4 +1,4 @@
-use Rattle.sdd_space.proofs.Left.{goes-at-latest, goes-in-time}
+use Rattle.sdd_world_model.proofs.GoesAtLatest.{goes-at-latest, goes-in-time}
 use Rattle.sdd_world.proofs.world.World.reclaims_in_time.Goals as goal
 
 pub returns : goal.returns

@@ -1,5 +1,5 @@
-use Rattle.sdd_space.proofs.Housed.{registered-apart, registered-live, registered-lives}
-use Rattle.sdd_space.proofs.Passing.{registered-guards}
+use Rattle.sdd_world_model.proofs.PlacesMatchStates.{registered-apart, registered-live, registered-lives}
+use Rattle.sdd_world_model.proofs.AcceleratedGuards.{registered-guards}
 use Rattle.sdd_world.proofs.world.World.register.Goals as goal
 
 pub returns-clause-place : goal.returns-clause-place

@@ -1,4 +1,4 @@
-use Rattle.sdd_space.proofs.Jobs.{runs-once}
+use Rattle.sdd_world_model.proofs.Jobs.{runs-once}
 use Rattle.sdd_world.proofs.world.World.runs_jobs_once.Goals as goal
 
 pub returns : goal.returns

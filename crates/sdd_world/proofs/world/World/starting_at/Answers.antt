@@ -2,11 +2,11 @@ use Rattle.std.proofs.Common.{ap, sym, ◌∙◌, arith, Option, sum_by}
 use Rattle.std.specs.Prelude.{is_some}
 use Rattle.sdd_participants.specs.Slab.{Entries, entry_at}
 use Rattle.sdd_participants.specs.declared.standing.Standing.{Standing}
-use Rattle.sdd_standings.specs.Slots.{is_waiting}
-use Rattle.sdd_space.specs.WorldInvariant.{times_with, jobs_with, once_if}
-use Rattle.sdd_space.proofs.Accounts.{blank-at}
+use Rattle.sdd_world_model.specs.Slots.{is_waiting}
+use Rattle.sdd_world_model.specs.WorldInvariant.{times_with, jobs_with, once_if}
+use Rattle.sdd_world_model.proofs.OwnerCounts.{blank-at}
 use Rattle.std.proofs.lemmas.Grind.{common_steps}
-use Rattle.sdd_space.proofs.Housed.{housed-none}
+use Rattle.sdd_world_model.proofs.PlacesMatchStates.{housed-none}
 use Rattle.sdd_world.proofs.world.World.starting_at.Goals as goal
 
 pub invariant_of-result : goal.invariant_of-result

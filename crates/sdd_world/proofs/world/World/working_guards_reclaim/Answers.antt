@@ -1,4 +1,4 @@
-use Rattle.sdd_space.proofs.Working.{working-guards-reclaim, working-guards-pass, busy-guards-count}
+use Rattle.sdd_world_model.proofs.WorkingGuards.{working-guards-reclaim, working-guards-pass, busy-guards-count}
 use Rattle.sdd_world.proofs.world.World.working_guards_reclaim.Goals as goal
 
 pub returns : goal.returns

@@ -1,6 +1,6 @@
 use Rattle.std.proofs.Common.{◌+◌}
 use Rattle.sdd_rights.specs.Right.{number_of}
-use Rattle.sdd_space.proofs.Housed.{Whole-shared}
+use Rattle.sdd_world_model.proofs.PlacesMatchStates.{Whole-shared}
 use Rattle.sdd_world_core.proofs.Lending.{lent-shared}
 use Rattle.sdd_world_core.proofs.world_core.WorldCore.add_owners.Goals as goal
 

@@ -7,10 +7,10 @@ use Rattle.sdd_participants.specs.EpochState as time
 use Rattle.sdd_participants.specs.Jobs.{jobs_without_all}
 use Rattle.sdd_participants.specs.declared.participant.Participant.{Participant}
 use Rattle.sdd_participants.specs.declared.participant.CountdownState.{CountdownState}
-use Rattle.sdd_space.specs.OwnerOrCell.{OwnerOrCell}
-use Rattle.sdd_space.specs.World.{World, place_at}
-use Rattle.sdd_space.specs.WorldChanges.{all_reclaimed, changed}
-use Rattle.sdd_space.specs.WorldChanges as steps
+use Rattle.sdd_world_model.specs.OwnerOrCell.{OwnerOrCell}
+use Rattle.sdd_world_model.specs.World.{World, place_at}
+use Rattle.sdd_world_model.specs.WorldChanges.{all_reclaimed, changed}
+use Rattle.sdd_world_model.specs.WorldChanges as steps
 use Rattle.sdd_world_core.specs.Closing.{paced}
 use Rattle.sdd_world_core.specs.WorldCore.{WorldCore}
 use Rattle.sdd_world_core.proofs.world_core.WorldCore.catch_up.Goals as goal

@@ -2,9 +2,9 @@ use Rattle.std.proofs.Common.{◌≡◌, ℕ, Option, ap, sym, ◌∙◌}
 use Rattle.std.specs.Prelude.{unwrap_or}
 use Rattle.sdd_rights.specs.Right.{number_of}
 use Rattle.sdd_participants.specs.declared.standing.CellContents.{CellContents}
-use Rattle.sdd_standings.specs.Cells.{cell_with, slot_held}
-use Rattle.sdd_space.specs.WorldChanges.{with_cell}
-use Rattle.sdd_world_core.proofs.Copying.{copied}
+use Rattle.sdd_world_model.specs.Cells.{cell_with, slot_held}
+use Rattle.sdd_world_model.specs.WorldChanges.{with_cell}
+use Rattle.sdd_world_core.proofs.CellCopies.{copied}
 use Rattle.sdd_world_core.proofs.world_core.WorldCore.clone_cell.Goals as goal
 
 pub returns-clause-copied : goal.returns-clause-copied

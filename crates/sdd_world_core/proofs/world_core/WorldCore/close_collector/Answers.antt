@@ -2,16 +2,16 @@ use Rattle.std.proofs.Common.{ℕ, ◌≡◌, List, ap, refl, sym, subst}
 use Rattle.sdd_participants.specs.Slab.{Entries}
 use Rattle.sdd_participants.specs.Jobs.{jobs_without_all}
 use Rattle.sdd_participants.proofs.Places.{without-chosen}
-use Rattle.sdd_space.specs.OwnerOrCell.{OwnerOrCell}
+use Rattle.sdd_world_model.specs.OwnerOrCell.{OwnerOrCell}
 use Rattle.sdd_rights.specs.Right.{raw_number_of}
-use Rattle.sdd_space.specs.Collecting.{collector_closed, is_for, waiting_for}
-use Rattle.sdd_space.specs.World.{KeepsSizes}
-use Rattle.sdd_space.proofs.Housed.{Whole-collector_closed, live-taken}
-use Rattle.sdd_space.proofs.Weights.{KeepsSizes-trans}
+use Rattle.sdd_world_model.specs.Collecting.{collector_closed, is_for, waiting_for}
+use Rattle.sdd_world_model.specs.World.{KeepsSizes}
+use Rattle.sdd_world_model.proofs.PlacesMatchStates.{Whole-collector_closed, live-taken}
+use Rattle.sdd_world_model.proofs.WaitingCounts.{KeepsSizes-trans}
 use Rattle.sdd_world_core.specs.WorldCore.{WorldCore}
 use Rattle.sdd_world_core.specs.Lending.{AreLent}
-use Rattle.sdd_world_core.proofs.Quiet.{home-quiet}
-use Rattle.sdd_world_core.proofs.Collecting.{lent-closed}
+use Rattle.sdd_world_core.proofs.NoGuards.{home-quiet}
+use Rattle.sdd_world_core.proofs.CollectorClosed.{lent-closed}
 use Rattle.sdd_world_core.proofs.world_core.WorldCore.close_collector.Goals as goal
 
 -- what waits for a collector are items alone, so the jobs wait as before

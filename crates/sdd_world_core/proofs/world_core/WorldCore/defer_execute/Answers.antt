@@ -3,17 +3,17 @@ use Rattle.sdd_participants.specs.Slab.{IsEmptyAt}
 use Rattle.sdd_participants.specs.EpochState as time
 use Rattle.sdd_participants.specs.declared.participant.Participant.{Participant}
 use Rattle.sdd_participants.specs.declared.waiting.LimboEntry.TheVariants.{Job}
-use Rattle.sdd_space.specs.OwnerOrCell.{OwnerOrCell}
-use Rattle.sdd_space.specs.Loans.{Loans}
-use Rattle.sdd_space.specs.World.{World, IsPlaceOf, place_at}
-use Rattle.sdd_space.specs.WorldInvariant.{IsWhole}
-use Rattle.sdd_space.specs.WorldChanges.{deferred}
-use Rattle.sdd_space.specs.WorldStep.WorldStep.{defers}
+use Rattle.sdd_world_model.specs.OwnerOrCell.{OwnerOrCell}
+use Rattle.sdd_world_model.specs.Loans.{Loans}
+use Rattle.sdd_world_model.specs.World.{World, IsPlaceOf, place_at}
+use Rattle.sdd_world_model.specs.WorldInvariant.{IsWhole}
+use Rattle.sdd_world_model.specs.WorldChanges.{deferred}
+use Rattle.sdd_world_model.specs.WorldStep.WorldStep.{defers}
 use Rattle.std.proofs.lemmas.Result.{err_from_is_err_and}
 use Rattle.sdd_participants.proofs.Places.{empty-places, places-full, places-put}
-use Rattle.sdd_space.proofs.Housed.{Whole-deferred, live-taken}
+use Rattle.sdd_world_model.proofs.PlacesMatchStates.{Whole-deferred, live-taken}
 use Rattle.sdd_world_core.specs.WorldCore.{WorldCore}
-use Rattle.sdd_world_core.proofs.Deferring.{put-as}
+use Rattle.sdd_world_core.proofs.DeferredJobs.{put-as}
 use Rattle.sdd_world_core.specs.Lending.{AreLent, AreLentOf}
 use Rattle.sdd_world_core.proofs.Lending.{lent-call, guards-placed, readers-placed}
 use Rattle.sdd_world_core.proofs.Sound.{job-room, sound-job}
@@ -68,7 +68,7 @@ pub wait-requires-clause-room : goal.wait-requires-clause-room
 wait-requires-clause-room g c =
     let there = rw (← c.self.view_is) at c.requires.place in
     let i = c.self.inside in
-    job-room g.T.Item.holds i.time i.slots i.cells (places_of i.jobs) i.tenures c.args.place there.0 c.self.invariant c.in_ok-number.number
+    job-room g.T.Item.holds i.time i.slots i.cells (places_of i.jobs) i.sections c.args.place there.0 c.self.invariant c.in_ok-number.number
     (empty-places i.jobs c.in_ok-number.number c.in_ok-number.ensures.put.0)
 
 pub invariant_of-self-2 : goal.invariant_of-self-2
@@ -77,5 +77,5 @@ invariant_of-self-2 g c =
     let i = c.self.inside in
     let put = c.in_ok-number.ensures.put in
     rw (put.1, c.wait.ensures, places-put i.jobs c.in_ok-number.number c.args.job)
-    (sound-job g.T.Item.holds i.time i.slots i.cells (places_of i.jobs) i.tenures c.args.place there.0 c.self.invariant c.in_ok-number.number
+    (sound-job g.T.Item.holds i.time i.slots i.cells (places_of i.jobs) i.sections c.args.place there.0 c.self.invariant c.in_ok-number.number
     (empty-places i.jobs c.in_ok-number.number put.0))

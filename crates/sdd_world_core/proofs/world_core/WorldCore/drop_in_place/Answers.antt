@@ -1,6 +1,6 @@
 use Rattle.std.proofs.Common.{ℕ}
 use Rattle.sdd_rights.specs.Right.{number_of}
-use Rattle.sdd_world_core.proofs.Quiet.{home-quiet}
+use Rattle.sdd_world_core.proofs.NoGuards.{home-quiet}
 use Rattle.sdd_world_core.proofs.InPlace.{drop-lent, drop-sizes, drop-whole}
 use Rattle.sdd_world_core.proofs.world_core.WorldCore.drop_in_place.Goals as goal
 

@@ -1,4 +1,4 @@
-use Rattle.sdd_space.proofs.Housed.{Whole-changes_nested}
+use Rattle.sdd_world_model.proofs.PlacesMatchStates.{Whole-changes_nested}
 use Rattle.sdd_world_core.proofs.world_core.WorldCore.enter.Goals as goal
 
 pub returns-then-open-clause-whole : goal.returns-then-open-clause-whole

@@ -6,13 +6,13 @@ use Rattle.sdd_participants.specs.EpochState.{EpochState}
 use Rattle.sdd_participants.specs.declared.standing.Standing.TheVariants.{Owned, Raw}
 use Rattle.sdd_participants.specs.declared.tally.Tally.{Tally}
 use Rattle.sdd_values.specs.ReadSections.{ReadSections}
-use Rattle.sdd_standings.specs.Cells.{Cells}
-use Rattle.sdd_standings.specs.Slots.{Slots, standing_at, with_standing}
-use Rattle.sdd_space.specs.Out.{is_out}
-use Rattle.sdd_space.specs.WorldStep.WorldStep.{takes_back_raw}
-use Rattle.sdd_space.specs.WorldInvariant.{IsWhole}
-use Rattle.sdd_space.specs.World.{World}
-use Rattle.sdd_space.proofs.Housed.{Whole-restands}
+use Rattle.sdd_world_model.specs.Cells.{Cells}
+use Rattle.sdd_world_model.specs.Slots.{Slots, standing_at, with_standing}
+use Rattle.sdd_world_model.specs.Out.{is_out}
+use Rattle.sdd_world_model.specs.WorldStep.WorldStep.{takes_back_raw}
+use Rattle.sdd_world_model.specs.WorldInvariant.{IsWhole}
+use Rattle.sdd_world_model.specs.World.{World}
+use Rattle.sdd_world_model.proofs.PlacesMatchStates.{Whole-restands}
 use Rattle.sdd_world_core.specs.Lending.{AreLentOf}
 use Rattle.sdd_world_core.proofs.Lending.{lent-call, readers-as}
 use Rattle.sdd_participants.specs.Jobs.{places_of}
@@ -44,7 +44,7 @@ returns-clause-whole g c =
     let i = c.self.inside in
     let slot : ℕ = c.args.slot in
     rw (← c.self.view_is)
-    (λ whole. either (λ s. IsWhole (of i.time i.cells (places_of i.jobs) i.tenures i.tally s)) i.slots c.from_raw.new.self slot c.from_raw.result
+    (λ whole. either (λ s. IsWhole (of i.time i.cells (places_of i.jobs) i.sections i.tally s)) i.slots c.from_raw.new.self slot c.from_raw.result
     c.from_raw.ensures.back whole (λ is. Whole-restands _ slot Owned (ap is_out is) refl whole))
 
 pub returns-clause-lent : goal.returns-clause-lent
@@ -52,6 +52,7 @@ returns-clause-lent g c =
     let i = c.self.inside in
     let slot : ℕ = c.args.slot in
     rw (← c.self.view_is)
-    (λ whole l. either (λ s. AreLentOf (of i.time i.cells (places_of i.jobs) i.tenures i.tally s) (record { stakes = s.stakes; tenures = i.tenures })) i.slots
+    (λ whole l. either (λ s. AreLentOf (of i.time i.cells (places_of i.jobs) i.sections i.tally s)
+    (record { fractions = s.fractions; sections = i.sections })) i.slots
     c.from_raw.new.self slot c.from_raw.result c.from_raw.ensures.back l
     (λ is. lent-call g.T.Item.holds _ _ _ (takes_back_raw _ slot is) whole (λ h. readers-as _ _ refl refl h) (λ q. refl) l))

@@ -1,9 +1,9 @@
 use Rattle.std.proofs.Common.{ℕ}
 use Rattle.sdd_rights.specs.Right.{number_of}
-use Rattle.sdd_space.specs.OwnerOrCell.{SpaceId}
-use Rattle.sdd_space.proofs.Housed.{Whole-with_value}
-use Rattle.sdd_space.proofs.Standings.{alone-out}
-use Rattle.sdd_world_core.proofs.Quiet.{home-quiet}
+use Rattle.sdd_world_model.specs.OwnerOrCell.{SpaceId}
+use Rattle.sdd_world_model.proofs.PlacesMatchStates.{Whole-with_value}
+use Rattle.sdd_world_model.proofs.Standings.{alone-out}
+use Rattle.sdd_world_core.proofs.NoGuards.{home-quiet}
 use Rattle.sdd_world_core.proofs.InPlace.{lent-edited, sound-edited, value-of_home}
 use Rattle.sdd_participants.specs.Jobs.{places_of}
 use Rattle.sdd_world_core.proofs.world_core.WorldCore.get_mut.Goals as goal
@@ -19,10 +19,10 @@ invariant_of-self g c =
     let slots = c.self.inside.slots in
     let e = c.get_mut.ensures in
     let held = (rw (← c.self.view_is) at c.requires.held) e.0 e.1 c.get_mut.result e.3 in
-    let home : SpaceId = record { slots = slots.home; cells = c.self.inside.cells.home; readers = c.self.inside.tenures.home } in
+    let home : SpaceId = record { slots = slots.home; cells = c.self.inside.cells.home; readers = c.self.inside.sections.home } in
     let was = value-of_home g.T.Item.holds home slots.values slot e.0 c.self.invariant.homes e.2 in
     let i = c.self.inside in
-    rw e.4 (sound-edited g.T.Item.holds i.time slots i.cells (places_of i.jobs) i.tenures slot e.1 c.self.invariant (held was))
+    rw e.4 (sound-edited g.T.Item.holds i.time slots i.cells (places_of i.jobs) i.sections slot e.1 c.self.invariant (held was))
 
 pub returns-clause-whole : goal.returns-clause-whole
 returns-clause-whole g c =

@@ -1,5 +1,5 @@
 use Rattle.std.proofs.Common.{◌+◌, refl}
-use Rattle.sdd_space.proofs.Housed.{Whole-shared}
+use Rattle.sdd_world_model.proofs.PlacesMatchStates.{Whole-shared}
 use Rattle.sdd_world_core.proofs.Lending.{lent-shared}
 use Rattle.sdd_world_core.proofs.world_core.WorldCore.get_shared.Goals as goal
 

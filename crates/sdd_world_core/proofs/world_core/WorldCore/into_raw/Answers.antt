@@ -1,9 +1,9 @@
 use Rattle.std.proofs.Common.{ℕ, ap, refl}
 use Rattle.sdd_rights.specs.Right.{number_of}
 use Rattle.sdd_participants.specs.declared.standing.Standing.TheVariants.{Raw}
-use Rattle.sdd_space.specs.Out.{is_out}
-use Rattle.sdd_space.specs.WorldStep.WorldStep.{puts_out_raw}
-use Rattle.sdd_space.proofs.Housed.{Whole-restands}
+use Rattle.sdd_world_model.specs.Out.{is_out}
+use Rattle.sdd_world_model.specs.WorldStep.WorldStep.{puts_out_raw}
+use Rattle.sdd_world_model.proofs.PlacesMatchStates.{Whole-restands}
 use Rattle.sdd_world_core.proofs.Lending.{lent-call, readers-as}
 use Rattle.sdd_world_core.proofs.world_core.WorldCore.into_raw.Goals as goal
 

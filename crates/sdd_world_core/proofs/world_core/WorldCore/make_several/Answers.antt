@@ -1,9 +1,9 @@
 use Rattle.std.proofs.Common.{ℕ}
 use Rattle.sdd_rights.specs.Right.{number_of}
 use Rattle.sdd_participants.specs.declared.standing.Standing.TheVariants.{Shared}
-use Rattle.sdd_space.proofs.Housed.{items}
-use Rattle.sdd_space.proofs.Whole.{made-keeps}
-use Rattle.sdd_world_core.proofs.Several.{whole-several, lent-several}
+use Rattle.sdd_world_model.proofs.PlacesMatchStates.{items}
+use Rattle.sdd_world_model.proofs.WorldInvariant.{made-keeps}
+use Rattle.sdd_world_core.proofs.SharedOwners.{whole-several, lent-several}
 use Rattle.sdd_world_core.proofs.world_core.WorldCore.make_several.Goals as goal
 
 pub returns-clause-whole : goal.returns-clause-whole

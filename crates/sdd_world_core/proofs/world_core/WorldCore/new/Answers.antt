@@ -6,8 +6,8 @@ use Rattle.std.specs.Prelude.{is_none}
 use Rattle.sdd_participants.specs.EpochState.{waiting_count}
 use Rattle.sdd_participants.specs.Jobs.{places_of}
 use Rattle.sdd_participants.proofs.Places.{places-length, places-none}
-use Rattle.sdd_space.specs.World.{is_loose}
-use Rattle.sdd_space.proofs.Accounts.{blank-at}
+use Rattle.sdd_world_model.specs.World.{is_loose}
+use Rattle.sdd_world_model.proofs.OwnerCounts.{blank-at}
 use Rattle.sdd_world_core.proofs.Lending.{lent-blank}
 use Rattle.sdd_world_core.proofs.world_core.WorldCore.new.Goals as goal
 
@@ -25,14 +25,14 @@ invariant_of-result g c =
       held = grind (arith, common_steps);
       homes = λ k. rw (c.in-Ok.ensures.values, blank-at c.args.slots k) tt;
       participants = grind (arith, common_steps);
-      tenures = grind (arith, common_steps);
+      sections = grind (arith, common_steps);
       readers = grind (arith, common_steps);
     }
 
 pub returns-in-Ok-clause-lent : goal.returns-in-Ok-clause-lent
 returns-in-Ok-clause-lent g c =
-    lent-blank _ _ c.args.slots c.args.participants c.requires.idle c.requires.nesting c.in-Ok.ensures.stakes c.in_ok-tenures.ensures.size
-    (c.in_ok-tenures.ensures.count ∙ sym c.in_ok-tenures.ensures.size) c.in_ok-tenures.ensures.closed
+    lent-blank _ _ c.args.slots c.args.participants c.requires.idle c.requires.nesting c.in-Ok.ensures.fractions c.in_ok-sections.ensures.size
+    (c.in_ok-sections.ensures.count ∙ sym c.in_ok-sections.ensures.size) c.in_ok-sections.ensures.closed
 
 pub returns-in-Ok-clause-blank : goal.returns-in-Ok-clause-blank
 returns-in-Ok-clause-blank g c = record {

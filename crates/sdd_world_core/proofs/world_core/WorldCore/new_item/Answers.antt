@@ -2,11 +2,11 @@ use Rattle.std.proofs.Common.{inl, inr, ℕ, refl}
 use Rattle.sdd_rights.specs.Right.{number_of}
 use Rattle.sdd_rights.specs.declared.right.StandingKind.{StandingKind}
 use Rattle.sdd_rights.specs.declared.right.StandingKind.TheVariants as kind
-use Rattle.sdd_standings.specs.Slots.{first_standing}
-use Rattle.sdd_space.specs.WorldStep.{IsFirst}
-use Rattle.sdd_space.specs.WorldStep.WorldStep.{makes}
-use Rattle.sdd_space.proofs.Housed.{Whole-made_as, items}
-use Rattle.sdd_space.proofs.Whole.{made-keeps}
+use Rattle.sdd_world_model.specs.Slots.{first_standing}
+use Rattle.sdd_world_model.specs.WorldStep.{IsFirst}
+use Rattle.sdd_world_model.specs.WorldStep.WorldStep.{makes}
+use Rattle.sdd_world_model.proofs.PlacesMatchStates.{Whole-made_as, items}
+use Rattle.sdd_world_model.proofs.WorldInvariant.{made-keeps}
 use Rattle.sdd_world_core.proofs.Lending.{lent-call, readers-as}
 use Rattle.sdd_world_core.proofs.world_core.WorldCore.new_item.Goals as goal
 

@@ -1,5 +1,5 @@
 use Rattle.std.proofs.Common.{sym}
-use Rattle.sdd_world_core.proofs.Lending.{due-home, lent-opened, part-left, reader-there}
+use Rattle.sdd_world_core.proofs.Lending.{due-home, lent-opened, section-left, reader-there}
 use Rattle.sdd_world_core.proofs.world_core.WorldCore.open.Goals as goal
 
 pub enter-requires-clause-home : goal.enter-requires-clause-home
@@ -10,6 +10,6 @@ returns-clause-lent g c =
     let lent = rw (← c.self.view_is) at c.requires.lent in
     let live = rw (← c.self.view_is) at c.requires.place in
     rw (c.share.ensures.shared, c.enter.ensures.opened, ← c.self.view_is)
-    (lent-opened g.T.Item.holds _ _ c.args.place live (reader-there _ _ lent (sym c.self.invariant.tenures) c.args.place live.0)
-    (part-left _ _ lent c.args.place (rw (← c.self.view_is) at c.requires.few)) (rw (← c.self.view_is) at c.requires.whole)
+    (lent-opened g.T.Item.holds _ _ c.args.place live (reader-there _ _ lent (sym c.self.invariant.sections) c.args.place live.0)
+    (section-left _ _ lent c.args.place (rw (← c.self.view_is) at c.requires.few)) (rw (← c.self.view_is) at c.requires.whole)
     (rw (c.enter.ensures.opened, ← c.self.view_is) at c.enter.ensures.sizes) lent)

@@ -1,7 +1,7 @@
 use Rattle.std.proofs.Common.{ℕ, ◌+◌, get_or, arith, sym, ◌∙◌, length-drop}
 use Rattle.sdd_participants.specs.declared.waiting.LimboEntry.{LimboEntry}
 use Rattle.sdd_participants.proofs.Places.{without-drop}
-use Rattle.sdd_space.proofs.Weights.{FreesOne-reclaimed, FreesOne-sizes, KeepsSizes-trans, all_reclaimed-drop}
+use Rattle.sdd_world_model.proofs.WaitingCounts.{FreesOne-reclaimed, FreesOne-sizes, KeepsSizes-trans, all_reclaimed-drop}
 use Rattle.sdd_world_core.proofs.world_core.WorldCore.reclaim_all.Goals as goal
 
 pub loop-what-preserved : goal.loop-what-preserved

@@ -1,7 +1,7 @@
 use Rattle.std.proofs.Common.{◌≡◌, ◌+◌, ◌<◌, ◌≤◌, length, drop}
-use Rattle.sdd_space.specs.World.{most, weight, KeepsSizes}
+use Rattle.sdd_world_model.specs.World.{most, weight, KeepsSizes}
 use Rattle.sdd_participants.specs.Jobs.{jobs_without_all}
-use Rattle.sdd_space.specs.WorldChanges.{all_reclaimed}
+use Rattle.sdd_world_model.specs.WorldChanges.{all_reclaimed}
 use Rattle.sdd_world_core.proofs.world_core.WorldCore.reclaim_all.Given as goal
 
 -- to reclaim what is left is to reclaim all, and there is room for it

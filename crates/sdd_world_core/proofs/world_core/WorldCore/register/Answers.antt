@@ -4,17 +4,17 @@ use Rattle.sdd_core.specs.declared.refused.Refused.{Refused}
 use Rattle.sdd_participants.specs.EpochState.{EpochState, IsVacant}
 use Rattle.sdd_participants.specs.EpochState as time
 use Rattle.sdd_values.specs.ReadSections.{ReadSections}
-use Rattle.sdd_standings.specs.Slots.{Slots}
-use Rattle.sdd_standings.specs.Cells.{Cells}
+use Rattle.sdd_world_model.specs.Slots.{Slots}
+use Rattle.sdd_world_model.specs.Cells.{Cells}
 use Rattle.sdd_participants.specs.Slab.{Entries}
-use Rattle.sdd_space.specs.OwnerOrCell.{OwnerOrCell}
-use Rattle.sdd_space.specs.Loans.{Loans}
+use Rattle.sdd_world_model.specs.OwnerOrCell.{OwnerOrCell}
+use Rattle.sdd_world_model.specs.Loans.{Loans}
 use Rattle.sdd_world_core.specs.WorldCore.{IsSound}
 use Rattle.sdd_world_core.specs.Lending.{AreLentOf}
 use Rattle.sdd_world_core.proofs.Lending.{lent-registered}
-use Rattle.sdd_space.specs.World.{World}
-use Rattle.sdd_space.specs.WorldInvariant.{IsWhole}
-use Rattle.sdd_space.proofs.Housed.{Whole-registered, registered-adds}
+use Rattle.sdd_world_model.specs.World.{World}
+use Rattle.sdd_world_model.specs.WorldInvariant.{IsWhole}
+use Rattle.sdd_world_model.proofs.PlacesMatchStates.{Whole-registered, registered-adds}
 use Rattle.sdd_participants.specs.Jobs.{places_of}
 use Rattle.sdd_world_core.proofs.world_core.WorldCore.register.Goals as goal
 
@@ -44,7 +44,7 @@ sound holds t u s c jobs r (Ok p) h i =
       held = i.held;
       homes = i.homes;
       participants = a.participants ∙ i.participants;
-      tenures = i.tenures;
+      sections = i.sections;
       readers = i.readers;
     })
 sound holds t u s c jobs r (Err e) h i = rw h i
@@ -53,7 +53,7 @@ pub invariant_of-self : goal.invariant_of-self
 invariant_of-self g c =
     let i = c.self.inside in
     sound g.T.Item.holds i.time c.register.new.self i.slots i.cells
-    (places_of i.jobs) i.tenures c.register.result c.register.ensures.registered c.self.invariant
+    (places_of i.jobs) i.sections c.register.result c.register.ensures.registered c.self.invariant
 
 pub returns-clause-whole : goal.returns-clause-whole
 returns-clause-whole g c = rw (← c.self.view_is) (λ i. registers _ c.register.new.self c.register.result c.register.ensures.registered i)

@@ -1,14 +1,14 @@
 use Rattle.std.proofs.Common.{ℕ, List, refl}
 use Rattle.sdd_participants.specs.EpochState as time
 use Rattle.sdd_participants.specs.declared.participant.Participant.{Participant}
-use Rattle.sdd_space.specs.OwnerOrCell.{OwnerOrCell}
-use Rattle.sdd_space.specs.Loans.{Loans}
-use Rattle.sdd_space.specs.World.{World, IsPlaceOf, place_at}
-use Rattle.sdd_space.specs.WorldInvariant.{IsWhole}
-use Rattle.sdd_space.specs.WorldChanges.{stirred}
+use Rattle.sdd_world_model.specs.OwnerOrCell.{OwnerOrCell}
+use Rattle.sdd_world_model.specs.Loans.{Loans}
+use Rattle.sdd_world_model.specs.World.{World, IsPlaceOf, place_at}
+use Rattle.sdd_world_model.specs.WorldInvariant.{IsWhole}
+use Rattle.sdd_world_model.specs.WorldChanges.{stirred}
 use Rattle.sdd_world_core.specs.Lending.{AreLentOf}
-use Rattle.sdd_space.specs.WorldStep.WorldStep.{stirs}
-use Rattle.sdd_space.proofs.Housed.{Whole-stirred}
+use Rattle.sdd_world_model.specs.WorldStep.WorldStep.{stirs}
+use Rattle.sdd_world_model.proofs.PlacesMatchStates.{Whole-stirred}
 use Rattle.sdd_world_core.proofs.Lending.{lent-call, guards-placed, readers-placed}
 use Rattle.sdd_world_core.proofs.world_core.WorldCore.set_has_garbage.Goals as goal
 

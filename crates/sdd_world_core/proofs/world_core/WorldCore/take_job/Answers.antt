@@ -5,13 +5,13 @@ use Rattle.sdd_participants.proofs.Places.{places-taken}
 use Rattle.sdd_participants.specs.Slab.{Entries, without_entry}
 use Rattle.sdd_participants.specs.EpochState.{EpochState, waiting_count}
 use Rattle.sdd_values.specs.ReadSections.{ReadSections}
-use Rattle.sdd_standings.specs.Slots.{Slots}
-use Rattle.sdd_standings.specs.Cells.{Cells}
-use Rattle.sdd_space.specs.OwnerOrCell.{OwnerOrCell}
-use Rattle.sdd_space.specs.World.{is_loose}
-use Rattle.sdd_space.proofs.Weights.{one-freed}
+use Rattle.sdd_world_model.specs.Slots.{Slots}
+use Rattle.sdd_world_model.specs.Cells.{Cells}
+use Rattle.sdd_world_model.specs.OwnerOrCell.{OwnerOrCell}
+use Rattle.sdd_world_model.specs.World.{is_loose}
+use Rattle.sdd_world_model.proofs.WaitingCounts.{one-freed}
 use Rattle.sdd_world_core.specs.WorldCore.{IsSound}
-use Rattle.sdd_world_core.proofs.Deferring.{taken-as}
+use Rattle.sdd_world_core.proofs.DeferredJobs.{taken-as}
 use Rattle.sdd_world_core.proofs.world_core.WorldCore.take_job.Goals as goal
 
 -- a place of a job is free, where there was room
@@ -26,7 +26,7 @@ sound-ran holds t s c jobs r n room i =
       held = i.held;
       homes = i.homes;
       participants = i.participants;
-      tenures = i.tenures;
+      sections = i.sections;
       readers = i.readers;
     }
 

@@ -1,7 +1,7 @@
 use Rattle.std.proofs.Common.{◌≡◌, None, Some, ap, refl, sym, ◌∙◌, arith}
 use Rattle.std.proofs.lemmas.List.{get_or_read}
 use Rattle.sdd_rights.specs.RightsAuthority.{Kept, granted}
-use Rattle.sdd_standings.specs.Cells.{right_at}
+use Rattle.sdd_world_model.specs.Cells.{right_at}
 use Rattle.sdd_world_slots.proofs.Contents.{contents-set, empty-tag, free-there, full-to, match-set, near-right}
 use Rattle.sdd_world_slots.proofs.cells.WorldCells.claim.Goals as goal
 

@@ -4,7 +4,7 @@ use Rattle.sdd_rights.specs.RightsAuthority.{whole}
 use Rattle.sdd_rights.specs.Right.{badge_home}
 use Rattle.sdd_rights.specs.declared.right.StandingKind.{StandingKind}
 use Rattle.sdd_rights.specs.declared.right.StandingKind.TheVariants.{Free}
-use Rattle.sdd_standings.specs.Cells.{MayHold, right_at}
+use Rattle.sdd_world_model.specs.Cells.{MayHold, right_at}
 use Rattle.sdd_world_slots.proofs.CellsKept.{raw-whole-again}
 use Rattle.sdd_world_slots.proofs.Contents.{contents-retag, granted-there, match-retag, near-right, none-raw}
 use Rattle.sdd_world_slots.proofs.cells.WorldCells.close_raw.Goals as goal
@@ -27,7 +27,8 @@ invariant_of-self c =
     let cell = c.redeem_raw-number.result in
     let a = c.self.invariant.0 in
     let there = granted-there i.tags i.held.items a cell _ c.redeem_raw-number.ensures.kind (λ e. absurd (cc)) in
-    let none = none-raw _ _ (subst (λ (k : StandingKind). MayHold (badge_home i.slots) k (right_at i.held.items cell)) c.redeem_raw-number.ensures.kind there.2) in
+    let none = none-raw _ _ (subst (λ (k : StandingKind). MayHold (badge_home i.slots) k
+    (right_at i.held.items cell)) c.redeem_raw-number.ensures.kind there.2) in
     rw (
       c.set.ensures.home,
       c.set.ensures.kept,

@@ -1,5 +1,5 @@
 use Rattle.std.proofs.Common.{◌≡◌, None, ℕ, vec_len}
-use Rattle.sdd_standings.specs.Cells.{right_at}
+use Rattle.sdd_world_model.specs.Cells.{right_at}
 use Rattle.sdd_world_slots.proofs.cells.WorldCells.destroy.Given as goal
 
 abbrev pub invariant-loop-right : goal.invariant-loop-right

@@ -1,6 +1,6 @@
 use Rattle.std.proofs.Common.{◌≡◌, None, refl, ◌∙◌}
 use Rattle.std.proofs.lemmas.List.{get_or_read}
-use Rattle.sdd_standings.specs.Cells.{right_at}
+use Rattle.sdd_world_model.specs.Cells.{right_at}
 use Rattle.sdd_world_slots.proofs.Contents.{contents-at, granted-there, near-right, owner-not-free}
 use Rattle.sdd_world_slots.proofs.cells.WorldCells.get.Goals as goal
 

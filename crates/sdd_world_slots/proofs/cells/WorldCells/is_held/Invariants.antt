@@ -1,5 +1,5 @@
 use Rattle.std.proofs.Common.{◌≡◌, ℕ, ◌<◌, Some}
-use Rattle.sdd_standings.specs.Cells.{right_at, slot_held}
+use Rattle.sdd_world_model.specs.Cells.{right_at, slot_held}
 use Rattle.sdd_world_slots.proofs.cells.WorldCells.is_held.Given as goal
 
 abbrev pub invariant-loop-owner : goal.invariant-loop-owner

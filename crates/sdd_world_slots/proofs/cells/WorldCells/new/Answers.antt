@@ -1,7 +1,7 @@
 use Rattle.std.proofs.Common.{sym, ◌∙◌, None}
 use Rattle.std.proofs.Math.ListN.{replicate}
 use Rattle.std.proofs.lemmas.List.{length-replicate}
-use Rattle.sdd_standings.specs.Cells.{null_pointer}
+use Rattle.sdd_world_model.specs.Cells.{null_pointer}
 use Rattle.sdd_rights.specs.Right.{badge_home}
 use Rattle.sdd_world_slots.proofs.CellsKept.{all-cells-free}
 use Rattle.sdd_world_slots.proofs.Contents.{contents-none}

@@ -1,7 +1,7 @@
 use Rattle.std.proofs.Common.{ℕ, Some, refl, sym, subst}
 use Rattle.sdd_rights.specs.Right.{badge_home, number_of}
 use Rattle.sdd_rights.specs.declared.right.StandingKind.{StandingKind}
-use Rattle.sdd_standings.specs.Cells.{MayHold}
+use Rattle.sdd_world_model.specs.Cells.{MayHold}
 use Rattle.sdd_world_slots.proofs.Contents.{contents-set, granted-there, match-both, near-right, owner-not-free}
 use Rattle.sdd_world_slots.proofs.cells.WorldCells.swap.Goals as goal
 

@@ -1,6 +1,6 @@
 use Rattle.std.proofs.Common.{ap, ◌∙◌, refl, Some}
 use Rattle.std.specs.Prelude.{is_some}
-use Rattle.sdd_standings.specs.Slots.{first_standing}
+use Rattle.sdd_world_model.specs.Slots.{first_standing}
 use Rattle.sdd_world_slots.proofs.SlotsKept.{filled-there, keeps, none-of, first-kept, first-bounded}
 use Rattle.sdd_world_slots.proofs.slots.WorldSlots.new_item.Goals as goal
 

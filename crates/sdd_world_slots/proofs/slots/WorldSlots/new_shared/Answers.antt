@@ -4,7 +4,7 @@ use Rattle.std.proofs.lemmas.List.{set-set, get_or-set_same, length-map}
 use Rattle.sdd_participants.specs.declared.standing.Standing.TheVariants.{Shared}
 use Rattle.sdd_rights.specs.RightsAuthority.{Kept, granted, whole}
 use Rattle.sdd_rights.specs.declared.right.StandingKind.TheVariants.{Free, Shared as KindShared}
-use Rattle.sdd_standings.specs.Slots.{kept_of}
+use Rattle.sdd_world_model.specs.Slots.{kept_of}
 use Rattle.sdd_world_slots.proofs.SlotsKept.{filled-there, keeps, none-of, shared-bounded, several-kept}
 use Rattle.sdd_world_slots.proofs.slots.WorldSlots.new_shared.Goals as goal
 

@@ -6,7 +6,7 @@ use Rattle.sdd_participants.specs.declared.standing.Standing.TheVariants.{Shared
 use Rattle.sdd_rights.specs.RightsAuthority.{Kept, whole}
 use Rattle.sdd_rights.specs.declared.right.StandingKind.TheVariants.{Free}
 use Rattle.sdd_rights.specs.SharedRights.{count_of}
-use Rattle.sdd_standings.specs.Slots.{kept_of}
+use Rattle.sdd_world_model.specs.Slots.{kept_of}
 use Rattle.sdd_world_slots.proofs.SlotsKept.{keeps-so, kept-there, but-one-kept, no-more-than, shared-bounded}
 use Rattle.sdd_world_slots.proofs.slots.WorldSlots.release_all_but_one.Goals as goal
 

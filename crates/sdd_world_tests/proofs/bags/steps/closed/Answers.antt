@@ -1,7 +1,7 @@
 use Rattle.std.proofs.Common.{rules}
 use Rattle.sdd_lists.specs.Stack.{cell_in}
 use Rattle.sdd_bag.specs.Bag.{overflow_of, values_of}
-use Rattle.sdd_bag.proofs.Nothing.{nothing-beside, nothing-of}
+use Rattle.sdd_bag.proofs.EmptyHoldings.{nothing-beside, nothing-of}
 use Rattle.sdd_world_tests.proofs.bags.steps.closed.Goals as goal
 
 pub close-requires : goal.close-requires
@@ -19,7 +19,7 @@ close-requires g c =
               (
                 c.requires.there.lies,
                 (
-                  nothing-of holds c.requires.nothing (g.S.Caller.seat c.args.s.now).home (values_of bag),
+                  nothing-of holds c.requires.nothing (g.S.Caller.caller c.args.s.now).home (values_of bag),
                   λ es lies. nothing-beside holds c.requires.nothing w (cell_in bag.overflow.stack) es (overflow_of bag),
                 ),
               ),

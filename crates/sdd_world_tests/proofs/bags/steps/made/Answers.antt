@@ -7,6 +7,6 @@ pub returns-clause-there : goal.returns-clause-there
 returns-clause-there g c =
     let home = rw c.expect.ensures at c.new.ensures.home in
     record {
-      home = subst (λ (s : CallerId). IsOfCells s.home.cells c.expect.result) (sym c.new.ensures.unmoved.seat) home;
+      home = subst (λ (s : CallerId). IsOfCells s.home.cells c.expect.result) (sym c.new.ensures.unmoved.caller) home;
       lies = rw c.expect.ensures at (c.new.ensures.bag c.requires.may.exact);
     }

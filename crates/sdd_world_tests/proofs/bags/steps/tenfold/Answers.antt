@@ -7,7 +7,7 @@ use Rattle.sdd_bag.specs.Storages.{StorageName}
 use Rattle.sdd_lists.specs.declared.stack.Stack.{Stack}
 use Rattle.sdd_lists.specs.Stack.{home_in}
 use Rattle.sdd_bag.specs.IterMut.{Ends, Lends, given, whole}
-use Rattle.sdd_bag.proofs.Numbers.{set-long}
+use Rattle.sdd_bag.proofs.ValuesByNumber.{set-long}
 use Rattle.sdd_world_tests.proofs.bags.steps.tenfold.Goals as goal
 
 pub loop-number-init : goal.loop-number-init
@@ -27,7 +27,7 @@ next-requires g c = (search rules, c.loop-number.invariant.cursor)
 pub loop-number-smaller : goal.loop-number-smaller
 loop-number-smaller g c =
     let old = c.loop-number.cursor in let w = c.in-Some.number.now * 10 % 18446744073709551616 in let new = c.next.follows.lender w in
-    let lent = subst (λ (r : Option (MutBor ℕ)). IfSome r (λ v. Lends g.B.Shelf.shown g.S.Caller.seat g.S.Caller.world v.now w old new)) c.in-Some.is
+    let lent = subst (λ (r : Option (MutBor ℕ)). IfSome r (λ v. Lends g.B.Shelf.shown g.S.Caller.caller g.S.Caller.world v.now w old new)) c.in-Some.is
     (c.next.follows.holds w) in
     let was = slice_get_within (values_of (whole old)) (given old) c.in-Some.number.now lent.was in
     omega (arith, was, lent.one_more, ap length lent.values, set-long (values_of (whole old)) (given old) w)
@@ -36,7 +36,7 @@ pub loop-number-preserved : goal.loop-number-preserved
 loop-number-preserved g c =
     let old = c.loop-number.cursor in let w = c.in-Some.number.now * 10 % 18446744073709551616 in let new = c.next.follows.lender w in
     let inv = c.loop-number.invariant in
-    let lent = subst (λ (r : Option (MutBor ℕ)). IfSome r (λ v. Lends g.B.Shelf.shown g.S.Caller.seat g.S.Caller.world v.now w old new)) c.in-Some.is
+    let lent = subst (λ (r : Option (MutBor ℕ)). IfSome r (λ v. Lends g.B.Shelf.shown g.S.Caller.caller g.S.Caller.world v.now w old new)) c.in-Some.is
     (c.next.follows.holds w) in
     let was = slice_get_within (values_of (whole old)) (given old) c.in-Some.number.now lent.was in
     record {
@@ -49,10 +49,10 @@ loop-number-preserved g c =
 
 pub returns : goal.returns
 returns g c =
-    let Bag : Type 0 = BagParts ℕ g.row.B.Denot in let shown = g.B.Shelf.shown in let seat = g.S.Caller.seat in let world = g.S.Caller.world in
+    let Bag : Type 0 = BagParts ℕ g.row.B.Denot in let shown = g.B.Shelf.shown in let caller = g.S.Caller.caller in let world = g.S.Caller.world in
     let old = c.loop-number.cursor in let new = c.next.follows.lender-at-none in let inv = c.loop-number.invariant in let begun = c.in-Ok.ensures.bag in
-    let there = c.requires.there in let home = (seat c.args.s.now).home.cells in
-    let ends = subst (λ (r : Option (MutBor ℕ)). MatchOption r (Ends shown seat world old new) (λ v. Unit {0})) c.in_default.is
+    let there = c.requires.there in let home = (caller c.args.s.now).home.cells in
+    let ends = subst (λ (r : Option (MutBor ℕ)). MatchOption r (Ends shown caller world old new) (λ v. Unit {0})) c.in_default.is
     c.next.follows.holds-at-none in
     let last = c.bag-2-1.given in
     let left : last.0 ≡ whole old =

@@ -6,7 +6,7 @@ use Rattle.sdd_world_tests.proofs.bags.steps.tenfold.Given as goal
 -- the cursor goes over the same bag, in the same space
 abbrev pub invariant-loop-number : goal.invariant-loop-number
 invariant-loop-number g l = record {
-  cursor : IsCursor g.B.Shelf.shown g.S.Caller.seat g.S.Caller.world l.cursor;
+  cursor : IsCursor g.B.Shelf.shown g.S.Caller.caller g.S.Caller.world l.cursor;
   name : bag_name l.cursor ≡ bag_name l.initial.cursor;
   space : space_in l.cursor ≡ l.initial.s;
   cells : HasSameCells (whole l.initial.cursor) (whole l.cursor);

@@ -4,8 +4,8 @@ use Rattle.sdd_world_tests.proofs.lists.rounds.sum_walked.Given as goal
 
 abbrev pub invariant-loop-value : goal.invariant-loop-value
 invariant-loop-value g l = record {
-  seat : g.S.Caller.seat l.s ≡ g.S.Caller.seat l.fn.s;
-  walk : IsWalkOf (g.S.Caller.seat l.fn.s).home.cells l.walk;
+  caller : g.S.Caller.caller l.s ≡ g.S.Caller.caller l.fn.s;
+  walk : IsWalkOf (g.S.Caller.caller l.fn.s).home.cells l.walk;
 }
 
 abbrev pub decreases-loop-value : goal.decreases-loop-value

@@ -2,4 +2,4 @@ use Rattle.std.proofs.Common.{◌≡◌}
 use Rattle.sdd_world_tests.proofs.lists.rounds.walks.Given as goal
 
 abbrev pub invariant-loop-turn : goal.invariant-loop-turn
-invariant-loop-turn g l = g.S.Caller.seat l.s ≡ g.S.Caller.seat l.fn.s
+invariant-loop-turn g l = g.S.Caller.caller l.s ≡ g.S.Caller.caller l.fn.s

@@ -12,7 +12,7 @@ returns-clause-done g c =
     let made = all-behind _ (λ f made number next then called. search rules) _ room numbers all folds
     (drained-room room numbers (values_of c.args.self.bag) order none few) in (
       did.bag,
-      takes-all (g.S.Caller.world c.args.s.now) (g.S.Caller.world c.pop_all-numbers.new.s) (g.S.Caller.seat c.args.s.now).place c.args.self.bag
+      takes-all (g.S.Caller.world c.args.s.now) (g.S.Caller.world c.pop_all-numbers.new.s) (g.S.Caller.caller c.args.s.now).place c.args.self.bag
           c.pop_all-numbers.new.self did.cells is did.bag all.items did.empty
           (drained-order room all numbers (values_of c.args.self.bag) order made none) did.list,
     )

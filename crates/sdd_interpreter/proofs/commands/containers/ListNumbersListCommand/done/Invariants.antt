@@ -4,9 +4,9 @@ use Rattle.sdd_interpreter.proofs.commands.containers.ListNumbersListCommand.don
 -- the numbers so far are those that were shown, and the walk shows the others
 abbrev pub invariant-loop-body : goal.invariant-loop-body
 invariant-loop-body g l = record {
-  seat : g.S.Caller.seat l.s ≡ g.S.Caller.seat l.fn.s;
+  caller : g.S.Caller.caller l.s ≡ g.S.Caller.caller l.fn.s;
   world : g.S.Caller.world l.s ≡ g.S.Caller.world l.fn.s;
-  walk : IsWalkOf (g.S.Caller.seat l.fn.s).home.cells l.walk;
+  walk : IsWalkOf (g.S.Caller.caller l.fn.s).home.cells l.walk;
   shown : (es : List (Entry Val)) (second : Option ℕ) → HasEntries (g.S.Caller.world l.fn.s) l.fn.self.list es second →
       (vs : List Body) × ShowsInOrder (g.S.Caller.world l.s) l.walk vs × (shown_of es ≡ map Number l.numbers ++ vs);
 }

@@ -1,11 +1,11 @@
 use Rattle.sdd_interpreter.proofs.Words.{ℕ, Option, sym, subst, ◌∙◌, CallerId, IsExact, HasNumber, Val}
-use Rattle.sdd_interpreter.proofs.Shown.{first-number, points-left}
+use Rattle.sdd_interpreter.proofs.ShownEntries.{first-number, points-left}
 use Rattle.sdd_interpreter.proofs.commands.containers.PeekFirstListCommand.done.Goals as goal
 
 pub unreachable-requires : goal.unreachable-requires
 unreachable-requires g c =
-    let exact : IsExact (g.S.Caller.seat c.peek-first.new.s) =
-    subst (λ (s : CallerId). IsExact s) (sym c.peek-first.ensures.undisturbed.seat) c.requires.exact in
+    let exact : IsExact (g.S.Caller.caller c.peek-first.new.s) =
+    subst (λ (s : CallerId). IsExact s) (sym c.peek-first.ensures.undisturbed.caller) c.requires.exact in
     let value = λ (k : ℕ) (v : Val). (g.met.S.Caller.shows_is_value c.peek-first.new.s exact k v).0 in
     let es = c.requires.asked.2.0 in
     let second = c.requires.asked.2.1 in
@@ -16,8 +16,8 @@ unreachable-requires g c =
 
 pub returns-in-Some-number_of-clause-done : goal.returns-in-Some-number_of-clause-done
 returns-in-Some-number_of-clause-done g c =
-    let exact : IsExact (g.S.Caller.seat c.peek-first.new.s) =
-    subst (λ (s : CallerId). IsExact s) (sym c.peek-first.ensures.undisturbed.seat) c.requires.exact in
+    let exact : IsExact (g.S.Caller.caller c.peek-first.new.s) =
+    subst (λ (s : CallerId). IsExact s) (sym c.peek-first.ensures.undisturbed.caller) c.requires.exact in
     let value = λ (k : ℕ) (v : Val). (g.met.S.Caller.shows_is_value c.peek-first.new.s exact k v).0 in (
       c.peek-first.ensures.world c.requires.exact,
       (λ es second list.
@@ -28,8 +28,8 @@ returns-in-Some-number_of-clause-done g c =
 
 pub returns-in-None-clause-done : goal.returns-in-None-clause-done
 returns-in-None-clause-done g c =
-    let exact : IsExact (g.S.Caller.seat c.peek-first.new.s) =
-    subst (λ (s : CallerId). IsExact s) (sym c.peek-first.ensures.undisturbed.seat) c.requires.exact in
+    let exact : IsExact (g.S.Caller.caller c.peek-first.new.s) =
+    subst (λ (s : CallerId). IsExact s) (sym c.peek-first.ensures.undisturbed.caller) c.requires.exact in
     let value = λ (k : ℕ) (v : Val). (g.met.S.Caller.shows_is_value c.peek-first.new.s exact k v).0 in (
       c.peek-first.ensures.world c.requires.exact,
       (λ es second list.

@@ -1,5 +1,5 @@
 use Rattle.sdd_interpreter.proofs.Words.{◌++◌, [], ◌∷◌, ℕ, List, refl, sym, ap, ◌∙◌, subst, rules, CallerId, IsExact, SpaceId, World, entry_at, AreLinked, entry_slots, Val, link_of, names-some, shows-it}
-use Rattle.sdd_interpreter.proofs.Copied.{link-at-home, next-slot, none-left}
+use Rattle.sdd_interpreter.proofs.Copies.{link-at-home, next-slot, none-left}
 use Rattle.sdd_interpreter.proofs.commands.copies.ListSlotsListCommand.done.Goals as goal
 
 pub load-next-requires-clause-home : goal.load-next-requires-clause-home
@@ -8,17 +8,17 @@ load-next-requires-clause-home g c =
     let shows = shows-it (g.S.Shows.shows c.loop.s) c.loop.next v (names-some c.loop.next (c.in-Some-as_ref.ensures.null.0 refl))
     (sym c.in-Some-as_ref.ensures.shown) c.loop.invariant.shown in
     c.link_ref.ensures.home ∙ link-at-home (g.S.Shows.home c.loop.s) v (c.shown_is_of_home.ensures _ v shows)
-    ∙ ap (λ (h : SpaceId). h.cells) (g.met.S.Caller.home_is_seat c.loop.s)
+    ∙ ap (λ (h : SpaceId). h.cells) (g.met.S.Caller.home_is_caller c.loop.s)
 
 pub loop-preserved : goal.loop-preserved
 loop-preserved g c =
     let inv = c.loop.invariant in
-    let exact : IsExact (g.S.Caller.seat c.loop.s) = subst (λ (s : CallerId). IsExact s) (sym inv.seat) c.requires.exact in
+    let exact : IsExact (g.S.Caller.caller c.loop.s) = subst (λ (s : CallerId). IsExact s) (sym inv.caller) c.requires.exact in
     let loaded = c.load-next.ensures.exact exact in
     let named = sym c.slot_of_ptr.ensures ∙ c.in-Some.is in
     let pushed = c.push_reserved.ensures.items ∙ ap (λ (k : ℕ). c.loop.slots.items ++ k ∷ []) c.number.ensures in
     record {
-      seat = c.load-next.ensures.undisturbed.seat ∙ inv.seat;
+      caller = c.load-next.ensures.undisturbed.caller ∙ inv.caller;
       world = loaded.1 ∙ inv.world;
       shown = c.load-next.ensures.shown;
       room = search rules;

@@ -4,7 +4,7 @@ use Rattle.sdd_interpreter.proofs.commands.copies.ListSlotsListCommand.done.Give
 -- the slots so far are those of the first entries, and the pointer is to the next
 abbrev pub invariant-loop : goal.invariant-loop
 invariant-loop g l = record {
-  seat : g.S.Caller.seat l.s ≡ g.S.Caller.seat l.fn.s;
+  caller : g.S.Caller.caller l.s ≡ g.S.Caller.caller l.fn.s;
   world : g.S.Caller.world l.s ≡ g.S.Caller.world l.fn.s;
   shown : PtrIsShown (g.S.Shows.shows l.s) l.next;
   room : l.most ≤ vec_capacity l.slots;

@@ -1,7 +1,7 @@
 use Rattle.sdd_interpreter.proofs.Words.{refl}
 use Rattle.sdd_space.specs.Owned as owned
 use Rattle.sdd_space.specs.Shared as shared
-use Rattle.sdd_interpreter.proofs.Out.{sole-out, sole-slot, share-out, share-slot}
+use Rattle.sdd_interpreter.proofs.CellOwners.{sole-out, sole-slot, share-out, share-slot}
 use Rattle.sdd_interpreter.proofs.commands.exchanges.SwapInCellCommand.done.Goals as goal
 
 pub returns-in-Sole-Sole-clause-done : goal.returns-in-Sole-Sole-clause-done

@@ -1,6 +1,6 @@
 use Rattle.sdd_space.specs.Owned as owned
 use Rattle.sdd_space.specs.Shared as shared
-use Rattle.sdd_interpreter.proofs.Out.{sole-out, share-out}
+use Rattle.sdd_interpreter.proofs.CellOwners.{sole-out, share-out}
 use Rattle.sdd_interpreter.proofs.commands.exchanges.TakeOutCellCommand.done.Goals as goal
 
 pub returns-in-Sole-clause-done : goal.returns-in-Sole-clause-done

@@ -1,16 +1,16 @@
 use Rattle.sdd_interpreter.proofs.Words.{refl, ap, ◌∙◌, CallerId, link_of}
-use Rattle.sdd_space.specs.OwnerOrCell as holding
+use Rattle.sdd_world_model.specs.OwnerOrCell as holding
 use Rattle.sdd_space.specs.Owned as owned
 use Rattle.sdd_space.specs.Shared as shared
 use Rattle.sdd_interpreter.proofs.commands.items.MakeItemItemCommand.done.Goals as goal
 
 pub returns-in-Ok-new-clause-done : goal.returns-in-Ok-new-clause-done
 returns-in-Ok-new-clause-done g c =
-    let seat = c.new.ensures.undisturbed.seat in
+    let caller = c.new.ensures.undisturbed.caller in
     let entry = c.in-Ok.ensures.exact c.requires.exact in
-    let made = rw entry.1 at (c.in-Ok-new.ensures.exact (rw seat c.requires.exact)) in
+    let made = rw entry.1 at (c.in-Ok-new.ensures.exact (rw caller c.requires.exact)) in
     let k = owned.slot_of c.in-Ok-new.owner in
-    let home = c.in-Ok-new.ensures.home ∙ ap (λ (s : CallerId). s.home.slots) seat in
+    let home = c.in-Ok-new.ensures.home ∙ ap (λ (s : CallerId). s.home.slots) caller in
     rw c.in-Sole.is (
       k,
       link_of c.in-Ok.value,
@@ -26,11 +26,11 @@ returns-in-Ok-new-clause-done g c =
 
 pub returns-in-Ok-new-2-clause-done : goal.returns-in-Ok-new-2-clause-done
 returns-in-Ok-new-2-clause-done g c =
-    let seat = c.new.ensures.undisturbed.seat in
+    let caller = c.new.ensures.undisturbed.caller in
     let entry = c.in-Ok.ensures.exact c.requires.exact in
-    let made = rw entry.1 at (c.in-Ok-new-2.ensures.exact (rw seat c.requires.exact)) in
+    let made = rw entry.1 at (c.in-Ok-new-2.ensures.exact (rw caller c.requires.exact)) in
     let k = shared.slot_of c.in-Ok-new-2.owner in
-    let home = c.in-Ok-new-2.ensures.home ∙ ap (λ (s : CallerId). s.home.slots) seat in
+    let home = c.in-Ok-new-2.ensures.home ∙ ap (λ (s : CallerId). s.home.slots) caller in
     rw c.in-Shared.is (
       k,
       link_of c.in-Ok.value,

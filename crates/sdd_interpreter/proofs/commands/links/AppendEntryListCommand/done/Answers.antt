@@ -1,5 +1,5 @@
 use Rattle.sdd_interpreter.proofs.Words.{◌≡◌, Option, Some, sym, ap, ◌∙◌, first_slot, held_in, Val, link_of, linked_in, mark_tag}
-use Rattle.sdd_space.specs.OwnerOrCell as holding
+use Rattle.sdd_world_model.specs.OwnerOrCell as holding
 use Rattle.sdd_rights.specs.Right.{number_of, home_of}
 use Rattle.sdd_rights.specs.declared.right.Right.{Right}
 use Rattle.sdd_space.specs.Shared.{slot_of}

@@ -1,5 +1,5 @@
 use Rattle.sdd_interpreter.proofs.Words.{ℕ, ◌≡◌}
-use Rattle.sdd_interpreter.proofs.Asked.{queue-pops-if, stack-pops-if}
+use Rattle.sdd_interpreter.proofs.AskedEntries.{queue-pops-if, stack-pops-if}
 use Rattle.sdd_interpreter.proofs.commands.pops.PopFirstIfListCommand.done.Goals as goal
 
 pub returns-in-Queue-clause-done : goal.returns-in-Queue-clause-done

@@ -1,4 +1,4 @@
-use Rattle.sdd_interpreter.proofs.Popped.{pops-newest, pops-oldest}
+use Rattle.sdd_interpreter.proofs.PopAnswers.{pops-newest, pops-oldest}
 use Rattle.sdd_interpreter.proofs.commands.pops.PopFirstListCommand.done.Goals as goal
 
 pub returns-in-Queue-clause-done : goal.returns-in-Queue-clause-done

@@ -1,6 +1,6 @@
 use Rattle.sdd_interpreter.proofs.Words.{Option, Some, sym, subst, Err, Refused, PushesIf, AnyList}
 use Rattle.sdd_interpreter.specs.declared.holding.AnyList.TheVariants as any
-use Rattle.sdd_interpreter.proofs.Asked.{push-held, pushes-not}
+use Rattle.sdd_interpreter.proofs.AskedEntries.{push-held, pushes-not}
 use Rattle.sdd_interpreter.proofs.commands.pushes.PushNumberIfListCommand.done.Goals as goal
 
 pub returns-in-Ok-clause-done : goal.returns-in-Ok-clause-done
@@ -32,9 +32,9 @@ returns-in-Err-clause-done g c es second list =
     let newest = c.args.self.newest in
     let w = g.S.Caller.world c.args.s.now in
     let new = g.S.Caller.world c.push_if.new.s in
-    let seat = g.S.Caller.seat c.args.s.now in
-    let did = pushes-not seat.home.slots w new seat.place c.in-Queue.queue es second number newest c.in-Err.back.1 refused.0 refused.1 _ asked.1
+    let caller = g.S.Caller.caller c.args.s.now in
+    let did = pushes-not caller.home.slots w new caller.place c.in-Queue.queue es second number newest c.in-Err.back.1 refused.0 refused.1 _ asked.1
     asked.2.1.1.0 in
-    subst (λ (x : AnyList). PushesIf seat.home.slots w seat.place x es second number (Some newest) (Err c.refusal_of.result) new) (sym c.in-Queue.is)
-    (subst (λ (why : Option Refused). PushesIf seat.home.slots w seat.place (any.Queue c.in-Queue.queue) es second number (Some newest) (Err why) new)
+    subst (λ (x : AnyList). PushesIf caller.home.slots w caller.place x es second number (Some newest) (Err c.refusal_of.result) new) (sym c.in-Queue.is)
+    (subst (λ (why : Option Refused). PushesIf caller.home.slots w caller.place (any.Queue c.in-Queue.queue) es second number (Some newest) (Err why) new)
     (sym c.refusal_of.ensures) did)

@@ -1,4 +1,4 @@
-use Rattle.sdd_interpreter.proofs.Asked.{wants-entry}
+use Rattle.sdd_interpreter.proofs.AskedEntries.{wants-entry}
 use Rattle.sdd_interpreter.proofs.commands.pushes.PushNumberListCommand.done.Goals as goal
 
 pub returns-in-Ok-clause-done : goal.returns-in-Ok-clause-done

@@ -1,7 +1,7 @@
 use Rattle.sdd_interpreter.proofs.Words.{Renumbers, Some, ap, inl, inr, refl, ℕ, ◌∙◌}
 use Rattle.sdd_participants.specs.declared.standing.Standing.TheVariants as standing
 use Rattle.sdd_space.specs.Owned as owned
-use Rattle.sdd_space.specs.OwnerOrCell as holding
+use Rattle.sdd_world_model.specs.OwnerOrCell as holding
 use Rattle.sdd_space.specs.Shared as shared
 use Rattle.sdd_interpreter.proofs.commands.raw.PutNumberInPlaceCommand.done.Goals as goal
 

@@ -1,7 +1,7 @@
 use Rattle.std.proofs.Common.{◌≡◌, ◌+◌, ◌*◌, ◌<◌, List, length, refl, sym, ap, subst, ◌∙◌, arith}
 use Rattle.sdd_machine.specs.Bags.{ThreeBags, BagsOfPlaces, joined, trios_of, AreTrios}
 use Rattle.sdd_machine.specs.Chains.{ChainedBags}
-use Rattle.sdd_machine.proofs.Trios.{moved, taken_in, taken_trios_in, trios_moved}
+use Rattle.sdd_machine.proofs.ThreeBags.{moved, taken_in, taken_trios_in, trios_moved}
 use Rattle.sdd_machine.proofs.machine.bags.Bags.join.Goals as goal
 
 pub invariant_of-self : goal.invariant_of-self

@@ -3,7 +3,7 @@ use Rattle.std.specs.FinSet as set
 use Rattle.sdd_machine.specs.Table.{Items}
 use Rattle.sdd_machine.specs.Bags.{ThreeBags, no_items, trios_of, AreTrios}
 use Rattle.sdd_machine.specs.Chains.{ChainedBags}
-use Rattle.sdd_machine.proofs.Trios.{new_trios}
+use Rattle.sdd_machine.proofs.ThreeBags.{new_trios}
 use Rattle.std.proofs.lemmas.List.{length-replicate}
 use Rattle.sdd_machine.proofs.machine.bags.Bags.new.Goals as goal
 

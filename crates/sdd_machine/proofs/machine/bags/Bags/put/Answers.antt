@@ -2,7 +2,7 @@ use Rattle.std.proofs.Common.{◌+◌, ◌*◌, ◌<◌, List, length, sym, ap, 
 use Rattle.std.specs.FinSet as set
 use Rattle.sdd_machine.specs.Bags.{ThreeBags, BagsOfPlaces, trio_at, has, put, trios_of, AreTrios}
 use Rattle.sdd_machine.specs.Chains.{ChainedBags, bag_at}
-use Rattle.sdd_machine.proofs.Trios.{put_trios, trios_set, in_no_bag}
+use Rattle.sdd_machine.proofs.ThreeBags.{put_trios, trios_set, in_no_bag}
 use Rattle.sdd_machine.proofs.machine.bags.Bags.put.Goals as goal
 
 pub put-requires-clause-nowhere : goal.put-requires-clause-nowhere

@@ -2,7 +2,7 @@ use Rattle.std.proofs.Common.{◌≡◌, ◌+◌, ◌*◌, ◌<◌, List, length
 use Rattle.std.specs.FinSet as set
 use Rattle.sdd_machine.specs.Bags.{ThreeBags, BagsOfPlaces, trio_at, rotated, trios_of, AreTrios}
 use Rattle.sdd_machine.specs.Chains.{ChainedBags}
-use Rattle.sdd_machine.proofs.Trios.{moved, turned, turned_trios, taken_trios, trios_set, trios_moved}
+use Rattle.sdd_machine.proofs.ThreeBags.{moved, turned, turned_trios, taken_trios, trios_set, trios_moved}
 use Rattle.sdd_machine.proofs.machine.bags.Bags.rotate.Goals as goal
 
 pub invariant_of-self : goal.invariant_of-self

@@ -4,7 +4,7 @@ use Rattle.std.specs.FinSet as set
 use Rattle.sdd_machine.specs.declared.machine.chains.Chain.{Chain}
 use Rattle.sdd_machine.specs.Table.{Items}
 use Rattle.sdd_machine.specs.Chains.{ChainedBags, no_chain, bag_at}
-use Rattle.sdd_machine.proofs.Relinks.{within_chains, emptied, bags-set, len-bag}
+use Rattle.sdd_machine.proofs.SharedLinks.{within_chains, emptied, bags-set, len-bag}
 use Rattle.sdd_machine.proofs.machine.chains.Chains.clear.Goals as goal
 
 pub invariant_of-self : goal.invariant_of-self

@@ -3,7 +3,7 @@ use Rattle.std.proofs.lemmas.List.{get_or_read, with_items_is}
 use Rattle.sdd_machine.specs.declared.machine.chains.Chain.{Chain}
 use Rattle.sdd_machine.specs.Table.{Items}
 use Rattle.sdd_machine.specs.Chains.{ChainedBags, items_of, occ, no_chain, bag_of, moved_into, AreChains}
-use Rattle.sdd_machine.proofs.Relinks.{within_chains, both_once, joins_of, join_chains, join_bags}
+use Rattle.sdd_machine.proofs.SharedLinks.{within_chains, both_once, joins_of, join_chains, join_bags}
 use Rattle.sdd_machine.proofs.machine.chains.Chains.join.Goals as goal
 
 pub joined-requires-clause-once : goal.joined-requires-clause-once

@@ -4,7 +4,7 @@ use Rattle.std.specs.FinSet as set
 use Rattle.sdd_machine.specs.declared.machine.chains.Chain.{Chain}
 use Rattle.sdd_machine.specs.Table.{Items}
 use Rattle.sdd_machine.specs.Chains.{bag_of, AreChains}
-use Rattle.sdd_machine.proofs.Relinks.{new_chains, new_bags}
+use Rattle.sdd_machine.proofs.SharedLinks.{new_chains, new_bags}
 use Rattle.sdd_machine.proofs.machine.chains.Chains.new.Goals as goal
 
 pub invariant_of-result : goal.invariant_of-result

@@ -4,7 +4,7 @@ use Rattle.std.specs.FinSet as set
 use Rattle.sdd_machine.specs.declared.machine.chains.Chain.{Chain}
 use Rattle.sdd_machine.specs.Table.{Items}
 use Rattle.sdd_machine.specs.Chains.{ChainedBags, items_of, occ, no_chain, all_items, bag_of, bag_at, AreChains}
-use Rattle.sdd_machine.proofs.Relinks.{within_chains, nowhere, put_once, put_chains, put_bags}
+use Rattle.sdd_machine.proofs.SharedLinks.{within_chains, nowhere, put_once, put_chains, put_bags}
 use Rattle.sdd_machine.proofs.machine.chains.Chains.put.Goals as goal
 
 pub joined-requires-clause-once : goal.joined-requires-clause-once

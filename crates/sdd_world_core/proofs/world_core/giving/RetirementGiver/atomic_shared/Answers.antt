@@ -1,6 +1,6 @@
 use Rattle.std.proofs.Common.{ℕ}
 use Rattle.sdd_space.specs.Shared.{cell_of}
-use Rattle.sdd_space.proofs.Own.{gives-grows, Gives-cell_closed}
+use Rattle.sdd_world_model.proofs.ParticipantChanges.{gives-grows, Gives-cell_closed}
 use Rattle.sdd_world_core.proofs.world_core.giving.RetirementGiver.atomic_shared.Goals as goal
 
 pub returns-clause-own : goal.returns-clause-own

@@ -1,6 +1,6 @@
 use Rattle.std.proofs.Common.{ℕ, refl}
 use Rattle.sdd_space.specs.Owned.{slot_of}
-use Rattle.sdd_space.proofs.Own.{gives-grows, Gives-owner_given}
+use Rattle.sdd_world_model.proofs.ParticipantChanges.{gives-grows, Gives-owner_given}
 use Rattle.sdd_world_core.proofs.world_core.giving.RetirementGiver.owned.Goals as goal
 
 pub returns-clause-own : goal.returns-clause-own

@@ -8,7 +8,7 @@ pushed-requires g c =
     let inv = c.loop.invariant in (
       search rules,
       (
-        subst (λ (s : CallerId). MayCall s) (sym inv.seat) c.requires.may,
-        (inv.there, c.requires.reader ∙ ap (λ (s : CallerId). s.reader) (sym inv.seat)),
+        subst (λ (s : CallerId). MayCall s) (sym inv.caller) c.requires.may,
+        (inv.there, c.requires.reader ∙ ap (λ (s : CallerId). s.reader) (sym inv.caller)),
       ),
     )

@@ -4,6 +4,6 @@ use Rattle.sdd_world_tests.proofs.bags.counted.Factory.fill.Given as goal
 
 abbrev pub invariant-loop : goal.invariant-loop
 invariant-loop g l = record {
-  seat : g.S.Caller.seat l.s ≡ g.S.Caller.seat l.initial.s;
-  there : IsThere (λ b. Some b) 2 (g.S.Caller.seat l.s) (g.S.Caller.world l.s) l.bag;
+  caller : g.S.Caller.caller l.s ≡ g.S.Caller.caller l.initial.s;
+  there : IsThere (λ b. Some b) 2 (g.S.Caller.caller l.s) (g.S.Caller.world l.s) l.bag;
 }

@@ -1,5 +1,0 @@
-use Rattle.sdd_domain_invariant.proofs.Tokens.{parts_counts}
-use Rattle.sdd_atomics.proofs.steps.counts.cut_counts.Goals as goal
-
-pub part-requires : goal.part-requires
-part-requires c = let r = c.requires in (r.home, parts_counts _ _ _ _ r.over)

@@ -1,9 +1,0 @@
-use Rattle.sdd_shared_values.specs.Bank.{Leaves}
-use Rattle.sdd_atomics.specs.DomainTable.{book_of, sizes_of}
-use Rattle.sdd_atomics.proofs.Allowed.{as_banked}
-use Rattle.sdd_atomics.proofs.EmptyingAllowed.{may_take_private}
-use Rattle.sdd_atomics.proofs.steps.emptying.take_private.Goals as goal
-
-pub draw-requires-clause-allowed : goal.draw-requires-clause-allowed
-draw-requires-clause-allowed c = let r = c.requires in let b = c.args.board.now in
-    as_banked b Leaves _ _ _ _ _ _ (may_take_private (book_of b) (sizes_of b) _ _ _ r.knows.0 r.knows.1 r.place c.args.slot r.inside _ r.rests r.empties)

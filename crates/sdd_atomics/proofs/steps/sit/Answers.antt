@@ -1,6 +1,0 @@
-use Rattle.std.proofs.Common.{arith}
-use Rattle.sdd_atomics.proofs.Allowed.{may_sit}
-use Rattle.sdd_atomics.proofs.steps.sit.Goals as goal
-
-pub load_new_seat-requires : goal.load_new_seat-requires
-load_new_seat-requires c = let sized = c.args.board.now.sized in (omega arith, may_sit _ _ _ 0)

@@ -1,6 +1,0 @@
-use Rattle.std.proofs.Common.{◌≡◌, false, All, take}
-use Rattle.sdd_domain_slots.specs.Receipt.{Receipt}
-use Rattle.sdd_domain.proofs.closing.are_over.Given as goal
-
-abbrev pub invariant-loop-receipt : goal.invariant-loop-receipt
-invariant-loop-receipt g l = All (λ (r : Receipt). r.waits ≡ false) (take l.receipt-index l.receipts.items)

@@ -1,0 +1,12 @@
+pub mod Domain
+pub mod ScanAtClose
+pub mod Collectors
+pub mod DetachedLocal
+pub mod Sound
+pub mod Space
+pub mod Reclaiming
+pub mod Noted
+pub mod OpeningTally
+pub mod Laws
+pub mod ReceiptContents
+pub mod Draining

@@ -1,0 +1,3 @@
+-- Places of jobs, after each step on one
+pub mod DeferredJobs
+pub mod JobSteps

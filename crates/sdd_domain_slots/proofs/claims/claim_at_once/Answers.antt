@@ -1,9 +1,0 @@
-use Rattle.std.proofs.Common.{ap, arith}
-use Rattle.sdd_rights.specs.declared.views.Sizes.{Sizes}
-use Rattle.sdd_domain_slots.proofs.Moving.{tried_at_once}
-use Rattle.sdd_domain_slots.proofs.claims.claim_at_once.Goals as goal
-
-pub returns : goal.returns
-returns c =
-    tried_at_once c.args.word c.args.slot c.args.token.now c.claim.new.token c.claim.result c.claim.ensures
-    (let e = ap (λ (z : Sizes). z.slots) c.requires.knows.0 in let h = c.requires.inside in omega arith)

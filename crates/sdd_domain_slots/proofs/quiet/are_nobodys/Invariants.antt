@@ -1,5 +1,0 @@
-use Rattle.sdd_domain_slots.specs.Sightings.{KeepsMarks}
-use Rattle.sdd_domain_slots.proofs.quiet.are_nobodys.Given as goal
-
-abbrev pub invariant-loop-place : goal.invariant-loop-place
-invariant-loop-place l = KeepsMarks l.fn.seen.taken l.seen.taken

@@ -1,5 +1,0 @@
-use Rattle.sdd_domain_slots.specs.Sightings.{KeepsMarks}
-use Rattle.sdd_domain_slots.proofs.quiet.seem_free.Given as goal
-
-abbrev pub invariant-loop-slot : goal.invariant-loop-slot
-invariant-loop-slot l = KeepsMarks l.fn.seen.taken l.seen.taken

@@ -1,6 +1,0 @@
-use Rattle.std.proofs.Common.{sym, subst}
-use Rattle.sdd_domain_invariant.specs.Records.{IsIn}
-use Rattle.sdd_domain_slots.proofs.raw_values.put_out.Goals as goal
-
-pub enter_unit-requires-clause-told : goal.enter_unit-requires-clause-told
-enter_unit-requires-clause-told c = subst (IsIn c.args.token.now.me.0.stakes.owns c.args.slot) (sym c.unit_of-unit.ensures.shown) c.requires.shows

@@ -1,4 +1,0 @@
-use Rattle.sdd_domain_tests.proofs.places.+fill_places.Given as goal
-
-abbrev pub decreases-fill_places : goal.decreases-fill_places
-decreases-fill_places g l = l.places

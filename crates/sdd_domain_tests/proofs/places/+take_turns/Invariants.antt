@@ -1,4 +1,0 @@
-use Rattle.sdd_domain_tests.proofs.places.+take_turns.Given as goal
-
-abbrev pub decreases-take_turns : goal.decreases-take_turns
-decreases-take_turns g l = l.places

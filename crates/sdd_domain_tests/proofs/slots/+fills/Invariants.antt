@@ -1,4 +1,0 @@
-use Rattle.sdd_domain_tests.proofs.slots.+fills.Given as goal
-
-abbrev pub decreases-fills : goal.decreases-fills
-decreases-fills g l = l.items

@@ -1,0 +1,9 @@
+use Rattle.std.specs.Prelude.{◌≡◌}
+use Rattle.sdd_space.specs.Collector.{cells_home}
+use Rattle.sdd_domain_tests.proofs.threads.collector_crowd_calls.closes.Given as goal
+
+abbrev pub invariant-loop : goal.invariant-loop
+invariant-loop g l = let caller_at = g.S.Caller.caller in record {
+  caller : caller_at l.s ≡ caller_at l.fn.s;
+  home : cells_home l.kept ≡ (caller_at l.fn.s).home.cells;
+}

@@ -1,0 +1,6 @@
+use Rattle.std.specs.Prelude.{◌≡◌}
+use Rattle.sdd_domain.specs.Space.{caller_of}
+use Rattle.sdd_domain_tests.proofs.worked.domains.shows.Given as goal
+
+abbrev pub invariant-loop-epoch : goal.invariant-loop-epoch
+invariant-loop-epoch g l = caller_of l.local ≡ caller_of l.fn.local

@@ -1,8 +1,0 @@
-use Rattle.sdd_script.proofs.Words.{desk_of, IsSound, KeepsTold}
-use Rattle.sdd_script.proofs.Ending.{Spends}
-use Rattle.sdd_script.proofs.commands.leaving.spend_collectors.Given as goal
-
-abbrev pub invariant-loop-collector : goal.invariant-loop-collector
-invariant-loop-collector l =
-    Spends (λ old new. IsSound (desk_of new) × KeepsTold old.world new.world) (λ h. h.collectors.entries.items)
-    (λ old new. record old { world = new.world; collectors = new.collectors }) l.initial.hand l.hand l.collector
