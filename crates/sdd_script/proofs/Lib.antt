@@ -1,5 +1,6 @@
 pub mod Words
 pub mod ScheduleLines
+pub mod ScheduleTexts
 pub mod ScheduleTaken
 pub mod ItemActs
 pub mod MadeItems

@@ -27,11 +27,13 @@ at-requires-clause-asked c =
     let its = queue-entries h c.interpreter.invariant c.args.queue.0 _ mine in (
       queue-home h c.args.queue.0 _ mine c.interpreter.invariant,
       reader-is h c.interpreter.invariant c.args.guard.0 _ _ found.1 found.2,
-      its.0,
-      its.1,
-      its.2.queue,
-      numbers-of_queue h c.interpreter.invariant c.is_whole.ensures c.args.name _ c.in-Some.ensures.found.0 line c.args.queue _ mine c.args.guard
-          c.in-Some.ensures.valid,
+      (
+        its.0,
+        its.1,
+        its.2.queue,
+        numbers-of_queue h c.interpreter.invariant c.is_whole.ensures c.args.name _ c.in-Some.ensures.found.0 line c.args.queue _ mine c.args.guard
+            c.in-Some.ensures.valid,
+      ),
     )
 
 refused : (c : goal.After-drop-room-in-Err) → Does (state_of c.interpreter.inside.environment) (At c.args.name (call.CloneList

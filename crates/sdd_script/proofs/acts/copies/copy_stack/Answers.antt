@@ -26,10 +26,12 @@ at-requires-clause-asked c =
     let its = stack-entries h c.interpreter.invariant c.args.stack.0 _ mine in (
       stack-home h c.interpreter.invariant c.args.stack.0 _ mine,
       reader-is h c.interpreter.invariant c.args.guard.0 _ _ found.1 found.2,
-      its.0,
-      its.1.list,
-      numbers-of_stack h c.interpreter.invariant c.is_whole.ensures c.args.name _ c.in-Some.ensures.found.0 line c.args.stack _ mine c.args.guard
-          c.in-Some.ensures.valid,
+      (
+        its.0,
+        its.1.list,
+        numbers-of_stack h c.interpreter.invariant c.is_whole.ensures c.args.name _ c.in-Some.ensures.found.0 line c.args.stack _ mine c.args.guard
+            c.in-Some.ensures.valid,
+      ),
     )
 
 refused : (c : goal.After-drop-room-in-Err) → Does (state_of c.interpreter.inside.environment) (At c.args.name (call.CloneList

@@ -5,11 +5,11 @@ use Rattle.sdd_script.proofs.acts.leaving.give_up_raw_item.Goals as goal
 pub at-requires-clause-place : goal.at-requires-clause-place
 at-requires-clause-place c = live-in c.args.environment.now _ c.requires
 
-pub at-in-Some-requires-clause-place : goal.at-in-Some-requires-clause-place
-at-in-Some-requires-clause-place c = rw c.in-Some.ensures.done.1.1 (live-in c.args.environment.now _ c.requires)
+pub at-requires-in-Some-clause-place : goal.at-requires-in-Some-clause-place
+at-requires-in-Some-clause-place c = rw c.in-Some.ensures.done.1.1 (live-in c.args.environment.now _ c.requires)
 
-pub at-in-Some-requires-clause-asked : goal.at-in-Some-requires-clause-asked
-at-in-Some-requires-clause-asked c = rw c.in-Some.ensures.done.1.1 c.in-Some.ensures.done.0.1
+pub at-requires-in-Some-clause-asked : goal.at-requires-in-Some-clause-asked
+at-requires-in-Some-clause-asked c = rw c.in-Some.ensures.done.1.1 c.in-Some.ensures.done.0.1
 
 pub returns-in-Some : goal.returns-in-Some
 returns-in-Some c =
