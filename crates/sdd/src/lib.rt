@@ -17,9 +17,10 @@ pub use sdd_space::laws::{
     shows_what_was_made, values_fit_slots,
 };
 pub use sdd_space::{
-    AtomicOwned, AtomicRaw, AtomicShared, Caller, Cells, Collectors, Deferrals, Giver, Guard,
-    Guards, HeldItems, InPlaceItems, Item, Items, Look, LookThrough, Owned, OwnedPtrPair,
-    PrivateCollector, Ptr, RawCells, RawItems, RawPtr, Several, Shared, SharedItems, SharedOwners,
-    SharedPtrPair, Shows, Space,
+    AtomicCell, AtomicOwned, AtomicRaw, AtomicShared, Caller, Cells, Collectors, Deferrals, Giver,
+    Guard, Guards, HeldItems, InPlaceItems, Item, Items, Look, LookThrough, Owned, OwnedPtrPair,
+    Owner, OwnerPtrPair, Ownership, PrivateCollector, Ptr, RawCells, RawItems, RawPtr, Several,
+    Shared, SharedItems, SharedOwners, SharedOwnership, SharedPtrPair, Shows, Space,
+    UniqueOwnership,
 };
 pub use sdd_world::{Place, Turn, World};

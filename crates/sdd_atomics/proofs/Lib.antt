@@ -1,3 +1,4 @@
+pub mod Sitting
 pub mod Allowed
 pub mod Zeros
 pub mod ViewCodes

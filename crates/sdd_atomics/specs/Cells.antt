@@ -13,11 +13,10 @@ use Rattle.sdd_domain_invariant.specs.Codes.{held_slots}
 use Rattle.sdd_domain_invariant.specs.Slots.FilledInvariant.{HasRecord}
 use Rattle.sdd_domain_invariant.specs.Fractions.FractionSteps.{SeatState}
 use Rattle.sdd_domain_invariant.specs.Cells.CellSteps.{SwapsOne, ExchangesOne, FreesCell, FreesBare, LearnsCell, FindsCell}
-use Rattle.sdd_atomics.specs.declared.domain_table.DomainTable.{DomainTable}
-use Rattle.sdd_atomics.specs.DomainTable.{sizes_of}
+use Rattle.sdd_atomics.specs.SeatAtTable.{DomainSeat, sizes_of}
 
-abbrev pub cells_of : DomainTable → ℕ
-cells_of b = (sizes_of b).cells
+abbrev pub cells_of : DomainSeat → ℕ
+cells_of s = (sizes_of s).cells
 
 -- what it has of owners may go into a cell of this kind, by this word: an owner of that kind, or none
 abbrev pub FitsCell : CellKind → ℕ → List ShownValue → Type 0

@@ -13,8 +13,7 @@ use Rattle.sdd_rights.specs.Views.{owner_of}
 use Rattle.sdd_domain_invariant.specs.Fractions.FractionsAtHome.{CarriedFractions, Moves}
 use Rattle.sdd_domain_invariant.specs.Fractions.BankInvariant.{founded, with_ledger}
 use Rattle.sdd_domain_invariant.specs.Fractions.FractionSteps.{SeatState, FillsSlot, SeesOwned, LearnsOwned, ClosesHome}
-use Rattle.sdd_atomics.specs.declared.domain_table.DomainTable.{DomainTable}
-use Rattle.sdd_atomics.specs.DomainTable.{sizes_of, gamma_of}
+use Rattle.sdd_atomics.specs.TableFacts.{TableFacts}
 
 module _ {S : Type 0} where
   -- what the seat knows
@@ -90,5 +89,5 @@ abbrev pub HasClosed : Seat ValueFraction View → Seat ValueFraction View → T
 HasClosed = λ s. Moved ClosesHome s 1
 
 -- it knows how many of each there are, and of which ghost map the values' places are
-abbrev pub Knows : DomainTable → Seat ValueFraction View → Type 0
-Knows b s = (s.me.0.sizes ≡ sizes_of b) × (s.me.0.fractions.gamma ≡ gamma_of b)
+abbrev pub Knows : TableFacts → Seat ValueFraction View → Type 0
+Knows b s = (s.me.0.sizes ≡ b.sizes) × (s.me.0.fractions.gamma ≡ b.gamma)

@@ -1,6 +1,8 @@
 pub mod Sizes
 pub mod DomainTable
 pub mod DomainSeat
+pub mod TableFacts
+pub mod SeatAtTable
 pub mod Owner
 pub mod Counts
 pub mod ReadFractions

@@ -6,3 +6,4 @@ pub mod epoch;
 pub mod jobs;
 pub mod raw;
 pub mod slots;
+pub mod values;

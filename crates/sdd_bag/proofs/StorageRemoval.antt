@@ -11,7 +11,7 @@ use Rattle.sdd_participants.specs.declared.standing.Standing.{Standing}
 use Rattle.sdd_participants.specs.declared.standing.Standing.TheVariants.{Owned, Raw, Shared, Retired, Private}
 use Rattle.sdd_world_model.specs.World.{World, standing_at}
 use Rattle.sdd_world_model.specs.WorldChanges.{owner_given, with_cell, with_standing}
-use Rattle.sdd_space.specs.declared.shared.Shared.{Shared as SharedOwner}
+use Rattle.sdd_space.specs.Shared.{Shared as SharedOwner}
 use Rattle.sdd_lists.specs.declared.linked_entry.LinkedEntry.{LinkedEntry}
 use Rattle.sdd_lists.specs.Entries.{link_of}
 use Rattle.sdd_lists.specs.Lists.{Entry, IsCrowded, IsTaken, first_slot, left}

@@ -11,7 +11,7 @@ use Rattle.sdd_space.specs.CallerId.{CallerId, IsExact, IsSeated}
 use Rattle.sdd_space.specs.Guard.{ReaderId}
 use Rattle.sdd_world_model.specs.World.{World, standing_at}
 use Rattle.sdd_world_model.specs.WorldChanges.{nulled, retired}
-use Rattle.sdd_space.specs.declared.shared.Shared.{Shared}
+use Rattle.sdd_space.specs.Shared.{Shared}
 use Rattle.sdd_lists.specs.declared.linked_entry.LinkedEntry.{LinkedEntry}
 use Rattle.sdd_lists.specs.declared.stack.Stack.{Stack}
 use Rattle.sdd_lists.specs.Entries.{link_of, value_of}

@@ -42,7 +42,7 @@ use crate::storage_keys::StorageKeys;
 use sdd_core::Refused;
 use sdd_lists::iter::Iter;
 use sdd_lists::{LinkedEntry, Stack};
-use sdd_space::inner::{right_of_shared_cell, shared_cell_with};
+use sdd_space::inner::{cell_with, right_of_cell};
 use sdd_space::{
     AtomicShared, Cells, Guard, HeldItems, Item, Items, LookThrough, RawCells, Several, SharedItems,
 };
@@ -165,7 +165,7 @@ impl<T, const ARRAY_LEN: usize, B: Shelf<T, ARRAY_LEN>> Bag<T, ARRAY_LEN, B> {
             LiesOn B.shown ARRAY_LEN (S.world s.new) fs self.new.overflow) }
     {
         let places = self.keys.add_places();
-        let storage = Storage::new(places, right_of_shared_cell(cell));
+        let storage = Storage::new(places, right_of_cell(cell));
         match self.stack.push(B::with_storage(storage), guard, s) {
             Ok(owner) => {
                 let _ = owner.release(s);
@@ -174,7 +174,7 @@ impl<T, const ARRAY_LEN: usize, B: Shelf<T, ARRAY_LEN>> Bag<T, ARRAY_LEN, B> {
             Err((shelf, refused)) => {
                 self.keys.remove_places();
                 match shelf.into_storage() {
-                    Ok(storage) => Err((shared_cell_with(storage.into_cell()), refused)),
+                    Ok(storage) => Err((cell_with(storage.into_cell()), refused)),
                     Err(_) => unreachable!(),
                 }
             }
@@ -536,7 +536,7 @@ impl<T, const ARRAY_LEN: usize, B: Shelf<T, ARRAY_LEN>> Bag<T, ARRAY_LEN, B> {
         };
         match Stack::new(s) {
             Ok(stack) => Ok(Bag {
-                primary: Primary::new(right_of_shared_cell(cell)),
+                primary: Primary::new(right_of_cell(cell)),
                 stack,
                 keys: StorageKeys::new(),
             }),

@@ -18,7 +18,7 @@ use crate::giving::give_up;
 use crate::storage::Storage;
 use crate::storage_keys::StorageKeys;
 use sdd_rights::{Right, StandingKind};
-use sdd_space::inner::shared_cell_with;
+use sdd_space::inner::cell_with;
 use sdd_space::{AtomicShared, Cells, Item, Items, RawCells};
 use std::marker::Model;
 
@@ -163,7 +163,7 @@ impl<T, const ARRAY_LEN: usize> Primary<T, ARRAY_LEN> {
         while let Some(value) = primary.pop() {
             give_up(value, s);
         }
-        let cell: AtomicShared<I> = shared_cell_with(primary.into_cell());
+        let cell: AtomicShared<I> = cell_with(primary.into_cell());
         cell.close(s);
     }
 }

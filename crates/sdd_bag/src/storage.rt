@@ -5,7 +5,7 @@ ghost use Rattle.sdd_rights.specs.Right.{number_of, home_of, kind_of};
 
 use crate::places::Places;
 use sdd_rights::{Right, StandingKind};
-use sdd_space::inner::shared_cell_with;
+use sdd_space::inner::cell_with;
 use sdd_space::{Giver, Item};
 use std::marker::Model;
 
@@ -63,6 +63,6 @@ impl<I, T: Item<I>, const ARRAY_LEN: usize> Item<I> for Storage<T, ARRAY_LEN> {
     ghost holds = { holdings_of };
 
     fn give_up<G: Giver<I>>(self, giver: &mut G) {
-        giver.atomic_shared(shared_cell_with(self.into_cell()));
+        giver.atomic_shared(cell_with(self.into_cell()));
     }
 }

@@ -1,7 +1,6 @@
 -- What writing and freeing a cell are for the world of a lone participant
 use Rattle.std.proofs.Common.{◌≡◌, ◌≢◌, ℕ, ◌<◌, IsTrue, List, Some, None, length, set, sym, refl, ap, ◌∙◌, subst, arith, length-set, get_or-set_other, get_or-set_same, ne_eqb}
 use Rattle.std.specs.Prelude.{Option, IsSome, slice_get, if◌then◌else◌}
-use Rattle.std.proofs.lemmas.List.{set-set}
 use base.Stored.{Gv}
 use Rattle.sdd_participants.specs.Slab.{entry_at, IsEmptyAt, IsFull}
 use Rattle.sdd_participants.specs.declared.standing.CellContents.{CellContents}
@@ -11,7 +10,6 @@ use Rattle.sdd_domain_invariant.specs.Slots.SlotSteps.{behind}
 use Rattle.sdd_domain_invariant.specs.Cells.CellWordSteps.{pointer_behind}
 use Rattle.sdd_domain_invariant.specs.Words.{words_behind}
 use Rattle.sdd_world_model.specs.OwnerOrCell.{OwnerOrCell}
-use Rattle.sdd_space.specs.Ptr.{KeepsShown}
 use Rattle.sdd_space.specs.Undisturbed.{Undisturbed}
 use Rattle.sdd_world_model.specs.WorldChanges.{with_cell, without_cell, held_in}
 use Rattle.sdd_domain_steps.specs.Cells.{WritesAt, ChangesCell, FreesAt, AllCellsTaken}
@@ -22,7 +20,7 @@ use Rattle.sdd_domain_core.specs.Sound.{IsSound}
 use Rattle.sdd_domain_core.specs.Space.{Shows, is_lone, caller_of, known_of}
 use Rattle.sdd_domain_core.proofs.GuardCalls.{lone_is}
 use Rattle.sdd_domain_core.proofs.Listings.{listing_same, listing_set, listing_at, listing_long, listing_all}
-use Rattle.sdd_domain_core.proofs.NotedWorld.{matched_noted, noted_keeps, noted_undisturbed, sound_noted, tied_noted, world_noted}
+use Rattle.sdd_domain_core.proofs.NotedWorld.{matched_noted, noted_undisturbed, sound_noted, tied_noted, world_noted}
 
 -- a cell that isn't free holds what its word tells
 pub full_contents : (word : ℕ) → 0 < word → contents_by word ≡ Some (contents_of word)

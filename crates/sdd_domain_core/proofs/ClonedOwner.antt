@@ -21,8 +21,7 @@ use Rattle.sdd_domain_invariant.specs.Slots.SlotSteps.{noted, one_more}
 use Rattle.sdd_domain_invariant.proofs.Codes.{counted_is, shared}
 use Rattle.sdd_domain_invariant.specs.Slots.FilledInvariant.{HasRecord}
 use Rattle.sdd_domain_invariant.specs.Fractions.FractionSteps.{SeatState, DrawsUnit, departing, drawing, owning_more, parting}
-use Rattle.sdd_atomics.specs.declared.domain_table.DomainTable.{DomainTable}
-use Rattle.sdd_atomics.specs.DomainTable.{gamma_of}
+use Rattle.sdd_atomics.specs.TableFacts.{TableFacts, gamma_of}
 use Rattle.sdd_atomics.specs.Clones.{ClonesOne}
 use Rattle.sdd_atomics.specs.DomainSeat.{Knows, Moved, MovedAlone, Taught, epoch, slots, view}
 use Rattle.sdd_atomics.specs.ReadFractions.{IsReadFractionOf}
@@ -36,7 +35,7 @@ counts_most x several great = let so_many = (shared x (counted_is x several)).0 
 pub counts_fewer : (x : ℕ) → counted x ≡ 1 → x < shared_base + most_owners → alive x < most_owners
 counts_fewer x several small = let so_many = (shared x (counted_is x several)).0 in omega arith
 
-module _ (b : DomainTable) (slot : ℕ) (value : Gv) (s t : Seat ValueFraction View) (found : ℕ) (adds : Moved (ClonesOne value slot) s found t) where
+module _ (b : TableFacts) (slot : ℕ) (value : Gv) (s t : Seat ValueFraction View) (found : ℕ) (adds : Moved (ClonesOne value slot) s found t) where
   -- none came: its note of the word alone may be new
   pub full_view : most_owners ≤ alive found → (z : ℕ) × (t.me.0 ≡ record s.me.0 { words = noted slot z s.me.0 }) × (t.me.1 ≡ s.me.1)
   full_view many = let r = adds.2.refused many in (r.0, ap (λ (m : SeatState). m.0) r.1, ap (λ (m : SeatState). m.1) r.1)

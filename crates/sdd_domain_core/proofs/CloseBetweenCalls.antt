@@ -5,14 +5,13 @@ use Rattle.sdd_participants.specs.Waiting.{Waiting}
 use Rattle.sdd_participants.specs.declared.participant.Participant.{Participant}
 use Rattle.sdd_shared_values.specs.declared.value_fraction.ValueFraction.{ValueFraction}
 use Rattle.sdd_rights.specs.declared.views.View.{View}
-use Rattle.sdd_atomics.specs.declared.domain_table.DomainTable.{DomainTable}
-use Rattle.sdd_atomics.specs.DomainTable.{gamma_of, places_of}
+use Rattle.sdd_atomics.specs.TableFacts.{TableFacts, gamma_of, places_of}
 use Rattle.sdd_atomics.specs.DomainSeat.{view}
 use Rattle.sdd_domain_invariant.specs.Fractions.FractionsAtHome.{CarriedFractions}
 use Rattle.sdd_domain_steps.specs.BetweenCalls.{CarriesSeenOnly, IsBetweenCalls}
 
 -- which collector it closes is another one, and at how many places it has looked for that
-pub between_calls_closing : (b : DomainTable) (p : ℕ) (own : Participant) (s u : Seat ValueFraction View) (closes : Option ℕ) (looked : ℕ)
+pub between_calls_closing : (b : TableFacts) (p : ℕ) (own : Participant) (s u : Seat ValueFraction View) (closes : Option ℕ) (looked : ℕ)
     → IsBetweenCalls b p own s
     → u.table_id ≡ s.table_id → u.me.1 ≡ s.me.1 → view u ≡ record (view s) { slots = record (view s).slots { closes = closes; looked = looked } }
     → (closes ≡ None → looked ≡ 0) → IsBetweenCalls b p own u
@@ -57,7 +56,7 @@ between_calls_closing b p own s u closes looked q table others is none = subst (
 }
 
 -- less is in its bags
-pub between_calls_lighter : (b : DomainTable) (p : ℕ) (own : Participant) (left : List Waiting) (s : Seat ValueFraction View) → IsBetweenCalls b p own s
+pub between_calls_lighter : (b : TableFacts) (p : ℕ) (own : Participant) (left : List Waiting) (s : Seat ValueFraction View) → IsBetweenCalls b p own s
     → (own.bags.waiting ≡ [] → left ≡ []) → IsBetweenCalls b p (record own { bags = record own.bags { waiting = left } }) s
 between_calls_lighter b p own left s q none = record {
   home = q.home;

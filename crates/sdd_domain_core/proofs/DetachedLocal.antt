@@ -9,14 +9,13 @@ use Rattle.sdd_rights.specs.declared.views.Sizes.{Sizes}
 use Rattle.sdd_domain_invariant.specs.Words.{most_waiting}
 use Rattle.sdd_domain_invariant.specs.Sums.{total}
 use Rattle.sdd_domain_invariant.specs.Slots.{waits_in}
-use Rattle.sdd_atomics.specs.declared.domain_table.DomainTable.{DomainTable}
-use Rattle.sdd_atomics.specs.DomainTable.{id_of, sizes_of, gamma_of}
+use Rattle.sdd_atomics.specs.TableFacts.{TableFacts, id_of, sizes_of, gamma_of}
 use Rattle.sdd_domain_steps.specs.DueItems.{Pending}
 use Rattle.sdd_domain_steps.specs.InBags.{AreInBags, KnownWaiting, TellsCollectors}
 use Rattle.sdd_domain_steps.specs.BetweenCalls.{CarriesSeenOnly, IsBetweenCalls, IsReady}
 
 -- two tables of the same words, sizes and ghost map
-module _ (b d : DomainTable) (ids : id_of b ≡ id_of d) (sizes : sizes_of b ≡ sizes_of d) (gamma : gamma_of b ≡ gamma_of d) where
+module _ (b d : TableFacts) (ids : id_of b ≡ id_of d) (sizes : sizes_of b ≡ sizes_of d) (gamma : gamma_of b ≡ gamma_of d) where
   pub between_calls_on : (p : ℕ) (own : Participant) (s : Seat ValueFraction View) → IsBetweenCalls b p own s → IsBetweenCalls d p own s
   between_calls_on p own s q = record {
     home = q.home ∙ ids;

@@ -13,7 +13,7 @@ use Rattle.sdd_world_model.specs.WorldChanges as steps
 use Rattle.sdd_world_model.specs.WorldChanges.{all_reclaimed}
 use Rattle.sdd_world_model.proofs.ParticipantChanges.{Gives-all_reclaimed}
 use Rattle.sdd_domain_steps.specs.Local.{LocalModel, world_of}
-use Rattle.sdd_domain_steps.specs.LocalState.{LocalState, GoesOn, IsEntered, IsLone, waits}
+use Rattle.sdd_domain_steps.specs.LocalState.{LocalState, GoesOn, waits}
 use Rattle.sdd_domain_core.proofs.Sound.{lives}
 
 -- the count is as before

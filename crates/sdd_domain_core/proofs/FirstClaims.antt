@@ -19,8 +19,7 @@ use Rattle.sdd_domain_invariant.specs.Slots.SlotSteps.{behind, noted, without_it
 use Rattle.sdd_domain_invariant.specs.Sums.{total}
 use Rattle.sdd_domain_invariant.specs.Slots.{waits_in}
 use Rattle.sdd_domain_invariant.proofs.Sums.{is_same, is_other, total_has, total_snoc}
-use Rattle.sdd_atomics.specs.declared.domain_table.DomainTable.{DomainTable}
-use Rattle.sdd_atomics.specs.DomainTable.{slots_of}
+use Rattle.sdd_atomics.specs.TableFacts.{TableFacts, slots_of}
 use Rattle.sdd_domain_steps.specs.BetweenCalls.{IsBetweenCalls}
 use Rattle.sdd_domain_steps.specs.InBags.{AreInBags, KnownWaiting, is_closed, known_waiting}
 use Rattle.sdd_domain_steps.specs.PrivateItems.{ClaimsBack, EmptiesOwn, LetsGoOf}
@@ -28,7 +27,7 @@ use Rattle.sdd_domain_steps.proofs.InBags.{first_private_out, turned_plain, with
 use Rattle.sdd_domain_steps.proofs.BetweenCalls.{between_calls_waits}
 
 -- it was claimed for its bag
-module _ (b : DomainTable) (p : ℕ) (own : Participant) (slot : ℕ) (s u : Seat ValueFraction View) (claims : ClaimsBack slot s u) where
+module _ (b : TableFacts) (p : ℕ) (own : Participant) (slot : ℕ) (s u : Seat ValueFraction View) (claims : ClaimsBack slot s u) where
   abbrev x : WaitingItem
   x = claims.item.item
 
@@ -80,7 +79,7 @@ module _ (b : DomainTable) (p : ℕ) (own : Participant) (slot : ℕ) (s u : Sea
       let o = is_same slot claims.item.item.slot claims.here in omega arith
 
 -- it was let go of, as a close had claimed it
-module _ (b : DomainTable) (p : ℕ) (own : Participant) (collector slot : ℕ) (s u : Seat ValueFraction View) (lets : LetsGoOf collector slot s u) where
+module _ (b : TableFacts) (p : ℕ) (own : Participant) (collector slot : ℕ) (s u : Seat ValueFraction View) (lets : LetsGoOf collector slot s u) where
   pub lost_between_calls : IsBetweenCalls b p own s → IsBetweenCalls b p own u
   lost_between_calls q = between_calls_waits b p own s u s.me.0.slots.waits
       (without_private slot s.me.0.slots.privates) s.me.0.fractions.waits s.me.0.fractions.counts lets.words q
@@ -93,7 +92,7 @@ module _ (b : DomainTable) (p : ℕ) (own : Participant) (collector slot : ℕ) 
       (first_private_out (slots_of b) (known_waiting s.me.0.slots) waiting taken t (Item slot) rest first there)
 
 -- its value was moved out for a close of its own
-module _ (b : DomainTable) (p : ℕ) (own : Participant) (slot : ℕ) (value : Gv) (s u : Seat ValueFraction View) (empties : EmptiesOwn slot value s u) where
+module _ (b : TableFacts) (p : ℕ) (own : Participant) (slot : ℕ) (value : Gv) (s u : Seat ValueFraction View) (empties : EmptiesOwn slot value s u) where
   pub emptied_between_calls : IsBetweenCalls b p own s → IsBetweenCalls b p own u
   emptied_between_calls q = between_calls_waits b p own s u s.me.0.slots.waits (without_private slot s.me.0.slots.privates) s.me.0.fractions.waits
       (record s.me.0.fractions.counts { gone = s.me.0.fractions.counts.gone + 1 }) (noted slot (free_word 0) s.me.0) q

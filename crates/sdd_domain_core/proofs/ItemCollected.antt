@@ -24,8 +24,7 @@ use Rattle.sdd_domain_invariant.specs.Slots.{waits_in}
 use Rattle.sdd_domain_invariant.proofs.Sums.{is_other, is_same, total_has, total_snoc}
 use Rattle.sdd_domain_invariant.specs.Collectors.CollectorSteps.{CollectsOne}
 use Rattle.sdd_domain_invariant.specs.Fractions.FractionSteps.{forgetting, without_record}
-use Rattle.sdd_atomics.specs.declared.domain_table.DomainTable.{DomainTable}
-use Rattle.sdd_atomics.specs.DomainTable.{slots_of}
+use Rattle.sdd_atomics.specs.TableFacts.{TableFacts, slots_of}
 use Rattle.sdd_atomics.specs.DomainSeat.{Moved}
 use Rattle.sdd_domain_steps.specs.BetweenCalls.{IsBetweenCalls}
 use Rattle.sdd_domain_core.specs.Collectors.{CollectsAt}
@@ -74,7 +73,7 @@ collects_to old mid now collector slot count shared retires is fits = record {
   fits = fits;
 }
 
-module _ (b : DomainTable) (p : ℕ) (own : Participant) (collector slot : ℕ) (s u : Seat ValueFraction View)
+module _ (b : TableFacts) (p : ℕ) (own : Participant) (collector slot : ℕ) (s u : Seat ValueFraction View)
     (moved : Moved (CollectsOne collector slot) s (private_word collector) u) where
   abbrev item : WaitingItem
   item = moved.2.1.0

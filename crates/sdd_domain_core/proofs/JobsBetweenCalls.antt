@@ -15,8 +15,7 @@ use Rattle.sdd_domain_invariant.specs.Slots.{waits_in}
 use Rattle.sdd_domain_invariant.specs.Slots.SlotSteps.{retired_now, DefersAt, GivesBack}
 use Rattle.sdd_domain_invariant.proofs.Sums.{is_other, total_snoc}
 use Rattle.sdd_domain_invariant.specs.Fractions.FractionsAtHome.{CarriedFractions}
-use Rattle.sdd_atomics.specs.declared.domain_table.DomainTable.{DomainTable}
-use Rattle.sdd_atomics.specs.DomainTable.{gamma_of, places_of, slots_of, most_waiting_of}
+use Rattle.sdd_atomics.specs.TableFacts.{TableFacts, gamma_of, places_of, slots_of, most_waiting_of}
 use Rattle.sdd_domain_steps.specs.InBags.{AreInBags, KnownWaiting}
 use Rattle.sdd_domain_steps.specs.WaitingItems.{what_of}
 use Rattle.sdd_domain_steps.specs.BetweenCalls.{CarriesSeenOnly, IsBetweenCalls}
@@ -24,7 +23,7 @@ use Rattle.sdd_domain_steps.proofs.InBags.{first_inside, first_once, job_plain, 
 use Rattle.sdd_domain_steps.proofs.Reclaims.{no_more, what_job}
 use Rattle.sdd_domain_steps.proofs.BetweenCalls.{stirs, stirs_low}
 
-module _ (b : DomainTable) (p : ℕ) (own : Participant) (s t : Seat ValueFraction View) (q : IsBetweenCalls b p own s) (table : t.table_id ≡ s.table_id)
+module _ (b : TableFacts) (p : ℕ) (own : Participant) (s t : Seat ValueFraction View) (q : IsBetweenCalls b p own s) (table : t.table_id ≡ s.table_id)
     (others : t.me.1 ≡ s.me.1) (job : ℕ) where
   abbrev n : ℕ
   n = slots_of b

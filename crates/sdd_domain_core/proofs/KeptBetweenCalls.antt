@@ -3,12 +3,12 @@ use Rattle.std.proofs.Common.{◌≡◌, ℕ, ◌<◌, List, sym, ap, ◌∙◌,
 use Rattle.std.specs.Prelude.{Option}
 use base.Stored.{Gv}
 use Rattle.atomic_table.specs.declared.shared.Seat.{Seat}
+use Rattle.sdd_atomics.specs.TableFacts.{TableFacts}
 use Rattle.sdd_participants.specs.declared.participant.Participant.{Participant}
 use Rattle.sdd_participants.specs.declared.tally.Tally.{Tally}
 use Rattle.sdd_shared_values.specs.declared.value_fraction.ValueFraction.{ValueFraction}
 use Rattle.sdd_rights.specs.declared.views.View.{View}
 use Rattle.sdd_shared_values.specs.CarriedFractions.{OnlyLends}
-use Rattle.sdd_atomics.specs.declared.domain_table.DomainTable.{DomainTable}
 use Rattle.sdd_domain_steps.specs.BetweenCalls.{AreLentTo, IsBetweenCalls, IsReady}
 use Rattle.sdd_domain_steps.specs.DueItems.{Pending}
 use Rattle.sdd_domain_steps.specs.InBags.{known_waiting}
@@ -16,7 +16,7 @@ use Rattle.sdd_domain_steps.specs.Receipt.{IsTallied}
 use Rattle.sdd_domain_steps.proofs.InPlace.{between_calls_noted}
 use Rattle.sdd_domain_steps.proofs.BetweenCalls.{HasSeen, between_calls_shows}
 
-module _ {J A B : Type 0} (b : DomainTable) (p : ℕ) (own : Participant) (lifetime : ℕ) (due : Pending) (free : ℕ) (jobs : List (Option J))
+module _ {J A B : Type 0} (b : TableFacts) (p : ℕ) (own : Participant) (lifetime : ℕ) (due : Pending) (free : ℕ) (jobs : List (Option J))
     (privates : List (Option ℕ)) (tally : Tally) (l : Seat ValueFraction View)
     (i : IsBetweenCalls b p own l × A × B × AreLentTo lifetime l.me.1 × IsReady b own due free jobs privates (known_waiting l.me.0.slots)
     × IsTallied 0 tally l.me.0.fractions.counts) where

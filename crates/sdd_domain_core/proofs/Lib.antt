@@ -1,3 +1,4 @@
+pub mod AtTable
 pub mod Listings
 pub mod Words
 pub mod ShownKept

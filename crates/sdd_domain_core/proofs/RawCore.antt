@@ -11,8 +11,7 @@ use Rattle.sdd_rights.specs.Views.{owner_of}
 use Rattle.sdd_domain_invariant.specs.Slots.SlotSteps.{noted, without, turned_raw}
 use Rattle.sdd_domain_invariant.specs.Fractions.FractionsAtHome.{CarriedFractions}
 use Rattle.sdd_domain_invariant.specs.Fractions.FractionSteps.{regained, undrawing, untold}
-use Rattle.sdd_atomics.specs.declared.domain_table.DomainTable.{DomainTable}
-use Rattle.sdd_atomics.specs.DomainTable.{gamma_of, places_of}
+use Rattle.sdd_atomics.specs.TableFacts.{TableFacts, gamma_of, places_of}
 use Rattle.sdd_atomics.specs.DomainSeat.{view, Taught, Moved}
 use Rattle.sdd_domain_steps.specs.BetweenCalls.{CarriesSeenOnly, IsBetweenCalls}
 use Rattle.sdd_domain_steps.specs.RawItems.{PutsOut}
@@ -25,7 +24,7 @@ out_view slot value v owns told =
     ∙ (ap (λ (c : Bool). cond (not c) (slot ∷ []) []) (eq-eqb slot slot refl) ∙ sym owns) in
     λ d. record v { slots = record v.slots { owns = none d }; fractions = record v.fractions { owns = sym told d }; words = noted slot 2 v }
 
-module _ (b : DomainTable) (p : ℕ) (own : Participant) (slot : ℕ) (value : Gv) (s t u : Seat ValueFraction View) (q : IsBetweenCalls b p own s)
+module _ (b : TableFacts) (p : ℕ) (own : Participant) (slot : ℕ) (value : Gv) (s t u : Seat ValueFraction View) (q : IsBetweenCalls b p own s)
     (took : Taught (λ v _ w. w ≡ regained v (owner_of slot false value)) s 0 t) (put : Moved (PutsOut slot) t 2 u) where
   -- where it is, what it knows, and what it has out
   pub put_home : u.table_id ≡ s.table_id

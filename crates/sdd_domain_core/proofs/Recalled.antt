@@ -16,8 +16,7 @@ use Rattle.sdd_shared_values.specs.declared.value_fraction.ValueFraction.{ValueF
 use Rattle.sdd_rights.specs.declared.views.Sizes.{Sizes}
 use Rattle.sdd_rights.specs.declared.views.View.{View}
 use Rattle.sdd_domain_invariant.specs.Fractions.FractionSteps.{LearnsOwned}
-use Rattle.sdd_atomics.specs.declared.domain_table.DomainTable.{DomainTable}
-use Rattle.sdd_atomics.specs.DomainTable.{gamma_of, sizes_of}
+use Rattle.sdd_atomics.specs.TableFacts.{TableFacts, gamma_of, sizes_of}
 use Rattle.sdd_atomics.specs.DomainSeat.{MovedAlone}
 use Rattle.sdd_domain_steps.specs.BetweenCalls.{IsBetweenCalls}
 use Rattle.sdd_domain_steps.specs.DomainValues.{sizes_in}
@@ -28,7 +27,7 @@ use Rattle.sdd_domain_steps.proofs.InPlace.{owner_by, owner_has, owner_views}
 use Rattle.sdd_domain_steps.proofs.LocalLooks.{recalls_to, with_seat}
 use Rattle.sdd_domain_steps.proofs.BetweenCalls.{same_recalled}
 
-pub record IsRecalled {J : Type 0} (b : DomainTable) (p : ℕ) (own : Participant) (m : LocalState J) (right : Right) (kind : StandingKind) (w : Witness)
+pub record IsRecalled {J : Type 0} (b : TableFacts) (p : ℕ) (own : Participant) (m : LocalState J) (right : Right) (kind : StandingKind) (w : Witness)
     (read_fraction : ReadFraction) (slot : ℕ) (l t : Seat ValueFraction View) : Type 0 where
   pub on : IsOn b m
   pub home : home_of right ≡ slots_home m
@@ -40,7 +39,7 @@ pub record IsRecalled {J : Type 0} (b : DomainTable) (p : ℕ) (own : Participan
   pub has : w.views ≡ views_of right → HasValue read_fraction.shown right
   pub tells : IsLone m → KnowsOwner (with_seat m l) (number_of right) (is_shared kind) read_fraction.shown
 
-pub is_recalled : {J : Type 0} (limits : Limits) (b : DomainTable) (p : ℕ) (own : Participant) (m : LocalState J) (right : Right) (kind : StandingKind)
+pub is_recalled : {J : Type 0} (limits : Limits) (b : TableFacts) (p : ℕ) (own : Participant) (m : LocalState J) (right : Right) (kind : StandingKind)
     (w : Witness) (read_fraction : ReadFraction) (slot : ℕ) (l t : Seat ValueFraction View) → sizes_of b ≡ sizes_in limits
     → m.home ≡ l.table_id → m.gamma ≡ gamma_of b → m.limits ≡ limits → home_of right ≡ slots_home m → kind_of right ≡ kind
     → (AreSlotsOfTable (home_of right) → IsOwnerBy (home_of right) (number_of right) (is_shared (kind_of right)) w read_fraction) → slot ≡ number_of right

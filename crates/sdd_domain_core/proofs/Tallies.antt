@@ -2,7 +2,7 @@
 use Rattle.std.proofs.Common.{◌≡◌, ℕ, zero, suc, ◌+◌, ◌-◌, ◌≤◌, List, [], ◌∷◌, ◌++◌, All, map, sum, refl, ap, ◌∙◌, arith}
 use Rattle.std.proofs.lemmas.List.Sums.{sum_by-cons}
 use Rattle.sdd_participants.specs.declared.tally.Tally.{Tally}
-use Rattle.sdd_participants.specs.Tally.{one_more, one_made, one_reclaimed, one_in_place}
+use Rattle.sdd_participants.specs.Tally.{one_made, one_reclaimed, one_in_place}
 use Rattle.sdd_rights.specs.declared.views.CountsView.{CountsView}
 use Rattle.sdd_rights.specs.Views.{no_counts}
 use Rattle.sdd_domain_invariant.specs.Fractions.FractionSteps.{counts_added}

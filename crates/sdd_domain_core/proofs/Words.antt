@@ -11,11 +11,11 @@ use Rattle.sdd_participants.specs.declared.standing.Standing.TheVariants.{Owned,
 use Rattle.sdd_rights.specs.declared.views.PrivateItem.{PrivateItem}
 use Rattle.sdd_rights.specs.declared.views.Sizes.{Sizes}
 use Rattle.sdd_domain_invariant.specs.Words.{words_behind, most_waiting}
-use Rattle.sdd_domain_invariant.specs.Codes.{codes, shared_base, claimed_word, retired_word, alive, waiting, counted, full, private, private_word, waits_for}
+use Rattle.sdd_domain_invariant.specs.Codes.{codes, shared_base, claimed_word, retired_word, alive, waiting, counted, private, private_word, waits_for}
 use Rattle.sdd_domain_invariant.specs.Collectors.{private_in}
 use Rattle.sdd_domain_invariant.specs.Sums.{total}
 use Rattle.sdd_domain_invariant.specs.Slots.SlotSteps.{behind}
-use Rattle.sdd_domain_invariant.proofs.Codes.{sound, shared, counted_is, claimed_is, free_is, owned_is, private_is, raw_is, waiting_is, waits_privately}
+use Rattle.sdd_domain_invariant.proofs.Codes.{sound, shared, counted_is, claimed_is, free_is, private_is, raw_is, waiting_is, waits_privately}
 use Rattle.sdd_domain_invariant.proofs.Collectors.{plain_alive, plain_free, plain_waiting}
 use Rattle.sdd_domain_invariant.proofs.Sums.{is_other, is_same, total_has, total_some}
 use Rattle.sdd_domain_invariant.specs.Fractions.BankInvariant.{one_where}

@@ -8,8 +8,7 @@ use Rattle.sdd_values.specs.declared.read_sections.SectionState.{SectionState}
 use Rattle.sdd_rights.specs.declared.views.View.{View}
 use Rattle.sdd_shared_values.specs.declared.value_fraction.ValueFraction.{ValueFraction}
 use Rattle.sdd_core.specs.declared.limits.Limits.{Limits}
-use Rattle.sdd_atomics.specs.declared.domain_table.DomainTable.{DomainTable}
-use Rattle.sdd_atomics.specs.DomainTable.{sizes_of}
+use Rattle.sdd_atomics.specs.TableFacts.{TableFacts, sizes_of}
 use Rattle.sdd_domain_steps.specs.DueItems.{Pending}
 use Rattle.sdd_domain_steps.specs.InBags.{known_waiting}
 use Rattle.sdd_domain_steps.specs.BetweenCalls.{IsBetweenCalls, IsSectionOf, AreLentTo, IsReady}
@@ -19,7 +18,7 @@ use Rattle.sdd_domain_steps.specs.DomainValues.{sizes_in}
 -- on the table of its domain it is as between two calls, with no guard open, and closes no collector
 pub record IsDormant {J : Type 0} (limits : Limits) (place : ℕ) (own : Participant) (due : Pending) (known_slots : ℕ) (held_jobs : List (Option J))
     (collectors : List (Option ℕ)) (section : Fraction SectionState) (seat : Seat ValueFraction View) (tally : Tally) : Type 0 where
-  pub table : DomainTable
+  pub table : TableFacts
   pub sizes : sizes_of table ≡ sizes_in limits
   pub shut : own.guards ≡ 0
   pub settled : due.items ≡ []

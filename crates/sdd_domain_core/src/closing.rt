@@ -6,7 +6,7 @@ ghost use Rattle.sdd_domain_invariant.specs.Codes as codes;
 ghost use Rattle.sdd_domain_invariant.specs.Slots.{slot_at};
 ghost use Rattle.sdd_rights.specs.Views.{no_counts};
 ghost use Rattle.sdd_domain_invariant.specs.Fractions.FractionsAtHome.{AreHome};
-ghost use Rattle.sdd_atomics.specs.DomainTable.{id_of, places_of, most_waiting_of};
+ghost use Rattle.sdd_atomics.specs.SeatAtTable.{id_of};
 ghost use Rattle.sdd_atomics.specs.Sizes.{AreSmall};
 ghost use Rattle.sdd_atomics.specs.DomainSeat.{view};
 ghost use Rattle.sdd_domain_core.specs.Domain.{slots_in};
@@ -15,8 +15,8 @@ ghost use Rattle.sdd_domain_steps.specs.Receipt.{Receipt as EndedCounts, AreSett
 use crate::domain::Domain;
 use crate::receipt::Receipt;
 use atomic_table::Closed;
+use sdd_atomics::SeatAtTable;
 use sdd_atomics::steps::epoch::counts::take_counts;
-use sdd_atomics::{DomainSeat, DomainTable};
 use sdd_domain_invariant::gather_home;
 use sdd_participants::Job;
 use sdd_rights::views::Sizes;
@@ -60,20 +60,19 @@ pub fn are_over<T: Item<T>, J: Job>(receipts: &Vec<Receipt<T, J>>) -> bool
 
 /// Takes the counts of all receipts in.
 pub fn take_all_counts<T: Item<T>, J: Job>(
-    table: &DomainTable,
-    seat: &mut DomainSeat,
+    seat: &mut SeatAtTable<'_>,
     mut receipts: Vec<Receipt<T, J>>,
 )
-    requires home { seat.old.table_id ≡ id_of table.now }
-    requires homes { All (λ (r : EndedCounts). r.home.tables ≡ id_of table.now ∷ []) receipts.items }
+    requires homes { All (λ (r : EndedCounts). r.home.tables ≡ id_of seat.old ∷ []) receipts.items }
     requires over { All (λ (r : EndedCounts). r.waits ≡ false) receipts.items }
     requires none { (view seat.old).fractions.counts ≡ no_counts }
-    ensures home { seat.new.table_id ≡ id_of table.now }
+    ensures home { seat.new.table_id ≡ id_of seat.old }
     ensures places { (view seat.new).places ≡ (view seat.old).places }
     ensures counts { HasTaken receipts.items (view seat.new).fractions.counts }
 {
     while let Some(receipt) = receipts.pop() {
-        take_counts(table, seat, receipt.into_counts(table));
+        let counts = receipt.into_counts(seat.table);
+        take_counts(seat, counts);
     }
     receipts.destroy_empty();
 }

@@ -4,6 +4,7 @@ ghost use Rattle.sdd_shared_values.specs.Memory.{IsHoldOf, IsHoldOfValues};
 ghost use Rattle.sdd_shared_values.specs.SharedValues.{AreVacant};
 ghost use Rattle.sdd_domain_invariant.specs.Fractions.FractionsAtHome.{homes_for};
 ghost use Rattle.sdd_atomics.specs.DomainTable.{sizes_of};
+ghost use Rattle.sdd_atomics.specs.TableFacts.{facts_of};
 ghost use Rattle.sdd_domain_steps.specs.DomainValues.{sizes_in, IsValuesOf};
 ghost use Rattle.sdd_domain_steps.specs.Receipt.{Receipt as EndedCounts, AddsUp, AreSettled, capped, sum_of, with_reclaimed};
 
@@ -32,7 +33,7 @@ pub struct Domain<T: Item<T>> {
     pub limits: Limits,
     pub(crate) alloc: Global,
     ghost limited: { AreInRange limits × (sizes_of table ≡ sizes_in limits) },
-    ghost shelved: { IsValuesOf table values × IsHoldOfValues values alloc hold },
+    ghost shelved: { IsValuesOf (facts_of table) values × IsHoldOfValues values alloc hold },
 }
 
 fn sizes_for(limits: &Limits) -> Sizes
@@ -178,6 +179,9 @@ impl<T: Item<T>> Domain<T> {
         let Ok(mut seat) = settled(&self.table, numbers) else {
             return Err((self, receipts, Refused::OwnerOut));
         };
+        let tally = tally_of(&receipts);
+        take_all_counts(&mut seat, receipts);
+        let seat = seat.into_seat();
         let Domain {
             table,
             values,
@@ -186,8 +190,6 @@ impl<T: Item<T>> Domain<T> {
             alloc,
         } = self;
         let values_name = values.values_name();
-        let tally = tally_of(&receipts);
-        take_all_counts(&table, &mut seat, receipts);
         let mut closed = table.close(seat);
         let fraction_list = gather_all_fractions(&mut closed, &values_name, &sizes_for(&limits));
         closed.free();

@@ -19,7 +19,7 @@ ghost use Rattle.sdd_world_model.specs.OwnerOrCell.{AreOf};
 ghost use Rattle.sdd_values.specs.declared.read_sections.SectionState.TheVariants.{Closed as is_closed};
 
 use crate::domain::Domain;
-use sdd_atomics::DomainSeat;
+use sdd_atomics::SeatAtTable;
 use sdd_atomics::steps::epoch;
 use sdd_core::Refused;
 use sdd_domain_steps::collectors::private_table::PrivateTable;
@@ -56,7 +56,7 @@ mod raw_cells;
 /// It must be spent by `end`.
 pub struct LocalCore<'d, T: Item<T>, J: Job> {
     domain: &'d Domain<T>,
-    seat: DomainSeat,
+    seat: SeatAtTable<'d>,
     place: usize,
     /// Where the state of its place is, as an opening and a close write there.
     state: usize,
@@ -81,6 +81,7 @@ pub struct LocalCore<'d, T: Item<T>, J: Job> {
 
 impl<'d, T: Item<T>, J: Job> Model for LocalCore<'d, T, J> {
     ghost use Rattle.std.specs.Prelude.{◌≡◌};
+    ghost use Rattle.sdd_atomics.specs.TableFacts.{facts_of};
     ghost use Rattle.sdd_domain_core.specs.Domain.{gamma_of};
     ghost use Rattle.sdd_domain_core.specs.Noted.{HasNoted};
     ghost use Rattle.sdd_domain_steps.specs.LocalState.{LocalState};
@@ -110,9 +111,10 @@ impl<'d, T: Item<T>, J: Job> Model for LocalCore<'d, T, J> {
       collectors = l.privates.entries;
     } };
 
-    ghost invariant = { λ l. IsBetweenCalls l.domain.now.table l.place l.own l.seat × HasNoted l.domain.now.table l.domain.now.limits l.place l.nesting l.state
+    ghost invariant = { λ l. IsBetweenCalls (facts_of l.domain.now.table) l.place l.own l.seat
+        × HasNoted (facts_of l.domain.now.table) l.domain.now.limits l.place l.nesting l.state
         × IsSectionOf l.own l.section × AreLentTo l.section.lifetime l.seat.me.1
-        × IsReady l.domain.now.table l.own l.due l.known.slots l.jobs l.privates.entries (known_waiting l.seat.me.0.slots)
+        × IsReady (facts_of l.domain.now.table) l.own l.due l.known.slots l.jobs l.privates.entries (known_waiting l.seat.me.0.slots)
         × IsTallied 0 l.tally l.seat.me.0.fractions.counts };
 }
 
@@ -206,7 +208,7 @@ impl<'d, T: Item<T>, J: Job> LocalCore<'d, T, J> {
             privates,
         } = room;
         let mut seat = epoch::sit(&domain.table);
-        let place = match take_place(&domain.table, &mut seat) {
+        let place = match take_place(&mut seat) {
             Ok(place) => place,
             Err(seen) => {
                 table.destroy();
@@ -214,7 +216,7 @@ impl<'d, T: Item<T>, J: Job> LocalCore<'d, T, J> {
             }
         };
         let state = domain.table.state_word(place);
-        epoch::write(&domain.table, &mut seat, state, 0);
+        epoch::write(&mut seat, state, 0);
         known.begin_at(share_of(place, domain.table.places(), slots));
         Ok(LocalCore {
             domain,
@@ -258,8 +260,8 @@ impl<'d, T: Item<T>, J: Job> LocalCore<'d, T, J> {
             tally,
         } = self;
         jobs.destroy();
-        epoch::end(&domain.table, &mut seat, state);
-        EndedCounts::new(seat, domain.limits.slots, tally.total())
+        epoch::end(&mut seat, state);
+        EndedCounts::new(seat.into_seat(), domain.limits.slots, tally.total())
     }
 
     /// Something waits with the participant.
@@ -342,7 +344,6 @@ impl<'d, T: Item<T>, J: Job> LocalCore<'d, T, J> {
         ensures entered { (count : ℕ) × (entered : LocalState J) × IsEntered count self.old entered × GoesOn count result.1 self.old entered self.new }
     {
         let goes_on = arrive(
-            &self.domain.table,
             &mut self.seat,
             self.place,
             self.state,
@@ -366,12 +367,7 @@ impl<'d, T: Item<T>, J: Job> LocalCore<'d, T, J> {
             return None;
         }
         self.due.next();
-        let value = take_value(
-            &self.domain.table,
-            &self.domain.values,
-            &mut self.seat,
-            slot,
-        );
+        let value = take_value(&self.domain.values, &mut self.seat, slot);
         self.known.remember(slot);
         self.tally.count_reclaimed();
         Some(value)
@@ -441,7 +437,6 @@ impl<'d, T: Item<T>, J: Job> LocalCore<'d, T, J> {
         // No place is marked as ended yet.
         self.own.leave(false);
         close_last(
-            &self.domain.table,
             &mut self.seat,
             self.place,
             self.state,
@@ -464,7 +459,6 @@ impl<'d, T: Item<T>, J: Job> LocalCore<'d, T, J> {
         // No place is marked as ended yet.
         self.own.leave(false);
         scan_and_close(
-            &self.domain.table,
             &mut self.seat,
             self.place,
             self.state,
@@ -479,7 +473,7 @@ impl<'d, T: Item<T>, J: Job> LocalCore<'d, T, J> {
     pub fn count(&mut self) -> u64
         ensures { IsTold result self.old self.new }
     {
-        epoch::read(&self.domain.table, &mut self.seat)
+        epoch::read(&mut self.seat)
     }
 
     /// Something may wait with the participant.

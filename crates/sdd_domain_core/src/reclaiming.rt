@@ -36,9 +36,7 @@ use sdd_core::Refused;
 use sdd_participants::{Job, LimboEntry};
 use sdd_rights::{RawRight, Right, StandingKind};
 use sdd_shared_values::GhostValues;
-use sdd_space::inner::{
-    right_of_cell, right_of_owner, right_of_raw_cell, right_of_shared, right_of_shared_cell,
-};
+use sdd_space::inner::{right_of_cell, right_of_owner, right_of_raw_cell};
 use sdd_space::{AtomicOwned, AtomicRaw, AtomicShared, Giver, Item, Owned, Shared};
 use std::marker::Model;
 
@@ -97,7 +95,7 @@ impl<T: Item<T>, J: Job> Giver<T> for LocalGiver<'_, T, J> {
         ensures exact { IsExact (caller_of self.old) → world_of self.new ≡ given (world_of self.old) self.old.member.place (shared.holding_of owner) }
     {
         self.core
-            .release(right_of_shared(owner), StandingKind::Shared);
+            .release(right_of_owner(owner), StandingKind::Shared);
     }
 
     fn atomic_owned(&mut self, cell: AtomicOwned<T>)
@@ -121,7 +119,7 @@ impl<T: Item<T>, J: Job> Giver<T> for LocalGiver<'_, T, J> {
         ensures kept { kept_of self.new ≡ kept_of self.old }
         ensures exact { IsExact (caller_of self.old) → world_of self.new ≡ given (world_of self.old) self.old.member.place (shared.cell_holding cell) }
     {
-        self.close_cell(right_of_shared_cell(cell), StandingKind::Shared);
+        self.close_cell(right_of_cell(cell), StandingKind::Shared);
     }
 
     fn atomic_raw(&mut self, cell: AtomicRaw<T>)

@@ -4,6 +4,7 @@ use mathlib.Core.Bool.{Bool}
 use mathlib.Core.Logic.{dite}
 use native.Mathlib.Decide.{ℕ_discrete}
 use Rattle.atomic_table.specs.declared.shared.Seat.{Seat}
+use Rattle.sdd_atomics.specs.TableFacts.{TableFacts}
 use Rattle.sdd_participants.specs.declared.participant.Participant.{Participant}
 use Rattle.sdd_participants.specs.declared.waiting.LimboEntry.{LimboEntry}
 use Rattle.sdd_participants.specs.Waiting.{Waiting, aged, due, left}
@@ -20,7 +21,6 @@ use Rattle.sdd_domain_invariant.specs.Sums.{total}
 use Rattle.sdd_domain_invariant.specs.Slots.{waits_in}
 use Rattle.sdd_domain_invariant.specs.Slots.SlotSteps.{older, older_private, aged as aged_slots, changed}
 use Rattle.sdd_domain_invariant.proofs.Sums.{total_map}
-use Rattle.sdd_atomics.specs.declared.domain_table.DomainTable.{DomainTable}
 use Rattle.sdd_atomics.specs.DomainSeat.{view, epoch, slots, Stepped, HasPublished}
 use Rattle.sdd_domain_steps.specs.InBags.{AreInBags, KnownWaiting, TellsCollectors, known_waiting}
 use Rattle.sdd_domain_steps.specs.WaitingItems.{aged_at, aged_privates_at, aged_slots_at, due_at, arrived_at, Arrives, HasArrived}
@@ -129,7 +129,7 @@ module _ (count : ℕ) (own : Participant) where
   same_aged i xs = dite (ℕ_discrete own.found count) (λ e. ap (total (waits_in i)) (aged_stayed xs e))
       (λ ne. ap (total (waits_in i)) (aged_moved xs ne) ∙ same_items i xs)
 
-module _ (b : DomainTable) (p : ℕ) (own : Participant) (count : ℕ) where
+module _ (b : TableFacts) (p : ℕ) (own : Participant) (count : ℕ) where
   -- the same count is found again
   pub arrived_same : (s t u : Seat ValueFraction View) → IsBetweenCalls b p own s → own.guards ≡ 0 → Stepped Reads s count t → own.found ≡ count → HasPublished
       t u
@@ -214,7 +214,7 @@ module _ (b : DomainTable) (p : ℕ) (own : Participant) (count : ℕ) where
         )
 
 -- a participant is between calls still once it is decided that nothing waits
-pub between_calls_settled : (b : DomainTable) (p : ℕ) (own : Participant) (seat : Seat ValueFraction View) → own.bags.waiting ≡ []
+pub between_calls_settled : (b : TableFacts) (p : ℕ) (own : Participant) (seat : Seat ValueFraction View) → own.bags.waiting ≡ []
     → IsBetweenCalls b p own seat →
     IsBetweenCalls b p (settled own) seat
 between_calls_settled b p own seat none q = let paced : (settled own).countdown ≡ 128 = ap (λ

@@ -25,7 +25,6 @@ use Rattle.sdd_domain_invariant.specs.Slots.{items_at, waits_in}
 use Rattle.sdd_domain_invariant.specs.Slots.SlotSteps.{retired_now, retired, one_less, noted, without}
 use Rattle.sdd_rights.specs.Views.{owner_of}
 use Rattle.sdd_domain_invariant.proofs.Sums.{is_other, total_snoc}
-use Rattle.sdd_atomics.specs.declared.domain_table.DomainTable.{DomainTable}
 use Rattle.sdd_shared_values.specs.CarriedFractions.{OnlyLends}
 use Rattle.sdd_shared_values.specs.SharedValues.{IsNoValueCode}
 use Rattle.sdd_rights.specs.declared.views.Sizes.{Sizes}
@@ -33,7 +32,7 @@ use Rattle.sdd_domain_invariant.specs.Fractions.FractionsAtHome.{CarriedFraction
 use Rattle.sdd_domain_invariant.specs.Slots.Records.{slot_shown, IsIn}
 use Rattle.sdd_domain_invariant.proofs.Slots.Records.{in_head, in_either, in_times}
 use Rattle.sdd_domain_invariant.specs.Fractions.FractionSteps.{SeatState, IsValue, SeesOwned, LearnsOwned, regained, undrawing, remembering, resting, with_made, untold}
-use Rattle.sdd_atomics.specs.DomainTable.{gamma_of, places_of, slots_of, most_waiting_of}
+use Rattle.sdd_atomics.specs.TableFacts.{TableFacts, gamma_of, places_of, slots_of, most_waiting_of}
 use Rattle.sdd_atomics.specs.DomainSeat.{view, epoch, slots, Taught, Moved, MovedAlone}
 use Rattle.sdd_atomics.specs.Owner.{disowned}
 use Rattle.sdd_domain_steps.specs.SeenSlots.{IsOnce}
@@ -59,7 +58,7 @@ waiting_too slot shared value y count v = record v {
   words = noted slot y v;
 }
 
-module _ (b : DomainTable) (p : ℕ) where
+module _ (b : TableFacts) (p : ℕ) where
   pub has_place : (own : Participant) (s : Seat ValueFraction View) → IsBetweenCalls b p own s → HasPlace (epoch s)
   has_place own s q = dite (dec_lt 0 own.guards) (λ some_open. let e = q.opened some_open in omega arith)
       (λ none. let e = q.closed (omega arith) in omega arith)

@@ -1,4 +1,6 @@
 -- An owner goes into a cell and another one comes out: what is known between the steps, and after them
+use Rattle.sdd_atomics.specs.SeatAtTable.{DomainSeat, facts_at}
+use Rattle.sdd_atomics.proofs.Sitting.{same_facts}
 use Rattle.std.proofs.Common.{◌≡◌, ℕ, ◌<◌, Bool, [], ◌∷◌, List, None, Some, Option, sym, refl, ap, ◌∙◌, subst, ⊎_elim}
 use base.Stored.{Gv}
 use Rattle.atomic_table.specs.declared.shared.Seat.{Seat}
@@ -6,7 +8,6 @@ use Rattle.sdd_shared_values.specs.SharedValues.{IsValueCode}
 use Rattle.sdd_shared_values.specs.declared.value_fraction.ValueFraction.{ValueFraction}
 use Rattle.sdd_rights.specs.declared.views.ShownValue.{ShownValue}
 use Rattle.sdd_rights.specs.declared.views.View.{View}
-use Rattle.sdd_rights.specs.declared.views.Sizes.{Sizes}
 use Rattle.sdd_rights.specs.declared.views.CellsView.{CellsView}
 use Rattle.sdd_rights.specs.Views.{right_to, no_rights}
 use Rattle.sdd_rights.specs.Owner.{cell_kind}
@@ -18,11 +19,9 @@ use Rattle.sdd_domain_invariant.specs.Slots.FilledInvariant.{HasRecord}
 use Rattle.sdd_domain_invariant.specs.Cells.CellSteps.{BringsOut, righted}
 use Rattle.sdd_domain_invariant.proofs.Slots.FilledInvariant.{has_none}
 use Rattle.sdd_domain_invariant.proofs.Slots.KindSteps.{has_first}
-use Rattle.sdd_atomics.specs.declared.domain_table.DomainTable.{DomainTable}
-use Rattle.sdd_atomics.specs.DomainTable.{sizes_of}
+use Rattle.sdd_atomics.specs.TableFacts.{TableFacts, sizes_of}
 use Rattle.sdd_domain_steps.specs.declared.cells.values.LooseOwner.{LooseOwner}
-use Rattle.sdd_domain_steps.specs.Cells.{AreLoose, HasHeld, holding, slots_in, told_of}
-use Rattle.sdd_domain_steps.specs.InPlace.{IsBare}
+use Rattle.sdd_domain_steps.specs.Cells.{AreLoose, HasHeld, holding, told_of}
 
 -- the first slot and the first record of a list
 abbrev first_slot : ℕ → List ℕ → ℕ
@@ -66,8 +65,16 @@ pub rights_now : (cell : ℕ) (shared : Bool) (s a r : Seat ValueFraction View) 
 rights_now cell shared s a r rights same took = ap (λ (v : View). v.cells.rights) took
     ∙ ap (λ (c : CellsView). record { cell = cell; kind = cell_kind shared } ∷ c.rights) (ap (λ (m : SeatState). m.0.cells) same ∙ rights)
 
+-- an owner of an item of the seat's table is one still where the seat knows what it knew
+pub loose_at : (s t : DomainSeat) (shared : Bool) (new : Option LooseOwner) → t.table_id ≡ s.table_id → t.me ≡ s.me → AreLoose (facts_at s) shared new
+    → AreLoose (facts_at t) shared new
+loose_at s t shared new home same = subst (λ (b : TableFacts). AreLoose b shared new) (sym (same_facts s t home (
+  ap (λ (m : SeatState). m.0.sizes) same,
+  ap (λ (m : SeatState). m.0.fractions.gamma) same,
+)))
+
 -- the owner that was taken up, of a domain whose table is this
-module _ (b : DomainTable) (v : View) (knows : v.sizes ≡ sizes_of b) (shared : Bool) where
+module _ (b : TableFacts) (v : View) (knows : v.sizes ≡ sizes_of b) (shared : Bool) where
   pub new_kind : (new : Option LooseOwner) (r : ShownValue) → HasRecord (told_of shared new) r → r.shared ≡ shared
   new_kind None r has = absurd (has_none r [] refl has)
   new_kind (Some o) r has = let first : ShownValue = record { slot = o.slot; shared = shared; value = o.read_fraction.shown } in

@@ -18,17 +18,15 @@ use Rattle.sdd_domain_invariant.specs.Epoch.{HasPlace, IsLone}
 use Rattle.sdd_domain_invariant.specs.Slots.{Holds}
 use Rattle.sdd_domain_invariant.specs.Slots.SlotSteps.{Knew, noted, one_less}
 use Rattle.sdd_domain_invariant.specs.Slots.FilledInvariant.{HasRecord}
-use Rattle.sdd_domain_invariant.specs.Slots.Records.{IsIn}
 use Rattle.sdd_domain_invariant.specs.Fractions.FractionSteps.{SeatState, DrawsUnit, EntersUnit, LeavesOne, departing, drawing, parting, regained, undrawing, untold}
-use Rattle.sdd_atomics.specs.declared.domain_table.DomainTable.{DomainTable}
-use Rattle.sdd_atomics.specs.DomainTable.{gamma_of}
+use Rattle.sdd_atomics.specs.TableFacts.{TableFacts, gamma_of}
 use Rattle.sdd_atomics.specs.DomainSeat.{Knows, Moved, MovedAlone, Taught, epoch, slots, view}
 use Rattle.sdd_atomics.specs.ReadFractions.{IsReadFractionOf}
 use Rattle.sdd_atomics.specs.Owner.{IsCutOff}
 use Rattle.sdd_domain_steps.specs.Claims.{IsUnmoved}
 use Rattle.sdd_domain_steps.specs.InPlace.{IsBare, IsGoneBeside}
 
-module _ (b : DomainTable) (slot : ℕ) (value : Gv) (s t e : Seat ValueFraction View) (bare : IsBare (view s))
+module _ (b : TableFacts) (slot : ℕ) (value : Gv) (s t e : Seat ValueFraction View) (bare : IsBare (view s))
     (took : Taught (λ v _ w. w ≡ regained v (owner_of slot true value)) s 0 t) (entered : MovedAlone EntersUnit t e) where
   -- the owner was taken in, and its unit is in the bank
   abbrev within : View → View

@@ -2,6 +2,7 @@
 use Rattle.std.proofs.Common.{◌≡◌, inl, inr, ⊎_elim, arith, ◌<◌, ℕ, Bool, List, [], ◌∷◌, None, Some, Option, sym, refl, ap, ◌∙◌, subst}
 use Rattle.std.specs.Prelude.{option_map, slice_get, slice_index}
 use base.Stored.{Gv}
+use Rattle.sdd_atomics.specs.TableFacts.{TableFacts}
 use Rattle.sdd_core.specs.declared.tag.Tag.{Tag}
 use Rattle.sdd_core.specs.declared.refused.Refused.{Refused}
 use Rattle.sdd_core.specs.declared.refused.Refused.TheVariants.{NoCell, Contended}
@@ -16,7 +17,6 @@ use Rattle.sdd_witness.specs.declared.witness.Witness.{Witness}
 use Rattle.atomic_table.specs.Seated.{TableId}
 use Rattle.sdd_world_model.specs.Cells.{cell_with, slot_held}
 use Rattle.sdd_rights.specs.declared.views.ShownValue.{ShownValue}
-use Rattle.sdd_atomics.specs.declared.domain_table.DomainTable.{DomainTable}
 use Rattle.sdd_domain_invariant.specs.Codes.{held_slots}
 use Rattle.sdd_domain_invariant.proofs.Codes.{held_which}
 use Rattle.sdd_domain_steps.specs.declared.cells.values.LooseOwner.{LooseOwner}
@@ -54,18 +54,18 @@ slots_are None = refl
 slots_are (Some o) = refl
 
 -- the slot of an owner's right is the owner's
-pub slot_bound : (b : DomainTable) (kind : StandingKind) (held : Option Right) (new : Option LooseOwner) → IsBoundTo b kind held new
+pub slot_bound : (b : TableFacts) (kind : StandingKind) (held : Option Right) (new : Option LooseOwner) → IsBoundTo b kind held new
     → slot_held held ≡ slot_of new
 slot_bound b kind held new is = sym (listed_first (slot_held held) (listed (slot_held held)) refl)
     ∙ (ap (λ (ys : List ℕ). slice_get ys 0) (is.slots ∙ slots_are new) ∙ listed_first (slot_of new) (listed (slot_of new)) refl)
 
 -- so the word that is made for the owner is that of a cell with its right
-pub word_bound : (b : DomainTable) (kind : StandingKind) (held : Option Right) (new : Option LooseOwner) (tag : Tag) (word : ℕ) → IsBoundTo b kind held new
+pub word_bound : (b : TableFacts) (kind : StandingKind) (held : Option Right) (new : Option LooseOwner) (tag : Tag) (word : ℕ) → IsBoundTo b kind held new
     → contents_of word ≡ record { held = slot_of new; tag = tag } → contents_of word ≡ cell_with held tag
 word_bound b kind held new tag word is made = made ∙ (λ d. record { held = sym (slot_bound b kind held new is) d; tag = tag })
 
 -- and a cell that has this word holds what came out of it
-pub found_bound : (b : DomainTable) (kind : StandingKind) (out : Option Right) (loose : Option LooseOwner) (found : ℕ) (tag : Tag) → IsBoundTo b kind out loose
+pub found_bound : (b : TableFacts) (kind : StandingKind) (out : Option Right) (loose : Option LooseOwner) (found : ℕ) (tag : Tag) → IsBoundTo b kind out loose
     → slots_in loose ≡ held_slots found → tag ≡ tag_by (Rattle.std.specs.Prelude.◌%◌ found 4) → contents_of found ≡ cell_with out tag
 found_bound b kind out loose found tag is slots tagged =
     λ d. record { held = listed_first (slot_held out) (held_slots found) (is.slots ∙ slots) d; tag = sym tagged d }
@@ -80,7 +80,7 @@ cell_views table right kind w cell home of_kind by is = (by (
 )).right ∙ (λ d. witness_of_cell (sym is d) (cell_kind (is_shared (of_kind d))))
 
 -- a right that was made anew of an owner of the same item, which shows the same, is the same
-pub same_bound : (b : DomainTable) (kind : StandingKind) (shared : Bool) (held back : Option Right) (new loose : Option LooseOwner)
+pub same_bound : (b : TableFacts) (kind : StandingKind) (shared : Bool) (held back : Option Right) (new loose : Option LooseOwner)
     → IsBoundTo b kind held new → IsBoundTo b kind back loose → AreLoose b shared new → AreLoose b shared loose
     → slots_in loose ≡ slots_in new → told_of shared loose ≡ told_of shared new → back ≡ held
 same_bound b kind shared None None new loose a c l m slots told = refl

@@ -1,4 +1,5 @@
 -- What is known while the slot of an owner that was taken in is held, once that was let go of, and once its value was moved
+use Rattle.sdd_atomics.specs.SeatAtTable.{DomainSeat}
 use Rattle.std.proofs.Common.{◌≡◌, ℕ, not, List, [], ◌∷◌, eq-eqb, refl, sym, ap, ◌∙◌, subst, ⊎_elim}
 use Rattle.std.specs.Prelude.{Bool, true, false, None, slice_set}
 use Rattle.std.proofs.lemmas.List.{set-set}
@@ -24,8 +25,7 @@ use Rattle.sdd_domain_invariant.specs.Slots.Records.{IsIn}
 use Rattle.sdd_domain_invariant.proofs.Slots.Records.{in_either, in_none}
 use Rattle.sdd_domain_invariant.specs.Fractions.FractionsAtHome.{CarriedFractions, spare}
 use Rattle.sdd_domain_invariant.specs.Fractions.FractionSteps.{CarriesAll, parting, departing, drawing, moving, untold, undrawing, dropping, regained, resting, telling}
-use Rattle.sdd_atomics.specs.declared.domain_table.DomainTable.{DomainTable}
-use Rattle.sdd_atomics.specs.DomainTable.{gamma_of, places_of}
+use Rattle.sdd_atomics.specs.TableFacts.{TableFacts, gamma_of, places_of}
 use Rattle.sdd_atomics.specs.DomainSeat.{Knows, Taught, view, epoch, slots}
 use Rattle.sdd_atomics.specs.Owner.{IsCutOff}
 use Rattle.sdd_domain_steps.specs.Claims.{IsUnmoved}
@@ -122,14 +122,14 @@ only_record slot shared value r told = ⊎_elim (λ (e : only slot shared value 
     (λ (none : HasRecord [] r). absurd (has_none r [] refl none)) (has_first (only slot shared value) [] r told)
 
 -- the seat that knows the table, with all fractions in the slot out
-pub row_known : (b : DomainTable) (slot : ℕ) (s : Seat ValueFraction View) (xs : CarriedFractions) → Knows b s → (Is : Gv → Type 0)
+pub row_known : (b : TableFacts) (slot : ℕ) (s : Seat ValueFraction View) (xs : CarriedFractions) → Knows b s → (Is : Gv → Type 0)
     → CarriesAll s.me.0.fractions.gamma slot s.me.0.sizes.participants (spare s.me.0.sizes.participants) Is s.me.1 xs
     → CarriesAll (gamma_of b) slot (places_of b) (spare (places_of b)) Is s.me.1 xs
 row_known b slot s xs knows Is row = subst (λ (k : ℕ × Sizes). CarriesAll k.0 slot k.1.participants (spare k.1.participants) Is s.me.1 xs)
     (λ d. (knows.1 d, knows.0 d)) row
 
 -- the seat after the owner was taken in, and where its slot is not held, as there are others
-module _ (b : DomainTable) (slot : ℕ) (shared : Bool) (value : Gv) (s t h w : Seat ValueFraction View)
+module _ (b : TableFacts) (slot : ℕ) (shared : Bool) (value : Gv) (s t h w : Seat ValueFraction View)
     (took : Taught (λ v _ w. w ≡ regained v (owner_of slot shared value)) s 0 t) (stays : Taught (λ v _ w. w ≡ v) t 0 h) (bare : IsBare (view s)) where
   pub taken_view : view h ≡ regained (view s) (owner_of slot shared value)
   taken_view = stays.3 ∙ took.3
@@ -153,7 +153,7 @@ module _ (b : DomainTable) (slot : ℕ) (shared : Bool) (value : Gv) (s t h w : 
   )
 
 -- the seat after the owner was taken in and the slot was held, and after a look at each place
-module _ (b : DomainTable) (slot : ℕ) (shared : Bool) (value : Gv) (s t h : Seat ValueFraction View)
+module _ (b : TableFacts) (slot : ℕ) (shared : Bool) (value : Gv) (s t h : Seat ValueFraction View)
     (took : Taught (λ v _ w. w ≡ regained v (owner_of slot shared value)) s 0 t) (grasps : Taught (λ v _ w. w ≡ grasped shared slot v) t 0 h)
     (knew : KnewUnique slot shared (view t)) where
   pub held_view : view h ≡ grasped shared slot (regained (view s) (owner_of slot shared value))
@@ -203,8 +203,14 @@ module _ (b : DomainTable) (slot : ℕ) (shared : Bool) (value : Gv) (s t h : Se
       )
 
 -- an owner's read fraction is one whatever it is told to show
-pub one_read_fraction : (b : DomainTable) (slot : ℕ) (shared : Bool) (value other : Gv) (views : List Gv) (read_fraction : ReadFraction)
+pub one_read_fraction : (b : TableFacts) (slot : ℕ) (shared : Bool) (value other : Gv) (views : List Gv) (read_fraction : ReadFraction)
     → views ≡ witness_of_owner slot shared value → IsReadFractionOf (gamma_of b) slot value read_fraction → views ≡ witness_of_owner slot shared other
     → IsReadFractionOf (gamma_of b) slot other read_fraction
 one_read_fraction b slot shared value other views read_fraction is of_value told =
     subst (λ (x : Gv). IsReadFractionOf (gamma_of b) slot x read_fraction) (one-shown slot shared value other (sym is ∙ told)) of_value
+
+-- it is one of the same seat's table
+pub read_at : (s t : DomainSeat) → t ≡ s → (slot : ℕ) (value : Gv) (read_fraction : ReadFraction)
+    → IsReadFractionOf t.me.0.fractions.gamma slot value read_fraction
+    → IsReadFractionOf s.me.0.fractions.gamma slot value read_fraction
+read_at s t same slot value read_fraction = subst (λ (q : DomainSeat). IsReadFractionOf q.me.0.fractions.gamma slot value read_fraction) same

@@ -1,5 +1,5 @@
 -- What is in the bags and what is due, beside what is known to wait, over each step on what waits
-use Rattle.std.proofs.Common.{◌≡◌, ◌≢◌, ◌⊎◌, ℕ, suc, ◌+◌, ◌<◌, ◌≤◌, ◌==◌, not, List, [], ◌∷◌, ◌++◌, Option, Some, None, map, filter, length, sym, refl, ap, ◌∙◌, subst, inl, inr, ⊎_elim, eq-eqb, ne_eqb, arith}
+use Rattle.std.proofs.Common.{◌≡◌, ◌≢◌, ℕ, suc, ◌+◌, ◌<◌, ◌≤◌, ◌==◌, not, List, [], ◌∷◌, ◌++◌, Option, Some, None, map, filter, length, sym, refl, ap, ◌∙◌, subst, eq-eqb, ne_eqb, arith}
 use Rattle.std.proofs.lemmas.Bool.{true≢false}
 use Rattle.std.proofs.lemmas.List.{length-map}
 use mathlib.Core.Bool.{Bool, true, false, cond}
@@ -24,7 +24,7 @@ use Rattle.sdd_domain_invariant.proofs.Sums.{is_same, is_other, total_has, total
 use Rattle.sdd_domain_invariant.proofs.Slots.WaitingCounts.{few}
 use Rattle.sdd_domain_steps.specs.InBags.{Kept, Plainly, Privately, AreInBags, KnownWaiting, item_of, plain_of, private_of, is_closed, is_out, kept_in, out_of}
 use Rattle.sdd_domain_steps.specs.WaitingItems.{what_of, number_in, waiting_of, is_ripe}
-use Rattle.sdd_domain_steps.proofs.KeptLists.{total_fewer, total_le, some_part, total_of_one, filter_alike, filter_both, filter_mapped, filter_true, same_snoc, same_filter, same_map, plain_snoc, private_snoc, items_snoc, older_kept, plain_older, private_older, items_older, left_kept, plain_left, private_left, items_left, counts, for_it, kept_for, items_for, plain_for, private_for, for_none, kept_plainly, items_plainly, private_plainly, plain_plainly}
+use Rattle.sdd_domain_steps.proofs.KeptLists.{total_fewer, total_le, some_part, total_of_one, filter_alike, filter_mapped, same_snoc, same_filter, same_map, plain_snoc, private_snoc, items_snoc, older_kept, plain_older, private_older, items_older, left_kept, plain_left, private_left, items_left, counts, for_it, kept_for, items_for, plain_for, private_for, for_none, kept_plainly, items_plainly, private_plainly, plain_plainly}
 use Rattle.sdd_domain_steps.proofs.Reclaims.{aged_alike, left_alike, due_alike, all_left, due_by, kept_has, none_passes, first_is_due, first_goes, item_inside, what_item}
 use Rattle.sdd_domain_steps.proofs.DueItems.{fewer, filter_past, filter_snoc, map_snoc}
 

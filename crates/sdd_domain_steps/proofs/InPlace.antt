@@ -23,23 +23,21 @@ use Rattle.sdd_rights.specs.declared.views.Sizes.{Sizes}
 use Rattle.sdd_domain_invariant.specs.Codes.{alive, claimed_word, counted}
 use Rattle.sdd_domain_invariant.specs.Epoch.{HasPlace, IsOpen, IsLone as IsLoneAt}
 use Rattle.sdd_domain_invariant.specs.Slots.{Holds}
-use Rattle.sdd_domain_invariant.specs.Slots.SlotSteps.{Knew, behind, discarded}
-use Rattle.sdd_domain_invariant.specs.Fractions.FractionSteps.{dropping, moving, undrawing, untold}
+use Rattle.sdd_domain_invariant.specs.Slots.SlotSteps.{Knew, behind}
 use Rattle.sdd_domain_invariant.specs.Slots.Records.{IsIn}
 use Rattle.sdd_domain_invariant.proofs.Slots.Records.{in_either, in_none}
-use Rattle.sdd_atomics.specs.declared.domain_table.DomainTable.{DomainTable}
-use Rattle.sdd_atomics.specs.DomainTable.{id_of, gamma_of, places_of, slots_of}
+use Rattle.sdd_atomics.specs.TableFacts.{TableFacts, id_of, gamma_of, places_of, slots_of}
 use Rattle.sdd_atomics.specs.DomainSeat.{Knows, epoch, slots, view}
 use Rattle.sdd_domain_steps.specs.BetweenCalls.{IsBetweenCalls}
 use Rattle.sdd_domain_steps.specs.Claims.{IsUnmoved}
 use Rattle.sdd_domain_steps.specs.declared.slots.holding.Hindrance.{Hindrance}
 use Rattle.sdd_domain_steps.specs.declared.slots.holding.Hindrance.TheVariants.{Others, Guarded}
-use Rattle.sdd_domain_steps.specs.InPlace.{IsBare, IsHeldBy, IsHindered, IsLetGoOf, KnewUnique, refused_by, with_dropped}
+use Rattle.sdd_domain_steps.specs.InPlace.{IsBare, IsHeldBy, IsHindered, IsLetGoOf, KnewUnique, refused_by}
 use Rattle.sdd_domain_steps.specs.GoesInPlace.{StaysBeside, changed_by}
 use Rattle.sdd_domain_steps.specs.Items.{HasValue, slots_home}
 use Rattle.sdd_domain_steps.specs.LocalState.{LocalState, IsLone, HasOpenGuard, KnowsUnique, HasOthers, SeesGuard, GoesBeside, unique_words, with_unique, word_of}
 use Rattle.sdd_domain_steps.specs.Values.{with_filled}
-use Rattle.sdd_domain_steps.proofs.HeldSlots.{changed_view, dropped_view}
+use Rattle.sdd_domain_steps.proofs.HeldSlots.{changed_view}
 use Rattle.sdd_domain_steps.proofs.SameHome.{IsOn}
 use Rattle.sdd_domain_steps.proofs.LocalLooks.{has_tables, with_seat, with_view}
 use Rattle.sdd_domain_steps.proofs.BetweenCalls.{has_place, between_calls_with}
@@ -49,7 +47,7 @@ pub unmoved_same : (s t : Seat ValueFraction View) → IsUnmoved s t → t ≡ s
 unmoved_same s t e = λ d. record t { table_id = e.table d; id = e.number d; me = (e.view d, e.others d) }
 
 -- an owner of this kind, whose right is to a slot of the participant's domain
-module _ {J : Type 0} (b : DomainTable) (m : LocalState J) (on : IsOn b m) (right : Right) (kind : StandingKind) (home : home_of right ≡ slots_home m)
+module _ {J : Type 0} (b : TableFacts) (m : LocalState J) (on : IsOn b m) (right : Right) (kind : StandingKind) (home : home_of right ≡ slots_home m)
     (of_kind : kind_of right ≡ kind) (w : Witness) (read_fraction : ReadFraction)
     (by : AreSlotsOfTable (home_of right) → IsOwnerBy (home_of right) (number_of right) (is_shared (kind_of right)) w read_fraction)
     (slot : ℕ) (is : slot ≡ number_of right) where
@@ -96,7 +94,7 @@ module _ {J : Type 0} (b : DomainTable) (m : LocalState J) (on : IsOn b m) (righ
       home' ∙ (λ d. home_of_table ((table ∙ sym on.home) d) ((gamma ∙ sym on.gamma) d) (sized d))
 
 -- the participant's seat before, and once the owner was taken in and its slot is held
-module _ (b : DomainTable) (p : ℕ) (own : Participant) (t : Seat ValueFraction View) (q : IsBetweenCalls b p own t) where
+module _ (b : TableFacts) (p : ℕ) (own : Participant) (t : Seat ValueFraction View) (q : IsBetweenCalls b p own t) where
   pub bare : IsBare (view t)
   bare = record { quiet = q.quiet; untold = q.seen.owns; rests = q.rests }
 

@@ -1,5 +1,5 @@
 -- What is marked once one more is
-use Rattle.std.proofs.Common.{◌≡◌, ℕ, ◌<◌, Some, None, length, sym, refl, ap, ◌∙◌, subst, arith, get_or-set_other, get_or-set_same, length-set}
+use Rattle.std.proofs.Common.{ℕ, ◌<◌, Some, None, length, sym, refl, subst, get_or-set_other, get_or-set_same}
 use Rattle.std.specs.Prelude.{Bool, Option, IsSome, slice_set}
 use mathlib.Core.Logic.{dite}
 use native.Mathlib.Decide.{ℕ_discrete}

@@ -11,8 +11,7 @@ use Rattle.sdd_domain_invariant.specs.Slots.SlotSteps.{first, others}
 use Rattle.sdd_rights.specs.Views.{owner_of, owner_seat, at_rest}
 use Rattle.sdd_domain_invariant.specs.Fractions.FractionsAtHome.{CarriedFractions, Moves, spare}
 use Rattle.sdd_domain_invariant.specs.Fractions.FractionSteps.{CarriesAll, IsValue, FillsSlot, parting, departing, resting, telling, drawing}
-use Rattle.sdd_atomics.specs.declared.domain_table.DomainTable.{DomainTable}
-use Rattle.sdd_atomics.specs.DomainTable.{gamma_of, places_of}
+use Rattle.sdd_atomics.specs.TableFacts.{TableFacts, gamma_of, places_of}
 use Rattle.sdd_atomics.specs.Owner.{disowned}
 use Rattle.sdd_atomics.specs.DomainSeat.{view, Knows, MovedAlone}
 use Rattle.sdd_domain_steps.specs.Values.{with_filled}
@@ -38,7 +37,7 @@ pub record IsFurnished (n slot : ℕ) (shared : Bool) (value : Gv) (s t : Seat V
   pub given : t.me.1 ≡ drop (suc n) s.me.1
 
 -- so it is after the value was moved in, all units but those of the fractions were cut off, and the step that tells of it
-module _ (b : DomainTable) (slot count : ℕ) (shared : Bool) (value : Gv) (s p c t : Seat ValueFraction View) (knows : Knows b s) (all : count ≡ places_of b + 1)
+module _ (b : TableFacts) (slot count : ℕ) (shared : Bool) (value : Gv) (s p c t : Seat ValueFraction View) (knows : Knows b s) (all : count ≡ places_of b + 1)
     (moves : Moves (view s) slot)
     (rest : CarriedFractions) (row : CarriesAll (gamma_of b) slot (places_of b) 0 IsNoValueCode rest s.me.1) (a : ℕ) (full : IsValueCode value)
     (put : p ≡ record s { me = (s.me.0, all_turned a value count s.me.1) }) where

@@ -18,8 +18,7 @@ use Rattle.sdd_domain_invariant.specs.Epoch.{IsLone}
 use Rattle.sdd_domain_invariant.specs.Fractions.FractionsAtHome.{CarriedFractions}
 use Rattle.sdd_domain_invariant.specs.Fractions.FractionSteps.{SeatState, CarriesAll, giving, moving, with_gone}
 use Rattle.sdd_domain_invariant.specs.Collectors.CollectorSteps.{LeavesOneToClose, ReclaimsOne, EmptiesOwnOne, EmptiedOne, GivesOneEmptyBack, GivesOneOwnBack}
-use Rattle.sdd_atomics.specs.declared.domain_table.DomainTable.{DomainTable}
-use Rattle.sdd_atomics.specs.DomainTable.{gamma_of, places_of}
+use Rattle.sdd_atomics.specs.TableFacts.{TableFacts, gamma_of, places_of}
 use Rattle.sdd_atomics.specs.DomainSeat.{Knows, Moved}
 use Rattle.sdd_domain_steps.specs.Values.{WasFilled}
 use Rattle.sdd_domain_steps.proofs.MovedValues.{rest_out}
@@ -172,7 +171,7 @@ module _ (collector slot x k : ℕ) (s t : Seat ValueFraction View) (is : k ≡ 
   }
 
 -- ---- it empties one, whose value was moved out
-module _ (b : DomainTable) (slot : ℕ) (s t u : Seat ValueFraction View) (knows : Knows b s) (rests : s.me.0.fractions.moves ≡ None)
+module _ (b : TableFacts) (slot : ℕ) (s t u : Seat ValueFraction View) (knows : Knows b s) (rests : s.me.0.fractions.moves ≡ None)
     (idle : s.me.0.slots.empties ≡ None) (claimed : t.me.0 ≡ empties_now slot emptying_word s.me.0) (same : t.me.1 ≡ s.me.1)
     (home : (u.table_id ≡ t.table_id) × (u.id ≡ t.id)) (moved : u.me.0 ≡ moving slot t.me.0)
     (row : CarriesAll (gamma_of b) slot (places_of b) 0 IsNoValueCode t.me.1 u.me.1) where

@@ -16,8 +16,7 @@ use Rattle.sdd_domain_invariant.specs.Slots.Records.{IsIn}
 use Rattle.sdd_domain_invariant.specs.Fractions.FractionSteps.{SeatState, DrawsUnit, parting, departing, drawing}
 use Rattle.sdd_domain_invariant.specs.Raw.RawSteps.{RegainsOne, regaining}
 use Rattle.sdd_rights.specs.Owner.{witness_of_owner}
-use Rattle.sdd_atomics.specs.declared.domain_table.DomainTable.{DomainTable}
-use Rattle.sdd_atomics.specs.DomainTable.{gamma_of}
+use Rattle.sdd_atomics.specs.TableFacts.{TableFacts, gamma_of}
 use Rattle.sdd_atomics.specs.DomainSeat.{view, slots, Knows, Moved, MovedAlone, Taught}
 use Rattle.sdd_atomics.specs.ReadFractions.{IsReadFractionOf}
 use Rattle.sdd_atomics.specs.Owner.{IsCutOff}
@@ -33,7 +32,7 @@ module _ (slot : ℕ) (value : Gv) (v : View) (told : v.fractions.owns ≡ []) w
   parted_view : parting (drawing slot (regaining slot 1 value v)) ≡ record v { words = noted slot 1 v }
   parted_view = λ d. record v { fractions = record v.fractions { owns = sym told d }; words = noted slot 1 v }
 
-module _ (b : DomainTable) (slot found : ℕ) (s r t : Seat ValueFraction View) (l : FractionContent) (knows : Knows b s)
+module _ (b : TableFacts) (slot found : ℕ) (s r t : Seat ValueFraction View) (l : FractionContent) (knows : Knows b s)
     (quiet : ((slots s).owns ≡ []) × ((slots s).drawn ≡ []) × ((slots s).holds ≡ None) × ((view s).fractions.owns ≡ []))
     (back : Moved (RegainsOne slot 2 1) s found r) (hit : found ≡ 2) (drawn : MovedAlone (λ me. DrawsUnit slot me l) r t) where
   -- what the slot shows, as the exchange told it

@@ -3,9 +3,9 @@ use Rattle.std.proofs.Common.{List, Option, None, Some, ◌≡◌, ◌⊎◌, in
 use Rattle.std.specs.Prelude.{Ok, IfSome, [], ◌∷◌}
 use base.Stored.{Gv}
 use Rattle.atomic_table.specs.declared.shared.Seat.{Seat}
+use Rattle.sdd_atomics.specs.TableFacts.{TableFacts}
 use Rattle.sdd_shared_values.specs.declared.value_fraction.ValueFraction.{ValueFraction}
 use Rattle.sdd_rights.specs.declared.views.View.{View}
-use Rattle.sdd_atomics.specs.declared.domain_table.DomainTable.{DomainTable}
 use Rattle.sdd_domain_invariant.specs.Slots.SlotSteps.{noted}
 use Rattle.sdd_domain_steps.specs.declared.cells.values.LooseOwner.{LooseOwner}
 use Rattle.sdd_rights.specs.declared.right.Right.{Right}
@@ -39,7 +39,7 @@ pub most_count : (x : ℕ) → shared_base + most_owners ≤ x → (counted x �
 most_count x many = let s = some_left x (omega arith) in let a = s.0 in (s.3, (omega arith))
 
 -- whether an owner came or not, what is known of words alone may be other
-pub ends_with : (b : DomainTable) (slot : ℕ) (came : Option LooseOwner) (s s' : Seat ValueFraction View) → Ends b slot (Ok came) s s'
+pub ends_with : (b : TableFacts) (slot : ℕ) (came : Option LooseOwner) (s s' : Seat ValueFraction View) → Ends b slot (Ok came) s s'
     → (words : List ℕ) × IsWith (record s.me.0 { words = words }) s s'
 ends_with b slot None s s' e = (s.me.0.words, e.0)
 ends_with b slot (Some o) s s' e = (noted slot (e.word + 1) s.me.0, e.after)
@@ -51,7 +51,7 @@ some_is x y e = cc
 head_is : (x y : ℕ) → x ∷ [] ≡ y ∷ [] → x ≡ y
 head_is x y e = cc
 
-module _ {J : Type 0} (m : LocalState J) (slot : ℕ) (b : DomainTable) (s s' : Seat ValueFraction View) (home : table_home b ≡ slots_home m)
+module _ {J : Type 0} (m : LocalState J) (slot : ℕ) (b : TableFacts) (s s' : Seat ValueFraction View) (home : table_home b ≡ slots_home m)
     (seen : m.shown ≡ s.me.0.fractions.sees) (filled : m.filled ≡ s.me.0.fractions.filled) (alone : IsAlone m → IsLone s.me.0.epoch) where
   pub came_right : (held : Option Right) (loose : Option LooseOwner) → Ends b slot (Ok loose) s s' → IsBoundTo b kinds.Shared held loose
       → IfSome held (λ right. (value : Gv) × IsRightTo m kinds.Shared value right × ShowsTo m slot value)

@@ -22,8 +22,7 @@ use Rattle.sdd_domain_invariant.specs.Fractions.FractionsAtHome.{CarriedFraction
 use Rattle.sdd_domain_invariant.specs.Slots.Records.{slot_shown}
 use Rattle.sdd_domain_invariant.specs.Fractions.FractionSteps.{CarriesSeen}
 use Rattle.sdd_domain_steps.specs.SeenSlots.{IsOnce}
-use Rattle.sdd_atomics.specs.declared.domain_table.DomainTable.{DomainTable}
-use Rattle.sdd_atomics.specs.DomainTable.{id_of, sizes_of, gamma_of, places_of, slots_of, most_waiting_of}
+use Rattle.sdd_atomics.specs.TableFacts.{TableFacts, id_of, sizes_of, gamma_of, places_of, slots_of, most_waiting_of}
 use Rattle.sdd_domain_steps.specs.DueItems.{Pending}
 use Rattle.sdd_domain_steps.specs.InBags.{AreInBags, KnownWaiting, TellsCollectors}
 use Rattle.sdd_atomics.specs.DomainSeat.{view, epoch, slots, Knows}
@@ -61,7 +60,7 @@ unfoldable pub AreLentTo : ℕ → CarriedFractions → Type 0
 AreLentTo t xs = AllFreeFor t (contents xs)
 
 -- the table, the place, what it keeps of its own, and its seat
-module _ (b : DomainTable) (p : ℕ) (own : Participant) (seat : Seat ValueFraction View) where
+module _ (b : TableFacts) (p : ℕ) (own : Participant) (seat : Seat ValueFraction View) where
   pub record IsBetweenCalls : Type 0 where
     pub home : seat.table_id ≡ id_of b
     pub carries : CarriesSeenOnly (gamma_of b) (places_of b) p (view seat).fractions.sees seat.me.1
@@ -95,7 +94,7 @@ pub record IsSectionOf (own : Participant) (share : Fraction SectionState) : Typ
 -- what is in the bags, and what was taken out of them and is due, is what its view knows to wait; there is room for as much as waits, and it looks for slots
 -- of the table; and the participant has a job exactly for each place where one waits with it, and a
 -- collector exactly for each slot whose item waits for that one
-pub record IsReady {J : Type 0} (b : DomainTable) (own : Participant) (pending : Pending) (known_slots : ℕ) (table : List (Option J))
+pub record IsReady {J : Type 0} (b : TableFacts) (own : Participant) (pending : Pending) (known_slots : ℕ) (table : List (Option J))
     (collectors : List (Option ℕ)) (known : KnownWaiting) : Type 0 where
   pub bags : AreInBags (slots_of b) known own.bags.waiting pending.items
   pub large : own.bags.room ≤ pending.room

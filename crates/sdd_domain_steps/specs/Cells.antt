@@ -21,8 +21,7 @@ use Rattle.sdd_domain_steps.specs.Local.{contents_of, pointer_by}
 use Rattle.sdd_core.specs.declared.tag.Tag.TheVariants.{None as Untagged}
 use Rattle.sdd_domain_invariant.specs.Codes.{alive, counted, held_slots, most_owners, null_word}
 use Rattle.sdd_domain_invariant.specs.Fractions.BankInvariant.{one_where}
-use Rattle.sdd_atomics.specs.declared.domain_table.DomainTable.{DomainTable}
-use Rattle.sdd_atomics.specs.DomainTable.{id_of, gamma_of, slots_of}
+use Rattle.sdd_atomics.specs.TableFacts.{TableFacts, id_of, gamma_of, slots_of}
 use Rattle.sdd_atomics.specs.ReadFractions.{IsUnitOf}
 use Rattle.sdd_core.specs.declared.refused.Refused.{Refused}
 use Rattle.sdd_core.specs.declared.refused.Refused.TheVariants.{NoSlot, NoCell, TooManyOwners, Contended}
@@ -231,13 +230,13 @@ told_of shared None = []
 told_of shared (Some o) = record { slot = o.slot; shared = shared; value = o.read_fraction.shown } ∷ []
 
 -- it is an owner of an item of this domain, one of several or not, with a unit of the place's number
-pub record IsLoose (b : DomainTable) (shared : Bool) (o : LooseOwner) : Type 0 where
+pub record IsLoose (b : TableFacts) (shared : Bool) (o : LooseOwner) : Type 0 where
   pub inside : o.slot < slots_of b
   pub table : o.owner.table_id ≡ id_of b
   pub views : o.owner.views ≡ witness_of_owner o.slot shared o.read_fraction.shown
   pub unit : IsUnitOf (gamma_of b) o.slot o.read_fraction
 
-abbrev pub AreLoose : DomainTable → Bool → Option LooseOwner → Type 0
+abbrev pub AreLoose : TableFacts → Bool → Option LooseOwner → Type 0
 AreLoose b shared held = IfSome held (IsLoose b shared)
 
 -- the participant has these owners, of which this is told
@@ -268,11 +267,11 @@ PutsDown s s' = IsWith (holding [] [] s.me.0) s s'
 
 -- ---- the right of an owner in hand
 -- the rights of a domain's owners are to the slots of its table
-abbrev pub table_home : DomainTable → GhostName
+abbrev pub table_home : TableFacts → GhostName
 table_home b = home_of_table (id_of b) (gamma_of b) (slots_of b)
 
 -- the owner of this right, or none, is this one, of the same kind of this table's
-pub record IsBoundTo (b : DomainTable) (kind : StandingKind) (held : Option Right) (loose : Option LooseOwner) : Type 0 where
+pub record IsBoundTo (b : TableFacts) (kind : StandingKind) (held : Option Right) (loose : Option LooseOwner) : Type 0 where
   pub home : MayHold (table_home b) kind held
   pub slots : listed (slot_held held) ≡ slots_in loose
   pub views : option_map views_of held ≡ option_map (λ (o : LooseOwner). o.owner.views) loose

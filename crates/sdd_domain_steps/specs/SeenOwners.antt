@@ -2,6 +2,7 @@
 use Rattle.std.specs.Prelude.{◌≡◌, ◌⊎◌, ℕ, ◌+◌, ◌<◌, ◌≤◌, true, Option, Some, None, Result, Ok, Err}
 use base.Stored.{Gv}
 use Rattle.atomic_table.specs.declared.shared.Seat.{Seat}
+use Rattle.sdd_atomics.specs.TableFacts.{TableFacts}
 use Rattle.sdd_shared_values.specs.declared.value_fraction.ValueFraction.{ValueFraction}
 use Rattle.sdd_rights.specs.declared.views.View.{View}
 use Rattle.sdd_domain_invariant.specs.Codes.{alive, counted, held_word, most_owners}
@@ -11,7 +12,6 @@ use Rattle.sdd_domain_invariant.specs.Slots.Records.{IsIn}
 use Rattle.sdd_domain_invariant.specs.Slots.FilledInvariant.{newest}
 use Rattle.sdd_domain_invariant.specs.Fractions.FractionSteps.{ShowsSeen}
 use Rattle.sdd_domain_invariant.specs.Slots.KindsInvariant.{written}
-use Rattle.sdd_atomics.specs.declared.domain_table.DomainTable.{DomainTable}
 use Rattle.sdd_core.specs.declared.refused.Refused.{Refused}
 use Rattle.sdd_core.specs.declared.refused.Refused.TheVariants.{TooManyOwners, Contended}
 use Rattle.sdd_domain_steps.specs.declared.cells.values.LooseOwner.{LooseOwner}
@@ -43,7 +43,7 @@ module _ {J : Type 0} (m : LocalState J) (slot : ℕ) where
 
 -- ---- the seat
 -- an owner came of the item of a slot, whose word was this
-pub record Comes (b : DomainTable) (slot : ℕ) (owner : LooseOwner) (s s' : Seat ValueFraction View) : Type 0 where
+pub record Comes (b : TableFacts) (slot : ℕ) (owner : LooseOwner) (s s' : Seat ValueFraction View) : Type 0 where
   pub word : ℕ
   pub counted : counted word ≡ 1
   pub left : 0 < alive word
@@ -55,14 +55,14 @@ pub record Comes (b : DomainTable) (slot : ℕ) (owner : LooseOwner) (s s' : Sea
   pub shows : ShowsSeen slot owner.read_fraction.shown s.me.0
 
 -- what a try came to
-abbrev pub Tries : DomainTable → ℕ → Tried → Seat ValueFraction View → Seat ValueFraction View → Type 0
+abbrev pub Tries : TableFacts → ℕ → Tried → Seat ValueFraction View → Seat ValueFraction View → Type 0
 Tries b slot (Came owner) s s' = Comes b slot owner s s'
 Tries b slot Gone s s' = IsWith s.me.0 s s' × (IsLone s.me.0.epoch → (counted (written s.me.0 slot) ≡ 0) ⊎ (alive (written s.me.0 slot) ≡ 0))
 Tries b slot Most s s' = IsWith s.me.0 s s' × (IsLone s.me.0.epoch → (counted (written s.me.0 slot) ≡ 1) × (most_owners ≤ alive (written s.me.0 slot)))
 Tries b slot Lost s s' = IsWith s.me.0 s s' × (IsLone s.me.0.epoch → written s.me.0 slot ≡ held_word)
 
 -- what so many tries came to
-abbrev pub Ends : DomainTable → ℕ → Result (Option LooseOwner) Refused → Seat ValueFraction View → Seat ValueFraction View → Type 0
+abbrev pub Ends : TableFacts → ℕ → Result (Option LooseOwner) Refused → Seat ValueFraction View → Seat ValueFraction View → Type 0
 Ends b slot (Ok None) s s' = Tries b slot Gone s s'
 Ends b slot (Ok (Some owner)) s s' = Comes b slot owner s s'
 Ends b slot (Err why) s s' = ((why ≡ TooManyOwners) × Tries b slot Most s s') ⊎ ((why ≡ Contended) × Tries b slot Lost s s')

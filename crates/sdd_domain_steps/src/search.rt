@@ -2,21 +2,20 @@
 ghost use Rattle.std.specs.Prelude.{◌≡◌, ◌-◌, ◌<◌, ◌≤◌, [], true, false, None, MatchOption, MatchResult, length, replicate};
 ghost use Rattle.sdd_rights.specs.Views.{no_rights};
 ghost use Rattle.sdd_domain_invariant.specs.Codes.{alive, held_slots};
-ghost use Rattle.sdd_domain_invariant.specs.Epoch.{HasPlace};
 ghost use Rattle.sdd_rights.specs.Owner.{witness_of_cell};
 ghost use Rattle.sdd_atomics.specs.Cells.{cells_of, FitsCell};
-ghost use Rattle.sdd_atomics.specs.DomainTable.{id_of, slots_of, most_waiting_of};
-ghost use Rattle.sdd_atomics.specs.DomainSeat.{view, epoch, slots, Knows};
+ghost use Rattle.sdd_atomics.specs.SeatAtTable.{id_of, slots_of, most_waiting_of, IsReady};
+ghost use Rattle.sdd_atomics.specs.DomainSeat.{view, slots};
 ghost use Rattle.sdd_domain_steps.specs.Cells.{Claims, MissesCells};
 ghost use Rattle.sdd_domain_steps.specs.Claims.{Defers, Gains, Misses, Loses};
 ghost use Rattle.sdd_domain_steps.specs.Sightings.{IsMarked, IsOver, SearchesOn};
 
 use crate::cells;
 use crate::sightings::Sightings;
+use sdd_atomics::SeatAtTable;
 use sdd_atomics::steps::cells::{FREE_CELL, look_in};
 use sdd_atomics::steps::jobs::{defer, look_at_place};
 use sdd_atomics::steps::slots::{FREE, claim, look};
-use sdd_atomics::{DomainSeat, DomainTable};
 use sdd_core::Refused;
 use sdd_rights::views::CellKind;
 use sdd_witness::Witness;
@@ -92,16 +91,12 @@ impl Search {
     /// `Contended` where the last exchange was lost that might be.
     pub fn slot(
         &mut self,
-        table: &DomainTable,
-        seat: &mut DomainSeat,
+        seat: &mut SeatAtTable<'_>,
         slot: u32,
         word: u64,
     ) -> Result<bool, Refused>
-        requires home { seat.old.table_id ≡ id_of table.now }
-        requires knows { Knows table.now seat.old }
-        requires rests { (view seat.old).fractions.moves ≡ None }
-        requires inside { slot < slots_of table.now }
-        requires place { HasPlace (epoch seat.old) }
+        requires inside { slot < slots_of seat.old }
+        requires ready { IsReady seat.old }
         requires one { alive word ≡ 1 }
         requires left { 0 < self.old.left }
         requires number { slot < length self.old.seen.taken }
@@ -113,11 +108,11 @@ impl Search {
             (λ won. (0 < self.new.left) × (won ≡ false → IsMarked self.new.seen.taken slot))
             (λ _. IsOver self.new) }
     {
-        if look(table, seat, slot) != FREE {
+        if look(seat, slot) != FREE {
             self.note(slot);
             return Ok(false);
         }
-        if claim(table, seat, slot, word) == FREE {
+        if claim(seat, slot, word) == FREE {
             return Ok(true);
         }
         self.note(slot);
@@ -128,17 +123,9 @@ impl Search {
     /// One try at a place of a job, which is claimed for one if it is found free. A place has the number behind those of the slots.
     ///
     /// `Contended` where the last exchange was lost that might be.
-    pub fn place(
-        &mut self,
-        table: &DomainTable,
-        seat: &mut DomainSeat,
-        place: u32,
-    ) -> Result<bool, Refused>
-        requires home { seat.old.table_id ≡ id_of table.now }
-        requires knows { Knows table.now seat.old }
-        requires rests { (view seat.old).fractions.moves ≡ None }
-        requires inside { (slots_of table.now ≤ place) × (place < most_waiting_of table.now) }
-        requires place { HasPlace (epoch seat.old) }
+    pub fn place(&mut self, seat: &mut SeatAtTable<'_>, place: u32) -> Result<bool, Refused>
+        requires inside { (slots_of seat.old ≤ place) × (place < most_waiting_of seat.old) }
+        requires ready { IsReady seat.old }
         requires left { 0 < self.old.left }
         requires number { place < length self.old.seen.taken }
         ensures tried { MatchResult result
@@ -149,11 +136,11 @@ impl Search {
             (λ won. (0 < self.new.left) × (won ≡ false → IsMarked self.new.seen.taken place))
             (λ _. IsOver self.new) }
     {
-        if look_at_place(table, seat, place) != FREE {
+        if look_at_place(seat, place) != FREE {
             self.note(place);
             return Ok(false);
         }
-        if defer(table, seat, place) == FREE {
+        if defer(seat, place) == FREE {
             return Ok(true);
         }
         self.note(place);
@@ -167,17 +154,13 @@ impl Search {
     /// `Contended` where the last exchange was lost that might be.
     pub fn cell(
         &mut self,
-        table: &DomainTable,
-        seat: &mut DomainSeat,
+        seat: &mut SeatAtTable<'_>,
         cell: u32,
         word: u64,
         kind: CellKind,
     ) -> Result<Option<Witness>, Refused>
-        requires home { seat.old.table_id ≡ id_of table.now }
-        requires knows { Knows table.now seat.old }
-        requires inside { cell < cells_of table.now }
-        requires place { HasPlace (epoch seat.old) }
-        requires rests { (view seat.old).fractions.moves ≡ None }
+        requires inside { cell < cells_of seat.old }
+        requires ready { IsReady seat.old }
         requires own { ((slots seat.old).owns ≡ held_slots word) × ((slots seat.old).holds ≡ None) × ((slots seat.old).drawn ≡ []) }
         requires fits { FitsCell kind word (view seat.old).fractions.owns }
         requires rights { (view seat.old).cells ≡ no_rights }
@@ -186,18 +169,18 @@ impl Search {
         requires number { cell < length self.old.seen.taken }
         ensures tried { MatchResult result
             (λ won. MatchOption won (MissesCells (λ k. k ≡ cell) seat.old seat.new) (λ right. Claims word cell seat.old seat.new
-            × (right.table_id ≡ id_of table.now) × (right.views ≡ witness_of_cell cell kind)))
+            × (right.table_id ≡ id_of seat.old) × (right.views ≡ witness_of_cell cell kind)))
             (λ e. (e ≡ Refused.Contended) × Loses seat.old seat.new) }
         ensures on { SearchesOn self.old self.new }
         ensures seen { MatchResult result
             (λ won. (0 < self.new.left) × (won ≡ None → IsMarked self.new.seen.taken cell))
             (λ _. IsOver self.new) }
     {
-        if look_in(table, seat, cell) != FREE_CELL {
+        if look_in(seat, cell) != FREE_CELL {
             self.note(cell);
             return Ok(None);
         }
-        if let Some(right) = cells::claims::claim(table, seat, cell, word, kind) {
+        if let Some(right) = cells::claims::claim(seat, cell, word, kind) {
             return Ok(Some(right));
         }
         self.note(cell);

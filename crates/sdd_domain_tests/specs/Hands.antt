@@ -1,40 +1,32 @@
 -- What a participant has in its hand that makes calls as they come
-use Rattle.std.specs.Prelude.{◌≡◌, All, List}
-use Rattle.sdd_rights.specs.Units as units
+use Rattle.std.specs.Prelude.{◌≡◌, All}
+use Rattle.sdd_space.specs.CallerId.{CallerId}
 use Rattle.sdd_space.specs.Collector as collector
-use Rattle.sdd_space.specs.Guard.{ReaderId, reader_of}
-use Rattle.sdd_space.specs.Owned as owned
+use Rattle.sdd_space.specs.Guard.{reader_of}
+use Rattle.sdd_space.specs.Owner.{slots_home, cells_home}
 use Rattle.sdd_space.specs.RawCell as raw_cell
-use Rattle.sdd_space.specs.Shared as shared
-use Rattle.sdd_space.specs.declared.atomic_owned.AtomicOwned.{AtomicOwned}
-use Rattle.sdd_space.specs.declared.atomic_raw.AtomicRaw.{AtomicRaw}
-use Rattle.sdd_space.specs.declared.atomic_shared.AtomicShared.{AtomicShared}
-use Rattle.sdd_space.specs.declared.guard.Guard.{Guard}
-use Rattle.sdd_space.specs.declared.owned.Owned.{Owned}
-use Rattle.sdd_space.specs.declared.private_collector.PrivateCollector.{PrivateCollector}
-use Rattle.sdd_space.specs.declared.shared.Shared.{Shared}
+use Rattle.sdd_space.specs.declared.ownership.Ownership.{Ghosts}
+use Rattle.sdd_domain_tests.specs.declared.hand.Hand.{Hand}
+use Rattle.sdd_domain_tests.specs.declared.hand.OwnersInHand.{OwnersInHand}
 
-module _ {T : Type 0} where
-  -- the owners are of these slots
-  abbrev pub AreOwnedIn : units.GhostName → List (Owned T) → Type 0
-  AreOwnedIn home = All (λ o. owned.slots_home o ≡ home)
+module _ {K : Type 0} {k : Ghosts K} where
+  -- the owners are of the caller's slots, and the cells are numbered where it is
+  pub record AreAtHome (caller : CallerId) (held : OwnersInHand K k) : Type 0 where
+    pub owners : All (λ o. slots_home o ≡ caller.home.slots) held.owners.items
+    pub cells : All (λ c. cells_home c ≡ caller.home.cells) held.cells.items
 
-  abbrev pub AreSharedIn : units.GhostName → List (Shared T) → Type 0
-  AreSharedIn home = All (λ o. shared.slots_home o ≡ home)
+  -- who calls, and what it has in hand of one kind of owners
+  unfoldable pub AreOwnersOf : CallerId → OwnersInHand K k → Type 0
+  AreOwnersOf = AreAtHome
 
-  -- the cells are numbered there
-  abbrev pub AreOwnedCellsIn : units.GhostName → List (AtomicOwned T) → Type 0
-  AreOwnedCellsIn home = All (λ c. owned.cells_home c ≡ home)
+-- all that is in hand is the caller's
+pub record AreAllOf (caller : CallerId) (hand : Hand) : Type 0 where
+  pub owned : AreOwnersOf caller hand.owned
+  pub shared : AreOwnersOf caller hand.shared
+  pub raw_cells : All (λ c. raw_cell.cells_home c ≡ caller.home.cells) hand.raw_cells.items
+  pub collectors : All (λ c. collector.cells_home c ≡ caller.home.cells) hand.collectors.items
+  pub guards : All (λ g. reader_of g ≡ caller.reader) hand.guards.items
 
-  abbrev pub AreSharedCellsIn : units.GhostName → List (AtomicShared T) → Type 0
-  AreSharedCellsIn home = All (λ c. shared.cells_home c ≡ home)
-
-  abbrev pub AreRawCellsIn : units.GhostName → List (AtomicRaw T) → Type 0
-  AreRawCellsIn home = All (λ c. raw_cell.cells_home c ≡ home)
-
-  abbrev pub AreCollectorsIn : units.GhostName → List (PrivateCollector T) → Type 0
-  AreCollectorsIn home = All (λ c. collector.cells_home c ≡ home)
-
--- the guards are this reader's
-abbrev pub AreGuardsOf : ReaderId → List Guard → Type 0
-AreGuardsOf reader = All (λ g. reader_of g ≡ reader)
+-- who calls, and what it has in hand
+unfoldable pub IsHandOf : CallerId → Hand → Type 0
+IsHandOf = AreAllOf

@@ -9,6 +9,7 @@ mod both_spaces;
 #[cfg(test)]
 mod drawn;
 mod few;
+mod hand;
 mod node;
 #[cfg(test)]
 mod owners;

@@ -1,6 +1,6 @@
 -- What a push and a pop answer that ask whether an entry is a number, as a step says it
 use Rattle.sdd_interpreter.proofs.Words.{◌≡◌, ◌⊎◌, inl, inr, ℕ, List, ◌∷◌, Bool, true, false, Option, Some, None, is_some, refl, sym, subst, false≢true, IsTrue, Result, Ok, Err, Bor, Refused, NoSlot, NoCell, IsOfSlots, World, Entry, first_value, left, cells_in, Queue, Stack, HasNumber, RefusesEntry, Val, Body, PushesIf, AnyList, DequeuesIf, IfSome, IsFull, Kept, MatchResult, PopsIf, last_value, slots_home, ◌↔◌}
-use Rattle.sdd_space.specs.declared.shared.Shared.{Shared}
+use Rattle.sdd_space.specs.Shared.{Shared}
 use Rattle.sdd_rights.specs.Units as units
 use Rattle.sdd_lists.specs.Asking.{kept_by}
 use Rattle.sdd_lists.specs.Lists.{IsKept}

@@ -1,7 +1,7 @@
 -- What comes out of a cell, as it is held, and its slot
 use Rattle.sdd_interpreter.proofs.Words.{◌≡◌, Option, Some, None, refl, ap, option_map, slot_of, Val, held_as}
-use Rattle.sdd_space.specs.declared.shared.Shared.{Shared}
-use Rattle.sdd_space.specs.declared.owned.Owned.{Owned}
+use Rattle.sdd_space.specs.Shared.{Shared}
+use Rattle.sdd_space.specs.Owned.{Owned}
 use Rattle.sdd_rights.specs.Units as units
 use Rattle.sdd_world_model.specs.OwnerOrCell as holding
 use Rattle.sdd_space.specs.Owned as owned

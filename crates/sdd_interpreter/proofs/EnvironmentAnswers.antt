@@ -1,7 +1,7 @@
 -- What the answers of a interpreter's functions take from its hand, and from what the hand becomes
 use Rattle.sdd_interpreter.proofs.Words.{◌≡◌, ℕ, ◌<◌, ◌∙◌, ap, false, length, map, refl, sym, List, Option, Some, None, IsSome, slice_index_or, slice_set, IsTrue, option_map, get_or-map, index_of, standing_at, Queue, Stack, Body, Val, AnyOwner, Sole, Share, NamedParticipant, Environment, open_since, owner_holding, cell_holding, collector_holding, oldest_holding, newest_holding, stack_holding, state_of, IsTied, AtomicShared, IsOf, OwnerOrCell, PrivateCollector, lives, name-given, none as no_call, set-get_or}
-use Rattle.sdd_space.specs.declared.shared.Shared.{Shared}
-use Rattle.sdd_space.specs.declared.owned.Owned.{Owned}
+use Rattle.sdd_space.specs.Shared.{Shared}
+use Rattle.sdd_space.specs.Owned.{Owned}
 use Rattle.sdd_space.specs.Owned as owned
 use Rattle.sdd_space.specs.Shared as shared
 use Rattle.sdd_interpreter.specs.declared.holding.AnyCell.{AnyCell}

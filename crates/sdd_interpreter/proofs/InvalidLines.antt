@@ -1,6 +1,6 @@
 -- What is not there: the lines that are invalid
 use Rattle.sdd_interpreter.proofs.Words.{◌≡◌, ◌≢◌, ℕ, Option, Some, None, slice_index_or, refl, sym, ap, ◌∙◌, option_map, get_or-map, false≢true, PlaceName, Val, AnyOwner, Sole, Share, Environment, NamedParticipant, ScriptState, opening_at, holding_at, since_of, since_in, Acts, IsParticipant, CanPointTo, open_since, owner_holding, state_of, Action, At, CanPointAt, IsShared, IsValid}
-use Rattle.sdd_space.specs.declared.shared.Shared.{Shared}
+use Rattle.sdd_space.specs.Shared.{Shared}
 use Rattle.sdd_script_text.specs.declared.answer.Reply.TheVariants as reply
 use Rattle.sdd_interpreter.proofs.Acts.{still}
 

@@ -1,6 +1,6 @@
 -- What a pop of a stack or a queue answers, as a step says it
 use Rattle.sdd_interpreter.proofs.Words.{ℕ, List, Option, Some, None, Bor, Result, Ok, Err, Refused, IsOfSlots, World, Entry, cells_in, cell_in, Queue, Stack, Val, link_of, Body, Dequeues, IfOk, Pops, PopsOff}
-use Rattle.sdd_space.specs.declared.shared.Shared.{Shared}
+use Rattle.sdd_space.specs.Shared.{Shared}
 use Rattle.sdd_core.specs.declared.tag.Tag.TheVariants.{None as no_tag}
 use Rattle.sdd_rights.specs.Units as units
 use Rattle.sdd_interpreter.specs.declared.holding.AnyList.TheVariants as any

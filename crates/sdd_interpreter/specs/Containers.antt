@@ -8,7 +8,7 @@ use Rattle.sdd_world_model.specs.Slots.{IsSharedBy}
 use Rattle.sdd_space.specs.Shared.{slot_of, slots_home}
 use Rattle.sdd_world_model.specs.World.{World, standing_at}
 use Rattle.sdd_world_model.specs.WorldChanges.{with_standing}
-use Rattle.sdd_space.specs.declared.shared.Shared.{Shared}
+use Rattle.sdd_space.specs.Shared.{Shared}
 use Rattle.sdd_lists.specs.Ends.{last_value}
 use Rattle.sdd_lists.specs.Lists.{Entry, first_value, left}
 use Rattle.sdd_lists.specs.Queue.{AreOfCells, IsQueue, cells_in}

@@ -7,7 +7,7 @@ ghost use Rattle.sdd_space.specs.Shared as shared;
 
 use sdd_lists::{Queue, Stack};
 use sdd_script_model::{Body, OwnerKind, Val};
-use sdd_space::inner::{slot_of_owner, slot_of_shared};
+use sdd_space::inner::slot_of_owner;
 use sdd_space::{AtomicOwned, AtomicShared, Owned, Shared};
 
 /// An owner of a script: an item's only one, or one of several.
@@ -46,7 +46,7 @@ pub fn slot_of_sole<T>(owner: &Owned<T>) -> u32
 pub fn slot_of_share<T>(owner: &Shared<T>) -> u32
     ensures { result ≡ shared.slot_of owner.now }
 {
-    slot_of_shared(owner).number()
+    slot_of_owner(owner).number()
 }
 
 impl AnyCell {

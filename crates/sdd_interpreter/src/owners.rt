@@ -7,6 +7,8 @@ ghost use Rattle.sdd_interpreter.specs.Owners.{owner_holding, filling_holding};
 ghost use Rattle.sdd_interpreter.specs.Environment.{FitsIn, Fills, IsMissing, BecomesBody, IsGiven, given_back, CanPutBack, owners_back};
 ghost use Rattle.sdd_script_model.specs.ScriptState.{slot_of};
 ghost use Rattle.sdd_script_model.specs.Val.{Val};
+ghost use Rattle.sdd_space.specs.Owned.{Owned};
+ghost use Rattle.sdd_space.specs.Shared.{AtomicShared, Shared};
 
 use crate::holding::{AnyCell, AnyOwner, CellOwner};
 use crate::name_table::NameTable;

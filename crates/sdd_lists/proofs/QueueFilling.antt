@@ -6,7 +6,7 @@ use Rattle.sdd_core.specs.declared.tag.Tag.TheVariants as tag
 use Rattle.sdd_world_model.specs.World.{World, standing_at}
 use Rattle.sdd_world_model.specs.WorldChanges.{owner_given}
 use Rattle.sdd_space.specs.Shared.{slot_of}
-use Rattle.sdd_space.specs.declared.shared.Shared.{Shared}
+use Rattle.sdd_space.specs.Shared.{Shared}
 use Rattle.sdd_lists.specs.declared.linked_entry.LinkedEntry.{LinkedEntry}
 use Rattle.sdd_lists.specs.Ends.{through_last}
 use Rattle.sdd_lists.specs.Entries.{link_of, value_of}

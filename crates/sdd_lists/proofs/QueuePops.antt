@@ -8,7 +8,7 @@ use Rattle.sdd_world_model.specs.World.{World, standing_at}
 use Rattle.sdd_participants.specs.declared.standing.CellContents.{CellContents}
 use Rattle.sdd_participants.specs.Slab.{Entries, entry_at}
 use Rattle.sdd_space.specs.Shared.{slot_of}
-use Rattle.sdd_space.specs.declared.shared.Shared.{Shared}
+use Rattle.sdd_space.specs.Shared.{Shared}
 use Rattle.sdd_world_model.specs.WorldChanges.{nulled, owner_given, spilled, with_cell, without_cell}
 use Rattle.sdd_world_model.specs.Slots.{IsSharedBy}
 use Rattle.sdd_participants.specs.declared.standing.Standing.{Standing}

@@ -1,7 +1,7 @@
 -- What calls answer that ask a condition first
 use Rattle.std.specs.Prelude.{Bool, true, is_some, Option, None, Some, Result, Ok, Err}
 use Rattle.sdd_core.specs.declared.refused.Refused.{Refused}
-use Rattle.sdd_space.specs.declared.shared.Shared.{Shared}
+use Rattle.sdd_space.specs.Shared.{Shared}
 use Rattle.sdd_lists.specs.declared.linked_entry.LinkedEntry.{LinkedEntry}
 use Rattle.sdd_lists.specs.declared.unpopped.Unpopped.{Unpopped}
 use Rattle.sdd_lists.specs.declared.unpopped.Unpopped.TheVariants.{Kept, Refused as RefusedBy}

@@ -8,7 +8,7 @@ use Rattle.sdd_participants.specs.declared.standing.Standing.TheVariants.{Shared
 use Rattle.sdd_world_model.specs.World.{World, standing_at, value_at}
 use Rattle.sdd_space.specs.Shared.{slot_of}
 use Rattle.sdd_world_model.specs.WorldChanges.{with_standing}
-use Rattle.sdd_space.specs.declared.shared.Shared.{Shared}
+use Rattle.sdd_space.specs.Shared.{Shared}
 use Rattle.sdd_world_model.specs.Slots.{IsSharedBy}
 use Rattle.sdd_lists.specs.Ends.{EndsWith}
 use Rattle.sdd_lists.specs.Lists.{Apart, Entry, IsCrowded, IsDrained, IsList, first_slot, left, linked_in, trimmed}

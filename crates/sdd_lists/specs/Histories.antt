@@ -2,7 +2,7 @@
 use Rattle.std.specs.Prelude.{ℕ, ◌+◌, ◌≡◌, List, [], ◌∷◌, ◌++◌, Option, length, map, reverse}
 use Rattle.sdd_core.specs.declared.tag.Tag.TheVariants as tag
 use Rattle.sdd_world_model.specs.World.{World}
-use Rattle.sdd_space.specs.declared.shared.Shared.{Shared}
+use Rattle.sdd_space.specs.Shared.{Shared}
 use Rattle.sdd_lists.specs.Ends.{through_last}
 use Rattle.sdd_lists.specs.Lists.{Entry, IsDrained, IsList, IsPushed, IsTaken, content, left}
 use Rattle.sdd_lists.specs.Queue.{IsCleared, IsDequeued, IsEnqueued, IsQueue, QueueCells}

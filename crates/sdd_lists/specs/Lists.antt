@@ -8,7 +8,7 @@ use Rattle.sdd_participants.specs.Slab.{IsEmptyAt, entry_at}
 use Rattle.sdd_space.specs.Shared.{slot_of}
 use Rattle.sdd_participants.specs.declared.standing.Standing.TheVariants.{Shared as shared_by}
 use Rattle.sdd_world_model.specs.WorldChanges.{made_as, owner_given, with_cell, with_standing}
-use Rattle.sdd_space.specs.declared.shared.Shared.{Shared}
+use Rattle.sdd_space.specs.Shared.{Shared}
 use Rattle.sdd_core.specs.declared.refused.Refused.{Refused}
 use Rattle.sdd_core.specs.declared.refused.Refused.TheVariants.{TooManyOwners}
 

@@ -5,7 +5,7 @@ use Rattle.sdd_core.specs.declared.refused.Refused.{Refused}
 use Rattle.sdd_world_model.specs.World.{World, standing_at, value_at}
 use Rattle.sdd_space.specs.Shared.{cell_of, cells_home, slot_of}
 use Rattle.sdd_world_model.specs.WorldChanges.{made_as, nulled, spilled, with_cell, with_standing, without_cell}
-use Rattle.sdd_space.specs.declared.shared.Shared.{Shared}
+use Rattle.sdd_space.specs.Shared.{Shared}
 use Rattle.sdd_world_model.specs.Slots.{IsSharedBy}
 use Rattle.sdd_participants.specs.Slab.{Entries, IsEmptyAt, entry_at}
 use Rattle.sdd_participants.specs.declared.standing.Standing.TheVariants.{Shared as shared_by}

@@ -3,7 +3,7 @@ use Rattle.std.specs.Prelude.{ℕ, ◌≡◌, Bool, true, false, List, ◌∷◌
 use Rattle.sdd_space.specs.Shared.{cell_of, cells_home, slot_of}
 use Rattle.sdd_world_model.specs.WorldChanges.{nulled, with_cell}
 use Rattle.sdd_world_model.specs.World.{World}
-use Rattle.sdd_space.specs.declared.shared.Shared.{Shared}
+use Rattle.sdd_space.specs.Shared.{Shared}
 use Rattle.sdd_core.specs.declared.tag.Tag.TheVariants as tag
 use Rattle.sdd_participants.specs.Slab.{IsEmptyAt}
 use Rattle.sdd_rights.specs.Units as units

@@ -23,7 +23,7 @@ use crate::moves::{give_up, put_in_front, trim};
 use crate::walks::Front;
 use sdd_core::{Refused, Tag};
 use sdd_participants::Standing;
-use sdd_space::inner::{make_two, shared_of};
+use sdd_space::inner::{make_two, owner_of};
 use sdd_space::laws::values_fit_slots;
 use sdd_space::{AtomicShared, Cells, Guard, Item, Items, LookThrough, Several, Shared};
 
@@ -92,7 +92,7 @@ fn make_three<T: Item<T>, S: Several<T>>(
     let Some(others) = others else { unreachable!() };
     let (third, rest) = s.split_off(&first, others);
     match rest {
-        None => Ok((shared_of(first), shared_of(second), shared_of(third))),
+        None => Ok((owner_of(first), owner_of(second), owner_of(third))),
         Some(_) => unreachable!(),
     }
 }

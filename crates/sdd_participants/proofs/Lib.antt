@@ -2,7 +2,6 @@ pub mod NewSlab
 pub mod AgedBags
 pub mod EmptyPlaces
 pub mod Adoptions
-pub mod Renaming
 pub mod JobsAtPlaces
 pub mod Places
 pub mod ShownEntries

@@ -4,6 +4,5 @@ pub mod PlaceStates
 pub mod EpochState
 pub mod Tally
 pub mod Slab
-pub mod Renaming
 pub mod Jobs
 pub mod Collecting

@@ -205,7 +205,9 @@ impl EpochState {
         requires room { length (place_at self.old place).bags.waiting < self.old.room }
         ensures { self.new ≡ awaiting_at self.old place what }
     {
-        self.places[place].wait(what);
+        let participant = &mut self.places[place];
+        participant.bags.push(what);
+        participant.set_has_garbage();
     }
 
     /// One guard more of a place is open. Tells whether that is a change: an outermost opening that finds another count.

@@ -1,9 +1,8 @@
 //! What a participant keeps of its own, in a world as in a domain: how its guards nest, when it scans, and what waits with it.
 ghost use Rattle.std.specs.Prelude.{◌≡◌, ◌<◌, ◌==◌, Bool, length, if◌then◌else◌};
-ghost use Rattle.sdd_participants.specs.EpochState.{awaiting, has_garbage, newcomer, newcomer_with, passes, rested, settled, with_garbage};
+ghost use Rattle.sdd_participants.specs.EpochState.{has_garbage, newcomer, newcomer_with, passes, rested, settled, with_garbage};
 
 use crate::bags::Bags;
-use crate::waiting::LimboEntry;
 
 /// The countdown of a participant without garbage: its closes don't count, and it doesn't scan.
 pub const NO_GARBAGE: u8 = 128;
@@ -69,15 +68,6 @@ impl Participant {
         self.countdown = NO_GARBAGE;
         self.guards = 0;
         self.bags.clear();
-    }
-
-    /// This waits with it from now on.
-    pub fn wait(&mut self, what: LimboEntry)
-        requires { length self.old.bags.waiting < self.old.bags.room }
-        ensures { self.new ≡ awaiting what self.old }
-    {
-        self.bags.push(what);
-        self.set_has_garbage();
     }
 
     /// After a change: there is garbage exactly where something waits still.

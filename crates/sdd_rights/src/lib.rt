@@ -13,7 +13,7 @@
 //! slot, and the space needs no test at run time.
 //!
 //! [`RightsAuthority`] are the fractions that a space keeps of its numbers. It grants a [`Right`] to a number and takes it back: the one owner of a
-//! number has all its units but one ([`UniqueRight`]), and each of several owners a single one ([`SharedRight`]). [`SharedRights`] are the rights of several
+//! number has all its units but one, and each of several owners a single one. [`SharedRights`] are the rights of several
 //! owners in one piece.
 //!
 //! In a domain there is no ghost map of the slots. A right there has a witness, the seat of the slot's owner in the domain's table, which tells what the
@@ -34,7 +34,5 @@ pub mod views;
 
 pub use fraction::{Fraction, GhostKeys, WHOLE};
 pub use read_fraction::ReadFraction;
-pub use right::{
-    NameWitness, RawRight, Right, SharedRight, SharedRights, StandingKind, UniqueRight,
-};
+pub use right::{NameWitness, RawRight, Right, SharedRights, StandingKind};
 pub use rights::RightsAuthority;

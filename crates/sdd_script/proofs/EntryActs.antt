@@ -1,6 +1,6 @@
 -- What a push onto a container and a pop off it mean, whether they ask for a number first or not
 use Rattle.sdd_script.proofs.Words.{◌≡◌, ◌+◌, ◌<◌, ℕ, Bool, List, [], ◌∷◌, ◌++◌, Option, Some, None, map, length, slice_set, refl, sym, ap, ◌∙◌, subst, arith, Ok, Err, option_map, Vec, length-map, Refused, TooManyOwners, IsSharedBy, World, IsPlaceOf, standing_at, value_at, with_standing, IsWhole, AreLinked, Entry, first_value, left, cells_in, cell_in, index_of, GuardName, ItemName, ListName, OwnerName, PlaceName, At, Number, IsContainer, Begins, IsNumber, Acts, HasOpen, IsListName, Meets, ScriptState, in_world, opening_at, place_of, with_owner, Val, body_of, link_of, same-list, LeavesSound, starts, IsDatedWithin, list_cell, open_since, IsTied, state_of, owner_holding, AnyList, AnyOwner, Share, Environment, NamedParticipant, Does, still, invalid, popping, pushing, AddsOwner, DrainsList, HasCrowdedFirst, HasNewest, HasNumber, IsAsked, IsDrainedOf, Kept, PopsIf, PushesIf, PutsIn, PutsOn, RefusesEntry, TakesOff, TakesOut, drained-leaves, last_value, linked-left, newest_value, popped-home, popped-leaves, popped-number, popped-value, queue_drained-leaves, slots_home, taken-home, taken-number, taken-value, shared-leaves, with_dates}
-use Rattle.sdd_space.specs.declared.shared.Shared.{Shared}
+use Rattle.sdd_space.specs.Shared.{Shared}
 use Rattle.sdd_participants.specs.declared.standing.Standing.TheVariants as standing
 use Rattle.sdd_world_model.specs.OwnerOrCell as holding
 use Rattle.sdd_space.specs.Shared.{slot_of}

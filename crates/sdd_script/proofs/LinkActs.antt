@@ -1,7 +1,7 @@
 -- What a change of a link leaves in hand: it is sound, and it is what the call means
 use Rattle.sdd_script.proofs.Words.{restored, ◌≡◌, ◌≢◌, ◌+◌, ℕ, Bool, true, false, List, [], ◌∷◌, Option, None, Some, inl, inr, slice_index_or, slice_set, refl, sym, ap, ◌∙◌, subst, IfSome, IsTrue, option_map, Vec, Tag, Second, entry_at, CellContents, World, standing_at, value_at, IsWhole, Claim, is_out, held_in, AreLinked, Entry, first_slot, left, index_of, PlaceName, ItemName, GuardName, OwnerName, At, Val, link_of, IsLooseEntry, item_in, ScriptState, holding_at, in_world, opening_at, shared_slot, slot_at, Acts, CanPointTo, HasOpen, IsUnderGuard, IsValid, Meets, contained, NamedParticipant, Environment, open_since, owner_holding, AnyOwner, Share, state_of, IsTied, Does, does, goes, still, changing, accounts, owned-out, there-apart, starts, Both, IsAmong, IsBehind, IsFresh, IsLink, IsList, IsReserved, IsSome, LinkChange, MayAppend, apart-item, holding_of, link-apart-from, linked_in, links-apart, mark_tag, may_change, says_deleted, tag_after, trimmed, leaves, sits, under, place-is, named as named-as, map, map-set, with_dates}
 use Rattle.sdd_script_model.specs.Sound.{named}
-use Rattle.sdd_space.specs.declared.shared.Shared.{Shared}
+use Rattle.sdd_space.specs.Shared.{Shared}
 use Rattle.sdd_core.specs.declared.tag.Tag.TheVariants.{None as no_tag}
 use Rattle.sdd_space.specs.Shared.{slot_of}
 use Rattle.sdd_script_text.specs.Actions as call

@@ -1,6 +1,6 @@
 -- How an item of a script is made: what goes into it, and its owner
 use Rattle.sdd_script.proofs.Words.{get_or-map, IsThereToPut, state_of, ◌≡◌, ℕ, List, [], ◌∷◌, ◌++◌, Option, None, Some, length, map, option_map, Share, Val, owner_holding, IsWhole, Value, Of, Body, owner_in, OwnerKind, AnyOwner, Environment, slot_of, IsTied, BecomesBody, holding_first, AreOf, IsMissing, arith, common_steps}
-use Rattle.sdd_space.specs.declared.shared.Shared.{Shared}
+use Rattle.sdd_space.specs.Shared.{Shared}
 use Rattle.sdd_rights.specs.Units.{GhostName}
 use Rattle.sdd_world_model.specs.OwnerOrCell as holding
 use Rattle.sdd_space.specs.Shared as shared

@@ -6,3 +6,4 @@ pub mod ScheduleReading
 pub mod Schedule
 pub mod ItemLines
 pub mod Leaving
+pub mod ListCopies

@@ -1,29 +1,15 @@
 //! One line of a script.
-ghost use Rattle.std.specs.Prelude.{◌≡◌, ◌+◌, ◌^◌, ◌<◌, MatchResult};
-ghost use Rattle.sdd_world_model.specs.ReclaimBound.{GoesInTime};
-ghost use Rattle.sdd_script_model.specs.Val.{holdings_of};
-ghost use Rattle.sdd_script_model.specs.ScriptState.{BeginsLine, later};
-ghost use Rattle.sdd_script_model.specs.Script.{Answers, LineStep};
+ghost use Rattle.std.specs.Prelude.{◌≡◌, MatchResult};
+ghost use Rattle.sdd_script_model.specs.ScriptState.{BeginsLine};
+ghost use Rattle.sdd_script_model.specs.Script.{Answers};
 
 use crate::acts::{actions, guards, participants};
 use sdd_core::Refused;
 use sdd_interpreter::Interpreter;
 use sdd_script_text::{Action, Answer, Call, Reply};
 
-/// One line. `NoMemory` alone refuses it.
-pub fn step(interpreter: &mut Interpreter, call: &Call) -> Result<Answer, Refused>
-    requires more { interpreter.old.moment + 1 < 2 ^ 64 }
-    ensures step { MatchResult result (λ answer. LineStep interpreter.old call.now answer interpreter.new × GoesInTime holdings_of interpreter.new.world)
-        (λ refused. (refused ≡ Refused.NoMemory) × (interpreter.new ≡ later interpreter.old)) }
-{
-    interpreter.environment.log.moment += 1;
-    let answer = answer_to(interpreter, call)?;
-    interpreter.environment.world.reclaims_in_time();
-    Ok(answer)
-}
-
-/// What a call answers, in a line of its own. An opening and a collector's close may name what goes, and no other.
-fn answer_to(interpreter: &mut Interpreter, call: &Call) -> Result<Answer, Refused>
+/// What a call answers, in a line of its own. An opening and a collector's close may name what goes, and no other. `NoMemory` alone refuses it.
+pub fn answer_to(interpreter: &mut Interpreter, call: &Call) -> Result<Answer, Refused>
     requires line { BeginsLine interpreter.old }
     ensures answers { MatchResult result (λ answer. Answers interpreter.old call.now answer interpreter.new)
         (λ refused. (refused ≡ Refused.NoMemory) × (interpreter.new ≡ interpreter.old)) }

@@ -4,7 +4,7 @@ ghost use Rattle.sdd_core.specs.Limits.{AreInRange};
 ghost use Rattle.sdd_script_model.specs.Script.{IsRun};
 
 use crate::acts::leaving::close;
-use crate::line::step;
+use crate::line::answer_to;
 use crate::scene::Scene;
 use sdd_core::{Limits, Refused};
 use sdd_interpreter::Interpreter;
@@ -30,8 +30,12 @@ pub fn run(alloc: Global, limits: Limits, calls: &[Call]) -> Result<(Vec<Answer>
         }
     };
     for call in calls {
-        match step(&mut interpreter, call) {
-            Ok(answer) => answers.push_reserved(answer),
+        interpreter.environment.log.moment += 1;
+        match answer_to(&mut interpreter, call) {
+            Ok(answer) => {
+                interpreter.environment.world.reclaims_in_time();
+                answers.push_reserved(answer);
+            }
             Err(refused) => {
                 close(interpreter);
                 return Err(refused);

@@ -143,7 +143,7 @@ pub use Rattle.sdd_world_model.specs.WorldChanges.{accelerated, all_reclaimed, c
 pub use Rattle.sdd_world_model.specs.WorldInvariant.{IsWhole, KeepsUp, is_of_job, is_of_slot, jobs_with, once_if, times_with}
 pub use Rattle.sdd_world_model.specs.WorldStep.{IsFirst, WorldStep}
 pub use Rattle.sdd_world_model.specs.WorldStep.WorldStep.{closes, defers, ends, registers}
-pub use Rattle.sdd_space.specs.declared.atomic_shared.AtomicShared.{AtomicShared}
+pub use Rattle.sdd_space.specs.Shared.{AtomicShared}
 pub use Rattle.sdd_space.specs.declared.private_collector.PrivateCollector.{PrivateCollector}
 pub use Rattle.sdd_space.specs.declared.ptr.Ptr.{Ptr}
 pub use Rattle.sdd_world_model.specs.Slots.{IsSharedBy, is_waiting}

@@ -5,7 +5,7 @@ ghost use Rattle.sdd_script_model.specs.Val.{owner_in, storage_in};
 
 use sdd_bag::{Shelf, Storage};
 use sdd_lists::{CloneValue, LinkedEntry};
-use sdd_space::inner::{owner_of, right_of_owner, right_of_shared, shared_of};
+use sdd_space::inner::{owner_of, right_of_owner};
 use sdd_space::{Giver, Item, Owned, Shared};
 use std::alloc::AllocError;
 
@@ -32,7 +32,7 @@ impl Item<Val> for Body {
         match self {
             Body::Number(_) => {}
             Body::Owned(owner) => giver.owned(owner_of(right_of_owner(owner))),
-            Body::Shared(owner) => giver.shared(shared_of(right_of_shared(owner))),
+            Body::Shared(owner) => giver.shared(owner_of(right_of_owner(owner))),
             Body::Storage(storage) => storage.give_up(giver),
         }
     }
@@ -101,7 +101,7 @@ impl Body {
     pub fn of_shared(owner: Shared<Val>) -> Body
         ensures { owner_in result ≡ shared.holding_of owner ∷ [] }
     {
-        Body::Shared(shared_of(right_of_shared(owner)))
+        Body::Shared(owner_of(right_of_owner(owner)))
     }
 
     /// Puts a number in the place of its number. An owner stays as it is, since it must be spent, and so does a storage.

@@ -7,7 +7,6 @@ pub mod ValueMoves
 pub mod SharedValuesSend
 pub mod WholeFractions
 pub mod VacantPlaces
-pub mod Freeable
 pub mod CarriedChanges
 pub mod GhostCodes
 pub mod BankDeals

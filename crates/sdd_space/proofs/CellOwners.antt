@@ -7,8 +7,7 @@ use Rattle.sdd_world_model.specs.Cells.{slot_held}
 use Rattle.sdd_world_model.specs.Slots.{IsSharedBy}
 use Rattle.sdd_world_model.specs.World.{World, standing_at}
 use Rattle.sdd_world_model.specs.WorldChanges.{with_standing}
-use Rattle.sdd_space.specs.Shared.{right_of, slot_of}
-use Rattle.sdd_space.specs.declared.shared.Shared.{Shared}
+use Rattle.sdd_space.specs.Shared.{Shared, right_of, slot_of}
 
 module _ {T : Type 0} (w new : World T) where
   -- it came, by its right

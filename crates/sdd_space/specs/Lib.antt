@@ -1,6 +1,7 @@
 pub mod CallerId
 pub mod Ptr
 pub mod Guard
+pub mod Owner
 pub mod Owned
 pub mod Shared
 pub mod RawPtr

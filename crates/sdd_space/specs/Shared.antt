@@ -1,45 +1,20 @@
--- What a shared owner, and a cell of one, name
-use Rattle.std.specs.Prelude.{ℕ, ◌≡◌, IfSome, Option, option_map}
-use Rattle.sdd_core.specs.declared.tag.Tag.{Tag}
-use Rattle.sdd_rights.specs.Units as units
-use Rattle.sdd_rights.specs.Right.{number_of, home_of}
-use Rattle.sdd_rights.specs.declared.right.Right.{Right}
-use Rattle.sdd_space.specs.declared.shared.Shared.{Shared}
-use Rattle.sdd_space.specs.declared.atomic_shared.AtomicShared.{AtomicShared}
-use Rattle.sdd_participants.specs.declared.standing.CellContents.{CellContents}
+-- What one of several owners of an item, and a cell of such an owner, name
+use Rattle.sdd_rights.specs.declared.right.StandingKind.TheVariants as kind
+use Rattle.sdd_space.specs.declared.ownership.SharedOwnership.{SharedOwnership}
+use Rattle.sdd_space.specs.declared.owner.Owner.{Owner}
+use Rattle.sdd_space.specs.declared.atomic_cell.AtomicCell.{AtomicCell}
+pub use Rattle.sdd_space.specs.Owner.{right_of, slot_of, slots_home, IsOfSlots, cell_with, cell_right, cell_of, cells_home}
 use Rattle.sdd_world_model.specs.OwnerOrCell.{OwnerOrCell, shared, atomic_shared}
 
+abbrev pub Shared : Type 0 → Type 0
+Shared T = Owner SharedOwnership T (record { kind = kind.Shared })
+
+abbrev pub AtomicShared : Type 0 → Type 0
+AtomicShared T = AtomicCell SharedOwnership T (record { kind = kind.Shared })
+
 module _ {T : Type 0} where
-  abbrev pub right_of : Shared T → Right
-  right_of o = o.right.right
-
-  -- the slot of an owner's item, and where slots are numbered
-  abbrev pub slot_of : Shared T → ℕ
-  slot_of o = number_of (right_of o)
-
-  abbrev pub slots_home : Shared T → units.GhostName
-  slots_home o = home_of (right_of o)
-
   abbrev pub holding_of : Shared T → OwnerOrCell
   holding_of o = shared (slot_of o) (slots_home o)
-
-  -- an owner, if there is one, is of these slots
-  abbrev pub IsOfSlots : units.GhostName → Option (Shared T) → Type 0
-  IsOfSlots home o = IfSome o (λ owner. slots_home owner ≡ home)
-
-  -- a cell with this owner, and this tag
-  abbrev pub cell_with : Option (Shared T) → Tag → CellContents
-  cell_with o tag = record { held = option_map slot_of o; tag = tag }
-
-  abbrev pub cell_right : AtomicShared T → Right
-  cell_right c = c.right.right
-
-  -- the number of a cell, and where cells are numbered
-  abbrev pub cell_of : AtomicShared T → ℕ
-  cell_of c = number_of (cell_right c)
-
-  abbrev pub cells_home : AtomicShared T → units.GhostName
-  cells_home c = home_of (cell_right c)
 
   abbrev pub cell_holding : AtomicShared T → OwnerOrCell
   cell_holding c = atomic_shared (cell_of c) (cells_home c)

@@ -1,8 +1,7 @@
 //! What the spaces need beyond the public surface: an owner, a cell, a guard and a pointer as what they are made of.
 ghost use Rattle.std.specs.Prelude.{◌≡◌, IfErr, IfOk, IfSome, MatchResult, None, Some, option_copied};
 ghost use Rattle.sdd_rights.specs.Right.{home_of, kind_of};
-ghost use Rattle.sdd_space.specs.Owned.{slot_of, right_of, cell_right};
-ghost use Rattle.sdd_space.specs.Shared as shared;
+ghost use Rattle.sdd_space.specs.Owner.{slot_of, slots_home, right_of, cell_of, cell_right, cells_home};
 ghost use Rattle.sdd_world_model.specs.OwnerOrCell.{AreOf};
 ghost use Rattle.sdd_world_model.specs.World.{World};
 ghost use Rattle.sdd_space.specs.CallerId.{IsSeated, IsExact};
@@ -17,16 +16,15 @@ ghost use Rattle.sdd_space.specs.Guard.{reader_of, ReaderId};
 ghost use Rattle.sdd_space.specs.Collector.{collector_of};
 ghost use Rattle.sdd_core.specs.declared.tag.Tag.TheVariants.{None as no_tag};
 
-use crate::atomic_owned::AtomicOwned;
+use crate::atomic_cell::{AtomicCell, AtomicShared};
 use crate::atomic_raw::AtomicRaw;
-use crate::atomic_shared::AtomicShared;
 use crate::guard::Guard;
 use crate::item::Item;
-use crate::owned::Owned;
+use crate::owner::{Owner, Shared};
+use crate::ownership::Ownership;
 use crate::private_collector::PrivateCollector;
 use crate::ptr::Ptr;
 use crate::raw_ptr::RawPtr;
-use crate::shared::Shared;
 use crate::space::{HeldItems, Several};
 use sdd_core::{Refused, SlotName, Tag};
 use sdd_participants::{CellContents, RawCellContents, Standing};
@@ -34,73 +32,41 @@ use sdd_rights::{RawRight, Right, StandingKind};
 use sdd_values::{ReadSection, SectionState};
 
 /// The owner whose right this is.
-pub fn owner_of<T>(right: Right) -> Owned<T>
-    requires { kind_of right ≡ StandingKind.Owned }
+pub fn owner_of<K: Ownership, T>(right: Right) -> Owner<K, T>
+    requires { kind_of right ≡ K.kind }
     ensures { right_of result ≡ right }
 {
-    Owned::of_right(right)
+    Owner::of_right(right)
 }
 
 /// The right of an owner.
-pub fn right_of_owner<T>(owner: Owned<T>) -> Right
+pub fn right_of_owner<K: Ownership, T>(owner: Owner<K, T>) -> Right
     ensures right { result ≡ right_of owner }
-    ensures kind { kind_of result ≡ StandingKind.Owned }
-{
-    owner.into_right()
-}
-
-/// The shared owner whose right this is.
-pub fn shared_of<T>(right: Right) -> Shared<T>
-    requires { kind_of right ≡ StandingKind.Shared }
-    ensures { shared.right_of result ≡ right }
-{
-    Shared::of_right(right)
-}
-
-/// The right of a shared owner.
-pub fn right_of_shared<T>(owner: Shared<T>) -> Right
-    ensures right { result ≡ shared.right_of owner }
-    ensures kind { kind_of result ≡ StandingKind.Shared }
+    ensures kind { kind_of result ≡ K.kind }
 {
     owner.into_right()
 }
 
 /// The same right, for as long as the owner is borrowed.
 pub fn right_in_shared<T>(owner: &Shared<T>) -> &Right
-    ensures right { result.now ≡ shared.right_of owner.now }
+    ensures right { result.now ≡ right_of owner.now }
     ensures kind { kind_of result.now ≡ StandingKind.Shared }
 {
     owner.right()
 }
 
 /// The cell whose right this is.
-pub fn cell_with<T>(right: Right) -> AtomicOwned<T>
-    requires { kind_of right ≡ StandingKind.Owned }
+pub fn cell_with<K: Ownership, T>(right: Right) -> AtomicCell<K, T>
+    requires { kind_of right ≡ K.kind }
     ensures { cell_right result ≡ right }
 {
-    AtomicOwned::of_right(right)
+    AtomicCell::of_right(right)
 }
 
 /// The right of a cell.
-pub fn right_of_cell<T>(cell: AtomicOwned<T>) -> Right
+pub fn right_of_cell<K: Ownership, T>(cell: AtomicCell<K, T>) -> Right
     ensures right { result ≡ cell_right cell }
-    ensures kind { kind_of result ≡ StandingKind.Owned }
-{
-    cell.into_right()
-}
-
-/// The cell of shared owners whose right this is.
-pub fn shared_cell_with<T>(right: Right) -> AtomicShared<T>
-    requires { kind_of right ≡ StandingKind.Shared }
-    ensures { shared.cell_right result ≡ right }
-{
-    AtomicShared::of_right(right)
-}
-
-/// The right of a cell of shared owners.
-pub fn right_of_shared_cell<T>(cell: AtomicShared<T>) -> Right
-    ensures right { result ≡ shared.cell_right cell }
-    ensures kind { kind_of result ≡ StandingKind.Shared }
+    ensures kind { kind_of result ≡ K.kind }
 {
     cell.into_right()
 }
@@ -120,15 +86,8 @@ pub fn value_of_ptr<'g, T>(ptr: Ptr<'g, T>) -> Option<&'g T>
 }
 
 /// The slot of an owner's item.
-pub fn slot_of_owner<T>(owner: &Owned<T>) -> SlotName
+pub fn slot_of_owner<K: Ownership, T>(owner: &Owner<K, T>) -> SlotName
     ensures { result ≡ slot_of owner.now }
-{
-    owner.slot()
-}
-
-/// The slot of a shared owner's item.
-pub fn slot_of_shared<T>(owner: &Shared<T>) -> SlotName
-    ensures { result ≡ shared.slot_of owner.now }
 {
     owner.slot()
 }
@@ -185,13 +144,6 @@ pub fn section_of(guard: &Guard) -> &ReadSection
     guard.section()
 }
 
-/// The raw cell whose right this is.
-pub fn raw_cell_with<T>(right: RawRight) -> AtomicRaw<T>
-    ensures { result.right ≡ right }
-{
-    AtomicRaw::of_right(right)
-}
-
 /// The right of a raw cell.
 pub fn right_of_raw_cell<T>(cell: AtomicRaw<T>) -> RawRight
     ensures { result ≡ cell.right }
@@ -237,13 +189,13 @@ pub fn make_two<T: Item<T>, S: Several<T>>(
     requires seated { IsSeated (S.caller s.old) }
     requires home { AreOf (S.caller s.old).home (T.holds value) }
     ensures undisturbed { Undisturbed S.caller S.own S.known S.shows s.old s.new }
-    ensures home { IfOk result (λ both. (shared.slots_home both.0 ≡ (S.caller s.old).home.slots) × (shared.slots_home both.1 ≡ (S.caller s.old).home.slots)) }
-    ensures one { IfOk result (λ both. shared.slot_of both.1 ≡ shared.slot_of both.0) }
-    ensures shown { IfOk result (λ both. S.owns_value s.new (shared.right_of both.0) value × S.owns_value s.new (shared.right_of both.1) value) }
+    ensures home { IfOk result (λ both. (slots_home both.0 ≡ (S.caller s.old).home.slots) × (slots_home both.1 ≡ (S.caller s.old).home.slots)) }
+    ensures one { IfOk result (λ both. slot_of both.1 ≡ slot_of both.0) }
+    ensures shown { IfOk result (λ both. S.owns_value s.new (right_of both.0) value × S.owns_value s.new (right_of both.1) value) }
     ensures back { IfErr result (λ e. (e.0 ≡ value) × IsRefusedBy (S.caller s.old) Refused.NoSlot e.1) }
     ensures exact { IsExact (S.caller s.old) → MatchResult result
-        (λ both. IsEmptyAt (S.world s.old).standings (shared.slot_of both.0) ×
-        (S.world s.new ≡ made_as (S.world s.old) (shared.slot_of both.0) value (Standing.Shared 2)))
+        (λ both. IsEmptyAt (S.world s.old).standings (slot_of both.0) ×
+        (S.world s.new ≡ made_as (S.world s.old) (slot_of both.0) value (Standing.Shared 2)))
         (λ e. IsFull (S.world s.old).standings × (e ≡ (value, Refused.NoSlot)) × (S.world s.new ≡ S.world s.old)) }
 {
     let (first, other) = match s.make_several(value, 2) {
@@ -262,17 +214,17 @@ pub fn right_in<'a, T: Item<T>, S: HeldItems<T>>(
     cell: &AtomicShared<T>,
     s: &'a S,
 ) -> &'a Option<Right>
-    requires home { shared.cells_home cell.now ≡ (S.caller s.now).home.cells }
+    requires home { cells_home cell.now ≡ (S.caller s.now).home.cells }
     ensures home { IfSome result.now (λ owner. home_of owner ≡ (S.caller s.now).home.slots) }
-    ensures exact { IsExact (S.caller s.now) → slot_held result.now ≡ held_in (entry_at (S.world s.now).cells (shared.cell_of cell.now)) }
+    ensures exact { IsExact (S.caller s.now) → slot_held result.now ≡ held_in (entry_at (S.world s.now).cells (cell_of cell.now)) }
 {
     s.right_in(cell.right())
 }
 
 /// The tag of a cell of shared owners.
 pub fn tag_held_in<T: Item<T>, S: HeldItems<T>>(cell: &AtomicShared<T>, s: &S) -> Tag
-    requires home { shared.cells_home cell.now ≡ (S.caller s.now).home.cells }
-    ensures exact { IsExact (S.caller s.now) → IfSome (entry_at (S.world s.now).cells (shared.cell_of cell.now)) (λ held. held.tag ≡ result) }
+    requires home { cells_home cell.now ≡ (S.caller s.now).home.cells }
+    ensures exact { IsExact (S.caller s.now) → IfSome (entry_at (S.world s.now).cells (cell_of cell.now)) (λ held. held.tag ≡ result) }
 {
     s.contents(cell.right()).tag
 }

@@ -10,11 +10,9 @@ ghost use Rattle.sdd_space.specs.Owned.{slots_home, cells_home, holding_of, cell
 ghost use Rattle.sdd_space.specs.Shared as shared;
 ghost use Rattle.sdd_space.specs.RawCell as raw_cell;
 
-use crate::atomic_owned::AtomicOwned;
+use crate::atomic_cell::{AtomicOwned, AtomicShared};
 use crate::atomic_raw::AtomicRaw;
-use crate::atomic_shared::AtomicShared;
-use crate::owned::Owned;
-use crate::shared::Shared;
+use crate::owner::{Owned, Shared};
 
 mod composed;
 mod plain;

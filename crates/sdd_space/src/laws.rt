@@ -14,8 +14,7 @@ ghost use Rattle.sdd_participants.specs.EpochState.{is_open};
 
 use crate::guard::Guard;
 use crate::item::Item;
-use crate::owned::Owned;
-use crate::shared::Shared;
+use crate::owner::{Owned, Shared};
 use crate::space::{Caller, Guards, Items, RawItems};
 use sdd_core::{Epoch, Refused};
 

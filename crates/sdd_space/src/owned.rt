@@ -1,188 +1,30 @@
+//! What the one owner of an item does.
 ghost use Rattle.std.specs.Fn.{FnOnceReturnsAtMut};
-ghost use Rattle.std.specs.Prelude.{◌≡◌, ◌≢◌, ◌⊎◌, IfErr, IfOk, IfSome, IsSome, MatchOption, MatchResult, Some, None, option_map};
-ghost use Rattle.sdd_rights.specs.Right.{kind_of};
+ghost use Rattle.std.specs.Prelude.{◌≡◌, ◌≢◌, IfErr, IfOk, IfSome, MatchOption, MatchResult, Some};
 ghost use Rattle.sdd_world_model.specs.OwnerOrCell.{AreOf};
 ghost use Rattle.sdd_world_model.specs.World.{World, AnyGuardOpen, standing_at, value_at};
-ghost use Rattle.sdd_space.specs.CallerId.{IsSeated, IsExact, IsLone};
+ghost use Rattle.sdd_space.specs.CallerId.{IsSeated, IsExact};
 ghost use Rattle.sdd_world_model.specs.KnownEpochs.{KnowsOn};
 ghost use Rattle.sdd_space.specs.Undisturbed.{Undisturbed, Unmoved};
 ghost use Rattle.sdd_world_model.specs.ParticipantChanges.{KeepsMoreWaiting};
-ghost use Rattle.sdd_world_model.specs.WorldChanges.{made, retired, with_standing, with_value, dropped};
+ghost use Rattle.sdd_world_model.specs.WorldChanges.{retired, with_standing, with_value, dropped};
 ghost use Rattle.sdd_space.specs.Owned.{right_of, slot_of, slots_home, IsOfSlots};
 ghost use Rattle.sdd_core.specs.declared.tag.Tag.TheVariants.{None as no_tag};
-ghost use Rattle.sdd_space.specs.Ptr.{PtrIsShown, slot_named, shown_by, tag_of, KeepsOthers, KeepsShown};
-ghost use Rattle.sdd_space.specs.Guard.{reader_of};
+ghost use Rattle.sdd_space.specs.Ptr.{KeepsOthers, KeepsShown};
 ghost use Rattle.sdd_space.specs.RawPtr as raw;
-ghost use Rattle.sdd_participants.specs.Slab.{IsEmptyAt, IsFull};
 ghost use Rattle.sdd_participants.specs.EpochState as time;
 ghost use Rattle.sdd_participants.specs.declared.waiting.LimboEntry.TheVariants.{Item};
 
-use crate::guard::Guard;
 use crate::item::Item;
-use crate::look::Look;
-use crate::ptr::Ptr;
+use crate::owner::{Owned, Owner};
+use crate::ownership::UniqueOwnership;
 use crate::raw_ptr::RawPtr;
 use crate::space::{InPlaceItems, Items, RawItems};
-use sdd_core::{Refused, SlotName, Tag};
+use sdd_core::{Refused, Tag};
 use sdd_participants::Standing;
-use sdd_rights::{Right, StandingKind, UniqueRight};
-use std::marker::PhantomData;
+use sdd_rights::StandingKind;
 
-/// The one owner of an item.
-///
-/// It must be spent: by `retire`, or given into a cell or a value. It may lie in a value of its own item type.
-pub struct Owned<T> {
-    right: UniqueRight,
-    of: PhantomData<T>,
-}
-
-const _: () = prove!(size_of::<Owned<u64>>() == 4);
-
-impl<T> Owned<T> {
-    pub(crate) fn of_right(right: Right) -> Owned<T>
-        requires { kind_of right ≡ StandingKind.Owned }
-        ensures { right_of result ≡ right }
-    {
-        Owned {
-            right: UniqueRight::of(right),
-            of: PhantomData,
-        }
-    }
-
-    pub(crate) fn into_right(self) -> Right
-        ensures right { result ≡ right_of self }
-        ensures kind { kind_of result ≡ StandingKind.Owned }
-    {
-        let Owned { right, of: _ } = self;
-        right.into_right()
-    }
-
-    pub(crate) fn right(&self) -> &Right
-        ensures right { result.now ≡ right_of self.now }
-        ensures kind { kind_of result.now ≡ StandingKind.Owned }
-    {
-        self.right.right()
-    }
-
-    /// The owner that a cell held, if there is one.
-    pub(crate) fn of_held(held: Option<Right>) -> Option<Owned<T>>
-        requires { IfSome held (λ right. kind_of right ≡ StandingKind.Owned) }
-        ensures { option_map right_of result ≡ held }
-    {
-        match held {
-            Some(right) => Some(Owned::of_right(right)),
-            None => None,
-        }
-    }
-
-    pub(crate) fn into_held(owner: Option<Owned<T>>) -> Option<Right>
-        ensures right { result ≡ option_map right_of owner }
-        ensures kind { IfSome result (λ right. kind_of right ≡ StandingKind.Owned) }
-    {
-        match owner {
-            Some(owner) => Some(owner.into_right()),
-            None => None,
-        }
-    }
-
-    pub(crate) fn slot(&self) -> SlotName
-        ensures { result ≡ slot_of self.now }
-    {
-        self.right().name()
-    }
-}
-
-impl<T: Item<T>> Owned<T> {
-    /// The item's value. Its owner alone can look at it without a guard.
-    pub fn get<'a, L: Look<T>>(&'a self, at: &'a L) -> &'a T
-        requires home { slots_home self.now ≡ (L.home at.now).slots }
-        ensures shown { L.knows_slots at.now → L.shows at.now (slot_of self.now) result.now }
-        ensures value { L.owns_value at.now (right_of self.now) result.now }
-        ensures held { AreOf (L.home at.now) (T.holds result.now) }
-    {
-        at.value(self.right())
-    }
-
-    /// The item's value, for as long as the guard is borrowed, also after the item was retired. The guard is one of the participant that calls.
-    pub fn get_guarded_ref<'g, S: Items<T>>(&self, guard: &'g Guard, s: &mut S) -> &'g T
-        requires seated { IsSeated (S.caller s.old) }
-        requires home { slots_home self.now ≡ (S.caller s.old).home.slots }
-        requires reader { reader_of guard.now ≡ (S.caller s.old).reader }
-        ensures undisturbed { Undisturbed S.caller S.own S.known S.shows s.old s.new }
-        ensures shown { S.shows s.new (slot_of self.now) result.now }
-        ensures value { S.owns_value s.new (right_of self.now) result.now }
-        ensures exact { IsExact (S.caller s.old) → S.world s.new ≡ S.world s.old }
-    {
-        s.get_guarded(self.right(), guard)
-    }
-
-    /// A pointer to the item, which shows its value for as long as the guard is borrowed, also after the item was retired. The guard is one of the
-    /// participant that calls.
-    pub fn get_guarded_ptr<'g, S: Items<T>>(&self, guard: &'g Guard, s: &mut S) -> Ptr<'g, T>
-        requires seated { IsSeated (S.caller s.old) }
-        requires home { slots_home self.now ≡ (S.caller s.old).home.slots }
-        requires reader { reader_of guard.now ≡ (S.caller s.old).reader }
-        ensures undisturbed { Undisturbed S.caller S.own S.known S.shows s.old s.new }
-        ensures slot { slot_named result ≡ Some (slot_of self.now) }
-        ensures tag { tag_of result ≡ no_tag }
-        ensures shown { IfSome (shown_by result) (S.shows s.new (slot_of self.now)) }
-        ensures value { IfSome (shown_by result) (S.owns_value s.new (right_of self.now)) }
-        ensures full { IsSome (shown_by result) }
-        ensures pointer { PtrIsShown (S.shows s.new) result }
-        ensures exact { IsExact (S.caller s.old) → S.world s.new ≡ S.world s.old }
-    {
-        let value = s.get_guarded(self.right(), guard);
-        Ptr::to(self.slot(), value)
-    }
-
-    /// Puts a value into a free slot.
-    ///
-    /// `NoSlot` where none is free; `Contended`, in a domain alone, where as many exchanges were lost as its limits allow. The value comes back.
-    #[inline(always)]
-    pub fn new<S: Items<T>>(value: T, s: &mut S) -> Result<Owned<T>, (T, Refused)>
-        requires seated { IsSeated (S.caller s.old) }
-        requires home { AreOf (S.caller s.old).home (T.holds value) }
-        ensures undisturbed { Undisturbed S.caller S.own S.known S.shows s.old s.new }
-        ensures home { IfOk result (λ owner. slots_home owner ≡ (S.caller s.old).home.slots) }
-        ensures shown { IfOk result (λ owner. S.owns_value s.new (right_of owner) value) }
-        ensures back { IfErr result (λ e. (e.0 ≡ value) × ((e.1 ≡ Refused.NoSlot) ⊎ (e.1 ≡ Refused.Contended))) }
-        ensures lone { IsLone (S.caller s.old) → IfErr result (λ e. (e.1 ≡ Refused.NoSlot) × S.is_used_up s.old) }
-        ensures exact { IsExact (S.caller s.old) → MatchResult result
-            (λ owner. IsEmptyAt (S.world s.old).standings (slot_of owner) × (S.world s.new ≡ made (S.world s.old) (slot_of owner) value))
-            (λ e. IsFull (S.world s.old).standings × (e ≡ (value, Refused.NoSlot)) × (S.world s.new ≡ S.world s.old)) }
-    {
-        match s.new_item(value, StandingKind::Owned) {
-            Ok(right) => Ok(Owned::of_right(right)),
-            Err(refused) => Err(refused),
-        }
-    }
-
-    /// Puts the value that `f` makes into a free slot.
-    ///
-    /// `NoSlot` or `Contended` where `new` is refused so; `f` comes back uncalled.
-    pub fn new_with<S: Items<T>, F: FnOnce() -> T>(
-        f: F,
-        s: &mut S,
-    ) -> Result<Owned<T>, (F, Refused)>
-        requires seated { IsSeated (S.caller s.old) }
-        requires callable { F.pre f }
-        requires home { (value : T) → F.post f value → AreOf (S.caller s.old).home (T.holds value) }
-        ensures undisturbed { Undisturbed S.caller S.own S.known S.shows s.old s.new }
-        ensures home { IfOk result (λ owner. slots_home owner ≡ (S.caller s.old).home.slots) }
-        ensures shown { IfOk result (λ owner. (value : T) × F.post f value × S.owns_value s.new (right_of owner) value) }
-        ensures back { IfErr result (λ e. (e.0 ≡ f) × ((e.1 ≡ Refused.NoSlot) ⊎ (e.1 ≡ Refused.Contended))) }
-        ensures lone { IsLone (S.caller s.old) → IfErr result (λ e. (e.1 ≡ Refused.NoSlot) × S.is_used_up s.old) }
-        ensures exact { IsExact (S.caller s.old) → MatchResult result
-            (λ owner. IsEmptyAt (S.world s.old).standings (slot_of owner) ×
-            ((value : T) × F.post f value × (S.world s.new ≡ made (S.world s.old) (slot_of owner) value)))
-            (λ e. IsFull (S.world s.old).standings × (e ≡ (f, Refused.NoSlot)) × (S.world s.new ≡ S.world s.old)) }
-    {
-        match s.new_item_with(f, StandingKind::Owned) {
-            Ok(right) => Ok(Owned::of_right(right)),
-            Err(refused) => Err(refused),
-        }
-    }
-
+impl<T: Item<T>> Owner<UniqueOwnership, T> {
     /// Retires the item: it waits with the calling participant, which reclaims it at its third later outermost opening that finds another epoch.
     pub fn retire<S: Items<T>>(self, s: &mut S)
         requires seated { IsSeated (S.caller s.old) }
@@ -209,6 +51,7 @@ impl<T: Item<T>> Owned<T> {
         requires callable { F.IsAlwaysCallable f }
         requires held { (was now : T) (r : R) → FnOnceReturnsAtMut F.FnOnce f was r now →
             AreOf (S.caller s.old).home (T.holds was) → AreOf (S.caller s.old).home (T.holds now) }
+        ensures back { IfErr result (λ e. (e.0 ≡ f) × (e.1 ≡ Refused.GuardOpen)) }
         ensures slot { slot_of self.new ≡ slot_of self.old }
         ensures home { slots_home self.new ≡ slots_home self.old }
         ensures same { IfErr result (λ _. self.new ≡ self.old) }
@@ -217,7 +60,6 @@ impl<T: Item<T>> Owned<T> {
         ensures own { S.own s.new ≡ S.own s.old }
         ensures known { KnowsOn (S.known s.old) (S.known s.new) }
         ensures owned { IsExact (S.caller s.old) → standing_at (S.world s.old) (slot_of self.old) ≡ Some Standing.Owned }
-        ensures back { IfErr result (λ e. (e.0 ≡ f) × (e.1 ≡ Refused.GuardOpen)) }
         ensures shown { IfOk result (λ r. (was : T) × (now : T) × S.owns_value s.old (right_of self.old) was ×
             FnOnceReturnsAtMut F.FnOnce f was r now × S.owns_value s.new (right_of self.new) now) }
         ensures exact { IsExact (S.caller s.old) → MatchResult result

@@ -22,9 +22,8 @@ ghost use Rattle.sdd_participants.specs.declared.waiting.LimboEntry.TheVariants.
 
 use crate::guard::Guard;
 use crate::item::Item;
-use crate::owned::Owned;
+use crate::owner::{Owned, Shared};
 use crate::raw_ptr::RawPtr;
-use crate::shared::Shared;
 use crate::space::{Collectors, RawCells};
 use sdd_core::Refused;
 use sdd_participants::Standing;

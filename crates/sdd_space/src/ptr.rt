@@ -2,7 +2,7 @@ ghost use Rattle.std.specs.Prelude.{◌≡◌, ◌↔◌, IsSome, IsTrue};
 
 use crate::item::Item;
 use crate::look::LookThrough;
-use crate::shared::Shared;
+use crate::owner::Shared;
 use crate::space::SharedItems;
 use sdd_core::{Refused, SlotName, Tag};
 use sdd_values::Nullable;

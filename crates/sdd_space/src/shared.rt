@@ -1,187 +1,29 @@
+//! What one of several owners of an item does.
 ghost use Rattle.std.specs.Fn.{FnOnceReturnsAtMut};
 ghost use Rattle.std.specs.Prelude.{ℕ, ◌≡◌, ◌+◌, ◌^◌, ◌<◌, ◌↔◌, ◌⊎◌, ◌-◌, IfErr, IfOk, IfSome, IsSome, IsTrue, MatchBool, MatchOption, MatchResult, Some, None, option_map, if◌then◌else◌};
-ghost use Rattle.sdd_rights.specs.Right.{kind_of};
 ghost use Rattle.sdd_world_model.specs.OwnerOrCell.{AreOf};
 ghost use Rattle.sdd_world_model.specs.World.{World, AnyGuardOpen, standing_at, value_at};
-ghost use Rattle.sdd_space.specs.CallerId.{IsSeated, IsExact, IsLone};
+ghost use Rattle.sdd_space.specs.CallerId.{IsSeated, IsExact};
 ghost use Rattle.sdd_space.specs.Refusals.{IsRefusedBy};
 ghost use Rattle.sdd_world_model.specs.KnownEpochs.{KnowsOn};
 ghost use Rattle.sdd_world_model.specs.Releases.{Releases, left_waiting};
 ghost use Rattle.sdd_space.specs.Undisturbed.{Undisturbed, Unmoved};
 ghost use Rattle.sdd_world_model.specs.ParticipantChanges.{KeepsMoreWaiting};
-ghost use Rattle.sdd_world_model.specs.WorldChanges.{made_shared, with_standing, with_value, dropped};
+ghost use Rattle.sdd_world_model.specs.WorldChanges.{with_standing, with_value, dropped};
 ghost use Rattle.sdd_space.specs.Shared.{right_of, slot_of, slots_home};
-ghost use Rattle.sdd_core.specs.declared.tag.Tag.TheVariants.{None as no_tag};
-ghost use Rattle.sdd_space.specs.Ptr.{PtrIsShown, slot_named, shown_by, tag_of, KeepsOthers, KeepsShown};
-ghost use Rattle.sdd_space.specs.Guard.{reader_of};
+ghost use Rattle.sdd_space.specs.Ptr.{PtrIsShown, slot_named, KeepsOthers, KeepsShown};
 ghost use Rattle.sdd_world_model.specs.Slots.{IsSharedBy, owners_of};
-ghost use Rattle.sdd_participants.specs.Slab.{IsEmptyAt, IsFull};
 
-use crate::guard::Guard;
 use crate::item::Item;
-use crate::look::Look;
+use crate::owner::{Owner, Shared};
+use crate::ownership::SharedOwnership;
 use crate::ptr::Ptr;
 use crate::space::{InPlaceItems, Items, SharedItems, SharedOwners};
-use sdd_core::{Refused, SlotName};
+use sdd_core::Refused;
 use sdd_participants::Standing;
-use sdd_rights::{Right, SharedRight, StandingKind};
-use std::marker::PhantomData;
+use sdd_rights::StandingKind;
 
-/// One owner of an item that others may own too: other `Shared`, and cells.
-///
-/// It must be spent: by `release`, or given into a cell or a value. The last owner's item is retired. It may lie in a value of its own item type.
-pub struct Shared<T> {
-    right: SharedRight,
-    of: PhantomData<T>,
-}
-
-const _: () = prove!(size_of::<Shared<u64>>() == 4);
-
-impl<T> Shared<T> {
-    pub(crate) fn of_right(right: Right) -> Shared<T>
-        requires { kind_of right ≡ StandingKind.Shared }
-        ensures { right_of result ≡ right }
-    {
-        Shared {
-            right: SharedRight::of(right),
-            of: PhantomData,
-        }
-    }
-
-    pub(crate) fn into_right(self) -> Right
-        ensures right { result ≡ right_of self }
-        ensures kind { kind_of result ≡ StandingKind.Shared }
-    {
-        let Shared { right, of: _ } = self;
-        right.into_right()
-    }
-
-    pub(crate) fn right(&self) -> &Right
-        ensures right { result.now ≡ right_of self.now }
-        ensures kind { kind_of result.now ≡ StandingKind.Shared }
-    {
-        self.right.right()
-    }
-
-    /// The owner that a cell held, if there is one.
-    pub(crate) fn of_held(held: Option<Right>) -> Option<Shared<T>>
-        requires { IfSome held (λ right. kind_of right ≡ StandingKind.Shared) }
-        ensures { option_map right_of result ≡ held }
-    {
-        match held {
-            Some(right) => Some(Shared::of_right(right)),
-            None => None,
-        }
-    }
-
-    pub(crate) fn into_held(owner: Option<Shared<T>>) -> Option<Right>
-        ensures right { result ≡ option_map right_of owner }
-        ensures kind { IfSome result (λ right. kind_of right ≡ StandingKind.Shared) }
-    {
-        match owner {
-            Some(owner) => Some(owner.into_right()),
-            None => None,
-        }
-    }
-
-    pub(crate) fn slot(&self) -> SlotName
-        ensures { result ≡ slot_of self.now }
-    {
-        self.right().name()
-    }
-}
-
-impl<T: Item<T>> Shared<T> {
-    /// The item's value. Its owners can look at it without a guard.
-    pub fn get<'a, L: Look<T>>(&'a self, at: &'a L) -> &'a T
-        requires home { slots_home self.now ≡ (L.home at.now).slots }
-        ensures shown { L.knows_slots at.now → L.shows at.now (slot_of self.now) result.now }
-        ensures value { L.owns_value at.now (right_of self.now) result.now }
-        ensures held { AreOf (L.home at.now) (T.holds result.now) }
-    {
-        at.value(self.right())
-    }
-
-    /// The item's value, for as long as the guard is borrowed, also after the item was retired. The guard is one of the participant that calls.
-    pub fn get_guarded_ref<'g, S: Items<T>>(&self, guard: &'g Guard, s: &mut S) -> &'g T
-        requires seated { IsSeated (S.caller s.old) }
-        requires home { slots_home self.now ≡ (S.caller s.old).home.slots }
-        requires reader { reader_of guard.now ≡ (S.caller s.old).reader }
-        ensures undisturbed { Undisturbed S.caller S.own S.known S.shows s.old s.new }
-        ensures shown { S.shows s.new (slot_of self.now) result.now }
-        ensures value { S.owns_value s.new (right_of self.now) result.now }
-        ensures exact { IsExact (S.caller s.old) → S.world s.new ≡ S.world s.old }
-    {
-        s.get_guarded(self.right(), guard)
-    }
-
-    /// A pointer to the item, which shows its value for as long as the guard is borrowed, also after the item was retired. The guard is one of the
-    /// participant that calls.
-    pub fn get_guarded_ptr<'g, S: Items<T>>(&self, guard: &'g Guard, s: &mut S) -> Ptr<'g, T>
-        requires seated { IsSeated (S.caller s.old) }
-        requires home { slots_home self.now ≡ (S.caller s.old).home.slots }
-        requires reader { reader_of guard.now ≡ (S.caller s.old).reader }
-        ensures undisturbed { Undisturbed S.caller S.own S.known S.shows s.old s.new }
-        ensures slot { slot_named result ≡ Some (slot_of self.now) }
-        ensures tag { tag_of result ≡ no_tag }
-        ensures shown { IfSome (shown_by result) (S.shows s.new (slot_of self.now)) }
-        ensures value { IfSome (shown_by result) (S.owns_value s.new (right_of self.now)) }
-        ensures full { IsSome (shown_by result) }
-        ensures pointer { PtrIsShown (S.shows s.new) result }
-        ensures exact { IsExact (S.caller s.old) → S.world s.new ≡ S.world s.old }
-    {
-        let value = s.get_guarded(self.right(), guard);
-        Ptr::to(self.slot(), value)
-    }
-
-    /// Puts a value into a free slot, with one owner.
-    ///
-    /// `NoSlot` where none is free; `Contended`, in a domain alone, where as many exchanges were lost as its limits allow. The value comes back.
-    #[inline(always)]
-    pub fn new<S: Items<T>>(value: T, s: &mut S) -> Result<Shared<T>, (T, Refused)>
-        requires seated { IsSeated (S.caller s.old) }
-        requires home { AreOf (S.caller s.old).home (T.holds value) }
-        ensures undisturbed { Undisturbed S.caller S.own S.known S.shows s.old s.new }
-        ensures home { IfOk result (λ owner. slots_home owner ≡ (S.caller s.old).home.slots) }
-        ensures shown { IfOk result (λ owner. S.owns_value s.new (right_of owner) value) }
-        ensures back { IfErr result (λ e. (e.0 ≡ value) × ((e.1 ≡ Refused.NoSlot) ⊎ (e.1 ≡ Refused.Contended))) }
-        ensures lone { IsLone (S.caller s.old) → IfErr result (λ e. (e.1 ≡ Refused.NoSlot) × S.is_used_up s.old) }
-        ensures exact { IsExact (S.caller s.old) → MatchResult result
-            (λ owner. IsEmptyAt (S.world s.old).standings (slot_of owner) × (S.world s.new ≡ made_shared (S.world s.old) (slot_of owner) value))
-            (λ e. IsFull (S.world s.old).standings × (e ≡ (value, Refused.NoSlot)) × (S.world s.new ≡ S.world s.old)) }
-    {
-        match s.new_item(value, StandingKind::Shared) {
-            Ok(right) => Ok(Shared::of_right(right)),
-            Err(refused) => Err(refused),
-        }
-    }
-
-    /// Puts the value that `f` makes into a free slot, with one owner.
-    ///
-    /// `NoSlot` or `Contended` where `new` is refused so; `f` comes back uncalled.
-    pub fn new_with<S: Items<T>, F: FnOnce() -> T>(
-        f: F,
-        s: &mut S,
-    ) -> Result<Shared<T>, (F, Refused)>
-        requires seated { IsSeated (S.caller s.old) }
-        requires callable { F.pre f }
-        requires home { (value : T) → F.post f value → AreOf (S.caller s.old).home (T.holds value) }
-        ensures undisturbed { Undisturbed S.caller S.own S.known S.shows s.old s.new }
-        ensures home { IfOk result (λ owner. slots_home owner ≡ (S.caller s.old).home.slots) }
-        ensures shown { IfOk result (λ owner. (value : T) × F.post f value × S.owns_value s.new (right_of owner) value) }
-        ensures back { IfErr result (λ e. (e.0 ≡ f) × ((e.1 ≡ Refused.NoSlot) ⊎ (e.1 ≡ Refused.Contended))) }
-        ensures lone { IsLone (S.caller s.old) → IfErr result (λ e. (e.1 ≡ Refused.NoSlot) × S.is_used_up s.old) }
-        ensures exact { IsExact (S.caller s.old) → MatchResult result
-            (λ owner. IsEmptyAt (S.world s.old).standings (slot_of owner) ×
-            ((value : T) × F.post f value × (S.world s.new ≡ made_shared (S.world s.old) (slot_of owner) value)))
-            (λ e. IsFull (S.world s.old).standings × (e ≡ (f, Refused.NoSlot)) × (S.world s.new ≡ S.world s.old)) }
-    {
-        match s.new_item_with(f, StandingKind::Shared) {
-            Ok(right) => Ok(Shared::of_right(right)),
-            Err(refused) => Err(refused),
-        }
-    }
-
+impl<T: Item<T>> Owner<SharedOwnership, T> {
     /// One owner more of the item that a pointer names, if it is shared. In a domain with others the guard under which the pointer was had is one of the
     /// participant that calls.
     ///
@@ -257,6 +99,7 @@ impl<T: Item<T>> Shared<T> {
         requires callable { F.IsAlwaysCallable f }
         requires held { (was now : T) (r : R) → FnOnceReturnsAtMut F.FnOnce f was r now →
             AreOf (S.caller s.old).home (T.holds was) → AreOf (S.caller s.old).home (T.holds now) }
+        ensures back { IfErr result (λ e. (e.0 ≡ f) × ((e.1 ≡ Refused.NotAlone) ⊎ (e.1 ≡ Refused.GuardOpen))) }
         ensures slot { slot_of self.new ≡ slot_of self.old }
         ensures home { slots_home self.new ≡ slots_home self.old }
         ensures same { IfErr result (λ _. self.new ≡ self.old) }
@@ -264,7 +107,6 @@ impl<T: Item<T>> Shared<T> {
         ensures caller { S.caller s.new ≡ S.caller s.old }
         ensures own { S.own s.new ≡ S.own s.old }
         ensures known { KnowsOn (S.known s.old) (S.known s.new) }
-        ensures back { IfErr result (λ e. (e.0 ≡ f) × ((e.1 ≡ Refused.NotAlone) ⊎ (e.1 ≡ Refused.GuardOpen))) }
         ensures shown { IfOk result (λ r. (was : T) × (now : T) × S.owns_value s.old (right_of self.old) was ×
             FnOnceReturnsAtMut F.FnOnce f was r now × S.owns_value s.new (right_of self.new) now) }
         ensures exact { IsExact (S.caller s.old) → (owners : ℕ) × IsSharedBy owners (standing_at (S.world s.old) (slot_of self.old)) × MatchResult result

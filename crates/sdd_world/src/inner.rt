@@ -21,8 +21,7 @@ use sdd_core::{Refused, SlotName};
 use sdd_participants::{Job, LimboEntry, Standing};
 use sdd_rights::SharedRights;
 use sdd_space::inner::{
-    ptr_to, right_in_shared, right_of_cell, right_of_collector, right_of_owner, right_of_shared,
-    right_of_shared_cell, shared_of,
+    owner_of, ptr_to, right_in_shared, right_of_cell, right_of_collector, right_of_owner,
 };
 use sdd_space::{Guard, Item, PrivateCollector, Ptr, Shared};
 
@@ -150,5 +149,5 @@ pub fn release_all_but_one<T: Item<T>, J: Job>(
     ensures exact { (others : ℕ) × IsSharedBy (others + shares.count_of several) (standing_at world.old (shares.number_of several))
         × (world.new ≡ with_standing world.old (shares.number_of several) (standing.Shared (others + 1))) }
 {
-    shared_of(world.core.release_all_but_one(several))
+    owner_of(world.core.release_all_but_one(several))
 }

@@ -5,19 +5,21 @@ ghost use Rattle.sdd_domain_invariant.specs.Epoch.{IsClosed, IsOpen, Scans};
 ghost use Rattle.sdd_rights.specs.Views.{nobody};
 ghost use Rattle.sdd_domain_invariant.specs.Epoch.EpochSteps.{IsNext, Registers, Reads, Counts, Locks, LooksAtLock, LooksAtState, LooksAtCount, Advances, Unlocks};
 ghost use Rattle.sdd_domain_invariant.specs.WordInvariant.{idle};
-ghost use Rattle.sdd_atomics.specs.DomainTable.{id_of, sizes_of, gamma_of, places_of};
+ghost use Rattle.sdd_atomics.specs.DomainTable as of_table;
+ghost use Rattle.sdd_atomics.specs.SeatAtTable.{sizes_of, gamma_of, places_of};
 ghost use Rattle.sdd_domain_invariant.specs.Slots.SlotSteps.{blank};
 ghost use Rattle.sdd_domain_invariant.specs.Epoch.Barred.{IsNobodys, Bars};
 ghost use Rattle.sdd_domain_invariant.specs.Fractions.FractionSteps.{CarriesSeen, EndsAll};
-ghost use Rattle.sdd_atomics.specs.DomainSeat.{view, epoch, words_known, Stepped, Taught, HasPublished, HasClosed, Knows, slots};
+ghost use Rattle.sdd_atomics.specs.DomainSeat.{view, epoch, words_known, Stepped, Taught, HasPublished, HasClosed, slots};
 
 pub mod counts;
 
-use crate::domain_table::{DomainSeat, DomainTable};
+use crate::domain_table::DomainTable;
 use crate::plays::{
     Advance, Bar, Close, End, Lock, LookAtCount, LookAtLock, LookAtState, NewSeat, Publish, Read,
     Register, Unlock, Write,
 };
+use crate::seat_at_table::SeatAtTable;
 use crate::words::{GLOBAL, LOCK};
 
 /// Nobody's place.
@@ -32,20 +34,20 @@ pub const ENDED: u64 = 3;
 pub const BARRED: u64 = 4;
 
 /// A seat without a place.
-pub fn sit(table: &DomainTable) -> DomainSeat
-    ensures { (result.table_id ≡ id_of table.now) × (result.me ≡ (idle (sizes_of table.now) (gamma_of table.now), [])) }
+pub fn sit(table: &DomainTable) -> SeatAtTable<'_>
+    ensures { (result.table_id ≡ of_table.id_of table.now) × (result.me ≡ (idle (of_table.sizes_of table.now) (of_table.gamma_of table.now), [])) }
 {
-    table.atomic.shared.load_new_seat::<NewSeat>(GLOBAL).1
+    let (_, seat) = table.atomic.shared.load_new_seat::<NewSeat>(GLOBAL);
+    SeatAtTable { table, seat }
 }
 
 /// Tries to take a place, and answers its state before.
-pub fn register(table: &DomainTable, seat: &mut DomainSeat, place: usize) -> u64
-    requires home { seat.old.table_id ≡ id_of table.now }
-    requires sizes { (view seat.old).sizes ≡ sizes_of table.now }
-    requires inside { place < places_of table.now }
-    requires idle { (epoch seat.old ≡ nobody (places_of table.now)) × (words_known seat.old ≡ blank (sizes_of table.now)) }
-    ensures { Stepped (Registers (sizes_of table.now) (words.state_word (sizes_of table.now) place)) seat.old result seat.new }
+pub fn register(seat: &mut SeatAtTable<'_>, place: usize) -> u64
+    requires inside { place < places_of seat.old }
+    requires idle { (epoch seat.old ≡ nobody (places_of seat.old)) × (words_known seat.old ≡ blank (sizes_of seat.old)) }
+    ensures { Stepped (Registers (sizes_of seat.old) (words.state_word (sizes_of seat.old) place)) seat.old result seat.new }
 {
+    let SeatAtTable { table, seat } = seat;
     table
         .atomic
         .shared
@@ -54,71 +56,69 @@ pub fn register(table: &DomainTable, seat: &mut DomainSeat, place: usize) -> u64
 
 /// Reads the global count.
 #[inline]
-pub fn read(table: &DomainTable, seat: &mut DomainSeat) -> u64
-    requires home { seat.old.table_id ≡ id_of table.now }
+pub fn read(seat: &mut SeatAtTable<'_>) -> u64
     ensures { Stepped Reads seat.old result seat.new }
 {
+    let SeatAtTable { table, seat } = seat;
     table.atomic.shared.load::<Read>(seat, GLOBAL)
 }
 
 /// Writes the own count word, which stands behind that of the state, while no guard is open.
 #[inline]
-pub fn write(table: &DomainTable, seat: &mut DomainSeat, state: usize, count: u64)
-    requires home { seat.old.table_id ≡ id_of table.now }
-    requires own { (state ≡ words.state_word (sizes_of table.now) (epoch seat.old).place) × ((epoch seat.old).place < places_of table.now) }
+pub fn write(seat: &mut SeatAtTable<'_>, state: usize, count: u64)
+    requires own { (state ≡ words.state_word (sizes_of seat.old) (epoch seat.old).place) × ((epoch seat.old).place < places_of seat.old) }
     requires closed { IsClosed (epoch seat.old) }
     ensures { Stepped Counts seat.old count seat.new }
 {
+    let SeatAtTable { table, seat } = seat;
     table.atomic.shared.store::<Write>(seat, state + 1, count);
 }
 
 /// Publishes, at the state of the own place, the count that stands in the own count word. Another one than before is a change for each item that waits.
 #[inline]
-pub fn publish(table: &DomainTable, seat: &mut DomainSeat, state: usize)
-    requires home { seat.old.table_id ≡ id_of table.now }
-    requires own { (state ≡ words.state_word (sizes_of table.now) (epoch seat.old).place) × ((epoch seat.old).place < places_of table.now) }
+pub fn publish(seat: &mut SeatAtTable<'_>, state: usize)
+    requires own { (state ≡ words.state_word (sizes_of seat.old) (epoch seat.old).place) × ((epoch seat.old).place < places_of seat.old) }
     requires closed { IsClosed (epoch seat.old) }
     requires count { (epoch seat.old).count ≡ (epoch seat.old).known }
     ensures { HasPublished seat.old seat.new }
 {
+    let SeatAtTable { table, seat } = seat;
     table.atomic.shared.store::<Publish>(seat, state, OPEN);
 }
 
 /// Publishes, at the state of the own place, that no guard is open, so that none sees anything: all fractions go home.
 #[inline]
-pub fn close(table: &DomainTable, seat: &mut DomainSeat, state: usize)
-    requires home { seat.old.table_id ≡ id_of table.now }
-    requires knows { Knows table.now seat.old }
+pub fn close(seat: &mut SeatAtTable<'_>, state: usize)
     requires rests { (view seat.old).fractions.moves ≡ None }
-    requires carries { CarriesSeen (gamma_of table.now) (places_of table.now) (epoch seat.old).place (view seat.old).fractions.sees seat.old.me.1 }
-    requires own { (state ≡ words.state_word (sizes_of table.now) (epoch seat.old).place) × ((epoch seat.old).place < places_of table.now) }
+    requires carries { CarriesSeen (gamma_of seat.old) (places_of seat.old) (epoch seat.old).place (view seat.old).fractions.sees seat.old.me.1 }
+    requires own { (state ≡ words.state_word (sizes_of seat.old) (epoch seat.old).place) × ((epoch seat.old).place < places_of seat.old) }
     requires open { IsOpen (epoch seat.old) × ¬ (Scans (epoch seat.old)) }
     ensures { HasClosed seat.old seat.new }
 {
+    let SeatAtTable { table, seat } = seat;
     table.atomic.shared.store::<Close>(seat, state, CLOSED);
 }
 
 /// Ends the own place, whose state this is, which the seat counts from then on.
-pub fn end(table: &DomainTable, seat: &mut DomainSeat, state: usize)
-    requires home { seat.old.table_id ≡ id_of table.now }
+pub fn end(seat: &mut SeatAtTable<'_>, state: usize)
     requires rests { (view seat.old).fractions.moves ≡ None }
-    requires own { (state ≡ words.state_word (sizes_of table.now) (epoch seat.old).place) × ((epoch seat.old).place < places_of table.now) }
+    requires own { (state ≡ words.state_word (sizes_of seat.old) (epoch seat.old).place) × ((epoch seat.old).place < places_of seat.old) }
     requires closed { IsClosed (epoch seat.old) }
     requires within { (slots seat.old).over ≡ None }
     ensures { Taught EndsAll seat.old 3 seat.new }
 {
+    let SeatAtTable { table, seat } = seat;
     table.atomic.shared.store::<End>(seat, state, ENDED);
 }
 
 /// Bars a place that is nobody's as long as it is in this state, by a seat without a place. Answers its state before: it is barred then where this is
 /// that state, or `BARRED`.
-pub fn bar(table: &DomainTable, seat: &mut DomainSeat, place: usize, state: u64) -> u64
-    requires home { seat.old.table_id ≡ id_of table.now }
-    requires sizes { (view seat.old).sizes ≡ sizes_of table.now }
-    requires next { (place < places_of table.now) × (place ≡ (view seat.old).places.ended) }
+pub fn bar(seat: &mut SeatAtTable<'_>, place: usize, state: u64) -> u64
+    requires next { (place < places_of seat.old) × (place ≡ (view seat.old).places.ended) }
     requires nobodys { IsNobodys state }
-    ensures { Taught (Bars (sizes_of table.now) state (words.state_word (sizes_of table.now) place)) seat.old result seat.new }
+    ensures { Taught (Bars (sizes_of seat.old) state (words.state_word (sizes_of seat.old) place)) seat.old result seat.new }
 {
+    let SeatAtTable { table, seat } = seat;
     table
         .atomic
         .shared
@@ -126,11 +126,11 @@ pub fn bar(table: &DomainTable, seat: &mut DomainSeat, place: usize, state: u64)
 }
 
 /// Tries to take the lock of a scan. Someone else had it where this isn't 0.
-pub fn lock(table: &DomainTable, seat: &mut DomainSeat) -> u64
-    requires home { seat.old.table_id ≡ id_of table.now }
+pub fn lock(seat: &mut SeatAtTable<'_>) -> u64
     requires open { IsOpen (epoch seat.old) × ¬ (Scans (epoch seat.old)) }
     ensures { Stepped Locks seat.old result seat.new }
 {
+    let SeatAtTable { table, seat } = seat;
     table
         .atomic
         .shared
@@ -138,22 +138,21 @@ pub fn lock(table: &DomainTable, seat: &mut DomainSeat) -> u64
 }
 
 /// Looks at the lock of a scan, which nobody writes by that. Someone else has it where this isn't 0.
-pub fn look_at_lock(table: &DomainTable, seat: &mut DomainSeat) -> u64
-    requires home { seat.old.table_id ≡ id_of table.now }
+pub fn look_at_lock(seat: &mut SeatAtTable<'_>) -> u64
     requires open { IsOpen (epoch seat.old) × ¬ (Scans (epoch seat.old)) }
     ensures { Stepped LooksAtLock seat.old result seat.new }
 {
+    let SeatAtTable { table, seat } = seat;
     table.atomic.shared.load::<LookAtLock>(seat, LOCK)
 }
 
 /// Looks at the state of the next place, by where that of the first one is.
-pub fn look_at_state(table: &DomainTable, seat: &mut DomainSeat, first: usize, place: usize) -> u64
-    requires home { seat.old.table_id ≡ id_of table.now }
-    requires sizes { (view seat.old).sizes ≡ sizes_of table.now }
-    requires first { first ≡ words.state_word (sizes_of table.now) 0 }
-    requires next { (place < places_of table.now) × IsNext (epoch seat.old) place }
-    ensures { Stepped (LooksAtState (sizes_of table.now) (words.state_word (sizes_of table.now) place)) seat.old result seat.new }
+pub fn look_at_state(seat: &mut SeatAtTable<'_>, first: usize, place: usize) -> u64
+    requires first { first ≡ words.state_word (sizes_of seat.old) 0 }
+    requires next { (place < places_of seat.old) × IsNext (epoch seat.old) place }
+    ensures { Stepped (LooksAtState (sizes_of seat.old) (words.state_word (sizes_of seat.old) place)) seat.old result seat.new }
 {
+    let SeatAtTable { table, seat } = seat;
     table
         .atomic
         .shared
@@ -161,13 +160,12 @@ pub fn look_at_state(table: &DomainTable, seat: &mut DomainSeat, first: usize, p
 }
 
 /// Looks at the count of the next place, by where the state of the first one is.
-pub fn look_at_count(table: &DomainTable, seat: &mut DomainSeat, first: usize, place: usize) -> u64
-    requires home { seat.old.table_id ≡ id_of table.now }
-    requires sizes { (view seat.old).sizes ≡ sizes_of table.now }
-    requires first { first ≡ words.state_word (sizes_of table.now) 0 }
-    requires next { (place < places_of table.now) × IsNext (epoch seat.old) place }
-    ensures { Stepped (LooksAtCount (sizes_of table.now) (words.count_word (sizes_of table.now) place)) seat.old result seat.new }
+pub fn look_at_count(seat: &mut SeatAtTable<'_>, first: usize, place: usize) -> u64
+    requires first { first ≡ words.state_word (sizes_of seat.old) 0 }
+    requires next { (place < places_of seat.old) × IsNext (epoch seat.old) place }
+    ensures { Stepped (LooksAtCount (sizes_of seat.old) (words.count_word (sizes_of seat.old) place)) seat.old result seat.new }
 {
+    let SeatAtTable { table, seat } = seat;
     table
         .atomic
         .shared
@@ -175,12 +173,12 @@ pub fn look_at_count(table: &DomainTable, seat: &mut DomainSeat, first: usize, p
 }
 
 /// Raises the global count, if it is the own one still, once all other places were looked at and passed.
-pub fn advance(table: &DomainTable, seat: &mut DomainSeat, count: u64) -> u64
-    requires home { seat.old.table_id ≡ id_of table.now }
+pub fn advance(seat: &mut SeatAtTable<'_>, count: u64) -> u64
     requires count { (count ≡ (epoch seat.old).count) × (count + 1 < 2 ^ 64) }
-    requires passed { IsNext (epoch seat.old) (places_of table.now) }
+    requires passed { IsNext (epoch seat.old) (places_of seat.old) }
     ensures { Stepped Advances seat.old result seat.new }
 {
+    let SeatAtTable { table, seat } = seat;
     table
         .atomic
         .shared
@@ -188,10 +186,10 @@ pub fn advance(table: &DomainTable, seat: &mut DomainSeat, count: u64) -> u64
 }
 
 /// Frees the lock.
-pub fn unlock(table: &DomainTable, seat: &mut DomainSeat)
-    requires home { seat.old.table_id ≡ id_of table.now }
+pub fn unlock(seat: &mut SeatAtTable<'_>)
     requires scans { Scans (epoch seat.old) }
     ensures { Stepped Unlocks seat.old 0 seat.new }
 {
+    let SeatAtTable { table, seat } = seat;
     table.atomic.shared.store::<Unlock>(seat, LOCK, 0);
 }

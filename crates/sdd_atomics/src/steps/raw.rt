@@ -1,18 +1,18 @@
 //! The atomic steps on items that are out as raw, which nobody owns, by a participant.
-ghost use Rattle.std.specs.Prelude.{◌≡◌, ◌<◌, Bool, List, [], ◌∷◌, None, false};
+ghost use Rattle.std.specs.Prelude.{◌≡◌, ◌<◌, [], ◌∷◌, None, false};
 ghost use base.Stored.{Gv};
 ghost use Rattle.sdd_domain_invariant.specs.Codes.{owned_word, raw_word};
-ghost use Rattle.sdd_domain_invariant.specs.Epoch.{HasPlace, IsOpen};
+ghost use Rattle.sdd_domain_invariant.specs.Epoch.{IsOpen};
 ghost use Rattle.sdd_domain_invariant.specs.Slots.{Holds};
 ghost use Rattle.sdd_domain_invariant.specs.Slots.FilledInvariant.{HasRecord};
 ghost use Rattle.sdd_domain_invariant.specs.Raw.RawSteps.{TurnsRawOne, RegainsOne, SeesRawOne};
-ghost use Rattle.sdd_atomics.specs.DomainTable.{id_of, places_of, slots_of};
-ghost use Rattle.sdd_atomics.specs.DomainSeat.{view, epoch, slots, Moved, MovedAlone, Knows};
+ghost use Rattle.sdd_atomics.specs.SeatAtTable.{places_of, slots_of, IsReady};
+ghost use Rattle.sdd_atomics.specs.DomainSeat.{view, epoch, slots, Moved};
 
 pub mod pointers;
 
-use crate::domain_table::{DomainSeat, DomainTable};
 use crate::plays::{LookForRaw, Regain, TurnRaw};
+use crate::seat_at_table::SeatAtTable;
 use crate::steps::slots::OWNED;
 use sdd_shared_values::ValueFraction;
 
@@ -21,16 +21,14 @@ pub const RAW: u64 = 2;
 
 /// Puts the item of a slot of its own out as raw. The owner, which was the only one that there could be, is gone, and its unit is in the bank.
 #[inline]
-pub fn turn_raw(table: &DomainTable, seat: &mut DomainSeat, slot: u32)
-    requires home { seat.old.table_id ≡ id_of table.now }
-    requires knows { Knows table.now seat.old }
-    requires inside { slot < slots_of table.now }
-    requires place { HasPlace (epoch seat.old) }
+pub fn turn_raw(seat: &mut SeatAtTable<'_>, slot: u32)
+    requires inside { slot < slots_of seat.old }
+    requires ready { IsReady seat.old }
     requires own { ((slots seat.old).owns ≡ slot ∷ []) × ¬ (Holds (view seat.old) slot) × ((slots seat.old).drawn ≡ []) }
-    requires rests { (view seat.old).fractions.moves ≡ None }
     requires told { (value : Gv) × HasRecord (view seat.old).fractions.owns (record { slot = slot; shared = false; value = value }) }
     ensures { Moved (TurnsRawOne slot) seat.old (raw_word 0) seat.new }
 {
+    let SeatAtTable { table, seat } = seat;
     table
         .atomic
         .shared
@@ -40,14 +38,12 @@ pub fn turn_raw(table: &DomainTable, seat: &mut DomainSeat, slot: u32)
 /// Tries to take an item back that is out as raw, and answers its word before. It was out where this is `RAW`: then the participant has its only owner,
 /// which has no unit yet, and knows what the slot shows.
 #[inline]
-pub fn regain(table: &DomainTable, seat: &mut DomainSeat, slot: u32) -> u64
-    requires home { seat.old.table_id ≡ id_of table.now }
-    requires knows { Knows table.now seat.old }
-    requires inside { slot < slots_of table.now }
-    requires place { HasPlace (epoch seat.old) }
-    requires rests { (view seat.old).fractions.moves ≡ None }
+pub fn regain(seat: &mut SeatAtTable<'_>, slot: u32) -> u64
+    requires inside { slot < slots_of seat.old }
+    requires ready { IsReady seat.old }
     ensures { Moved (RegainsOne slot (raw_word 0) (owned_word 0)) seat.old result seat.new }
 {
+    let SeatAtTable { table, seat } = seat;
     table
         .atomic
         .shared
@@ -57,15 +53,14 @@ pub fn regain(table: &DomainTable, seat: &mut DomainSeat, slot: u32) -> u64
 /// Looks under the open guard at the word of a slot. Where this is `RAW` its item was out as raw at this moment: then the guard sees the slot from now
 /// on, and has the fraction of its place out.
 #[inline]
-pub fn look_for_raw(table: &DomainTable, seat: &mut DomainSeat, slot: u32) -> u64
-    requires home { seat.old.table_id ≡ id_of table.now }
-    requires knows { Knows table.now seat.old }
-    requires inside { slot < slots_of table.now }
+pub fn look_for_raw(seat: &mut SeatAtTable<'_>, slot: u32) -> u64
+    requires inside { slot < slots_of seat.old }
     requires open { IsOpen (epoch seat.old) }
-    requires near { (epoch seat.old).place < places_of table.now }
+    requires near { (epoch seat.old).place < places_of seat.old }
     requires rests { (view seat.old).fractions.moves ≡ None }
     ensures { Moved (SeesRawOne slot (raw_word 0)) seat.old result seat.new }
 {
+    let SeatAtTable { table, seat } = seat;
     table
         .atomic
         .shared

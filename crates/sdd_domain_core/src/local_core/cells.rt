@@ -23,6 +23,7 @@ ghost use Rattle.sdd_domain_steps.specs.SpaceIds.{cells_home, home_in};
 use crate::local_core::LocalCore;
 use crate::local_core::items::is_one_of_several;
 use sdd_atomics::steps::cells::{look_in, recall_cell, see_in};
+use sdd_atomics::steps::values::look;
 use sdd_core::{Refused, SlotName, Tag};
 use sdd_domain_steps::cells::claims::{claim_with, fill, reserve};
 use sdd_domain_steps::cells::values::{
@@ -79,7 +80,7 @@ impl<'d, T: Item<T>, J: Job> LocalCore<'d, T, J> {
         let shared = is_one_of_several(kind);
         let new = loosen(table, held, kind);
         let word = word_for(&new, tag);
-        match claim_with(table, &mut self.seat, next, cells, new, word, shared, tries) {
+        match claim_with(&mut self.seat, next, cells, new, word, shared, tries) {
             Ok((cell, right)) => {
                 self.next_cell = cell + 1;
                 Ok(Right::of_cell(cell, MOST_CELLS, kind, right))
@@ -96,8 +97,7 @@ impl<'d, T: Item<T>, J: Job> LocalCore<'d, T, J> {
         ensures inside { number_of cell.now < self.old.sizes.cells }
         ensures full { IsLone self.old → 0 < cell_word_of self.old (number_of cell.now) }
     {
-        let table = &self.domain.table;
-        recall_cell(table, &mut self.seat, cell.witness());
+        recall_cell(&mut self.seat, cell.witness());
     }
 
     /// The word of a cell at this moment.
@@ -107,9 +107,8 @@ impl<'d, T: Item<T>, J: Job> LocalCore<'d, T, J> {
         ensures same { self.new ≡ self.old }
         ensures found { FindsAt (number_of cell.now) result self.old }
     {
-        let table = &self.domain.table;
-        recall_cell(table, &mut self.seat, cell.witness());
-        look_in(table, &mut self.seat, cell.number())
+        recall_cell(&mut self.seat, cell.witness());
+        look_in(&mut self.seat, cell.number())
     }
 
     /// What a cell holds at this moment.
@@ -137,15 +136,14 @@ impl<'d, T: Item<T>, J: Job> LocalCore<'d, T, J> {
     {
         let section = section_of(guard);
         self.section.agree(section);
-        let table = &self.domain.table;
         let values = &self.domain.values;
-        recall_cell(table, &mut self.seat, cell.witness());
-        let word = see_in(table, &mut self.seat, cell.number());
+        recall_cell(&mut self.seat, cell.witness());
+        let word = see_in(&mut self.seat, cell.number());
         let tag = tag_in(word);
         let Some(slot) = value_held(word) else {
             return (None, tag);
         };
-        let value = values.look(slot, &mut self.seat, &table.atomic.shared, section);
+        let value = look(values, slot, &mut self.seat, section);
         (Some((slot as u32, value)), tag)
     }
 
@@ -170,14 +168,7 @@ impl<'d, T: Item<T>, J: Job> LocalCore<'d, T, J> {
         let table = &self.domain.table;
         let new = loosen(table, held, kind);
         let word = word_for(&new, tag);
-        let (out, found) = swap(
-            table,
-            &mut self.seat,
-            cell.number(),
-            cell.witness(),
-            new,
-            word,
-        );
+        let (out, found) = swap(&mut self.seat, cell.number(), cell.witness(), new, word);
         (bind(table, slots, out, kind), tag_in(found))
     }
 
@@ -209,7 +200,6 @@ impl<'d, T: Item<T>, J: Job> LocalCore<'d, T, J> {
         let new = loosen(table, held, kind);
         let word = word_for(&new, tag);
         let tried = exchange(
-            table,
             &mut self.seat,
             cell.number(),
             cell.witness(),
@@ -303,15 +293,7 @@ impl<'d, T: Item<T>, J: Job> LocalCore<'d, T, J> {
             × ChangesCell (number_of cell.now) old word self.old self.new)
             ((self.new ≡ self.old) × (IsLone self.old → old ≢ cell_word_of self.old (number_of cell.now))) }
     {
-        let table = &self.domain.table;
-        retag(
-            table,
-            &mut self.seat,
-            cell.number(),
-            cell.witness(),
-            old,
-            tag,
-        )
+        retag(&mut self.seat, cell.number(), cell.witness(), old, tag)
     }
 
     /// A cell has another tag, if the condition holds of what it holds.
@@ -359,7 +341,7 @@ impl<'d, T: Item<T>, J: Job> LocalCore<'d, T, J> {
         let next = self.first_cell();
         let cells = self.domain.limits.cells as u32;
         let tries = self.domain.limits.tries;
-        let (cell, right) = match reserve(&self.domain.table, &mut self.seat, next, cells, tries) {
+        let (cell, right) = match reserve(&mut self.seat, next, cells, tries) {
             Ok(reserved) => reserved,
             Err(missed) => return Err(without_sightings(missed)),
         };
@@ -389,7 +371,7 @@ impl<'d, T: Item<T>, J: Job> LocalCore<'d, T, J> {
         let new = loosen(table, held, kind);
         let word = word_for(&new, tag);
         let of_cell = reserved.into_witness();
-        let right = fill(table, &mut self.seat, cell, of_cell, new, word, shared);
+        let right = fill(&mut self.seat, cell, of_cell, new, word, shared);
         Right::of_cell(cell, MOST_CELLS, kind, right)
     }
 
@@ -521,7 +503,7 @@ impl<'d, T: Item<T>, J: Job> LocalCore<'d, T, J> {
         let slots = self.domain.limits.slots;
         let (of_cell, read_fraction) = right.into_owner();
         read_fraction.discard();
-        let (held, word) = free(&self.domain.table, &mut self.seat, cell, of_cell);
+        let (held, word) = free(&mut self.seat, cell, of_cell);
         self.next_cell = cell;
         (bind(&self.domain.table, slots, held, kind), word)
     }
@@ -535,6 +517,6 @@ impl<'d, T: Item<T>, J: Job> LocalCore<'d, T, J> {
         let cell = right.number();
         let of_cell = right.into_witness();
         self.next_cell = cell;
-        free_bare(&self.domain.table, &mut self.seat, cell, of_cell)
+        free_bare(&mut self.seat, cell, of_cell)
     }
 }

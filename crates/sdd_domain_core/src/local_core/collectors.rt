@@ -46,13 +46,7 @@ impl<'d, T: Item<T>, J: Job> LocalCore<'d, T, J> {
             return false;
         }
         let number = collector.number();
-        collect(
-            &self.domain.table,
-            &mut self.seat,
-            slot,
-            number,
-            collector.witness(),
-        );
+        collect(&mut self.seat, slot, number, collector.witness());
         self.privates.put(slot, number);
         true
     }
@@ -69,8 +63,7 @@ impl<'d, T: Item<T>, J: Job> LocalCore<'d, T, J> {
         let Some(collector) = self.privates.take(slot) else {
             return true;
         };
-        let table = &self.domain.table;
-        if claim_back(table, &mut self.seat, &mut self.known, slot, collector) {
+        if claim_back(&mut self.seat, &mut self.known, slot, collector) {
             return true;
         }
         self.due.next();
@@ -94,7 +87,7 @@ impl<'d, T: Item<T>, J: Job> LocalCore<'d, T, J> {
     {
         let cell = collector.number();
         let right = collector.into_witness();
-        match begin_where_shut(&self.domain.table, &mut self.seat, cell, right) {
+        match begin_where_shut(&mut self.seat, cell, right) {
             Ok(right) => {
                 self.due.take_for(&mut self.own.bags, cell, &self.privates);
                 Ok(right)
@@ -118,7 +111,6 @@ impl<'d, T: Item<T>, J: Job> LocalCore<'d, T, J> {
         self.due.next();
         self.privates.take(slot);
         let value = empty_own(
-            &self.domain.table,
             &self.domain.values,
             &mut self.seat,
             &mut self.known,
@@ -136,8 +128,7 @@ impl<'d, T: Item<T>, J: Job> LocalCore<'d, T, J> {
         ensures emptied { MatchOption result (self.new ≡ self.old) (λ _. EmptiesAt collector slot self.old self.new) }
         ensures home { IfSome result (λ value. AreOf (home_in self.old) (T.holds value)) }
     {
-        let table = &self.domain.table;
-        let value = empty_anothers(table, &self.domain.values, &mut self.seat, slot, collector)?;
+        let value = empty_anothers(&self.domain.values, &mut self.seat, slot, collector)?;
         self.tally.count_reclaimed();
         Some(value)
     }
@@ -151,10 +142,9 @@ impl<'d, T: Item<T>, J: Job> LocalCore<'d, T, J> {
         ensures freed { FreesAt collector result (ends_close self.old) self.new }
         ensures bare { held_slots result ≡ [] }
     {
-        let table = &self.domain.table;
-        take_in_right(table, &mut self.seat, right);
-        end_close(table, &mut self.seat, collector);
-        let right = cut_right(table, &mut self.seat);
+        take_in_right(&mut self.seat, right);
+        end_close(&mut self.seat, collector);
+        let right = cut_right(&mut self.seat);
         self.free_raw_cell(RawRight::of_cell(collector, MOST_CELLS, right))
     }
 }

@@ -5,7 +5,7 @@ ghost use Rattle.sdd_domain_steps.specs.LocalState.{HasOpenGuard};
 
 use crate::domain::Domain;
 use crate::local_core::LocalCore;
-use sdd_atomics::DomainSeat;
+use sdd_atomics::{DomainSeat, SeatAtTable};
 use sdd_core::Limits;
 use sdd_domain_steps::collectors::private_table::PrivateTable;
 use sdd_domain_steps::epoch::due_items::DueItems;
@@ -87,7 +87,7 @@ impl<T: Item<T>, J: Job> LocalCore<'_, T, J> {
             tally,
         } = self;
         DetachedLocal {
-            seat,
+            seat: seat.into_seat(),
             limits: domain.limits,
             place,
             own,
@@ -139,11 +139,12 @@ impl<J: Job> DetachedLocal<J> {
             section,
             tally,
         } = self;
+        let table = &domain.table;
         Ok(LocalCore {
             domain,
-            seat,
+            seat: SeatAtTable { table, seat },
             place,
-            state: domain.table.state_word(place),
+            state: table.state_word(place),
             nesting: domain.limits.nesting as u32,
             own,
             due,

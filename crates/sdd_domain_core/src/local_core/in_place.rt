@@ -50,15 +50,13 @@ impl<'d, T: Item<T>, J: Job> LocalCore<'d, T, J> {
     {
         let slot = right.number();
         let slots = self.domain.limits.slots as usize;
-        let table = &self.domain.table;
         let shared = is_one_of_several(kind);
         let (owner, read_fraction) = right.take().into_owner();
-        recall(table, &mut self.seat, &owner);
-        match hold_alone(table, &mut self.seat, slot, shared, owner) {
+        recall(&mut self.seat, &owner);
+        match hold_alone(&mut self.seat, slot, shared, owner) {
             Ok(()) => {
                 let values = &self.domain.values;
                 let (owner, read_fraction, answer) = change_alone(
-                    table,
                     values,
                     &mut self.seat,
                     ghost_values,
@@ -101,12 +99,10 @@ impl<'d, T: Item<T>, J: Job> LocalCore<'d, T, J> {
         let slot = right.number();
         let slots = self.domain.limits.slots as usize;
         let tries = self.domain.limits.tries;
-        let table = &self.domain.table;
         let shared = is_one_of_several(kind);
         let (owner, read_fraction) = right.into_owner();
-        recall(table, &mut self.seat, &owner);
+        recall(&mut self.seat, &owner);
         match go_in_place(
-            table,
             &self.domain.values,
             &mut self.seat,
             slot,

@@ -17,6 +17,7 @@ use crate::local_core::LocalCore;
 use sdd_atomics::steps::slots::{
     MOST_SHARED, OWNED, SHARED_BY_ONE, add_owner, cut, draw_unit, recall, take_in, watch,
 };
+use sdd_atomics::steps::values::look;
 use sdd_core::{Refused, SlotName};
 use sdd_domain_steps::cells::values::bind;
 use sdd_domain_steps::sightings::without_sightings;
@@ -72,14 +73,12 @@ impl<'d, T: Item<T>, J: Job> LocalCore<'d, T, J> {
             (λ _. ghost_values.new.entries ≡ ghost_values.old.entries) }
     {
         let limits = &self.domain.limits;
-        let table = &self.domain.table;
         let shared = is_one_of_several(kind);
         let word = first_word(shared);
-        match claim_free(table, &mut self.seat, &mut self.known, limits, word) {
+        match claim_free(&mut self.seat, &mut self.known, limits, word) {
             Ok(slot) => {
                 ghost_values.fill(slot as usize, &value);
                 let (owner, read_fraction) = put_value(
-                    table,
                     &self.domain.values,
                     &mut self.seat,
                     slot,
@@ -113,15 +112,13 @@ impl<'d, T: Item<T>, J: Job> LocalCore<'d, T, J> {
             × (IsLone self.old → (e.1 ≡ Refused.NoSlot) × IsUsedUp self.old) × (ghost_values.new.entries ≡ ghost_values.old.entries)) }
     {
         let limits = &self.domain.limits;
-        let table = &self.domain.table;
         let shared = is_one_of_several(kind);
         let word = first_word(shared);
-        match claim_free(table, &mut self.seat, &mut self.known, limits, word) {
+        match claim_free(&mut self.seat, &mut self.known, limits, word) {
             Ok(slot) => {
                 let value = make();
                 ghost_values.fill(slot as usize, &value);
                 let (owner, read_fraction) = put_value(
-                    table,
                     &self.domain.values,
                     &mut self.seat,
                     slot,
@@ -143,7 +140,7 @@ impl<'d, T: Item<T>, J: Job> LocalCore<'d, T, J> {
         ensures missed { ¬ (IsTrue result) → IsLone self.old → IsUsedUp self.old }
     {
         let slots = self.domain.limits.slots;
-        finds_free(&self.domain.table, &mut self.seat, slots as u32)
+        finds_free(&mut self.seat, slots as u32)
     }
 
     /// The value of an owner's item, for as long as the guard is borrowed. The owner may be with another participant of the domain.
@@ -159,14 +156,13 @@ impl<'d, T: Item<T>, J: Job> LocalCore<'d, T, J> {
     {
         let section = section_of(guard);
         self.section.agree(section);
-        let table = &self.domain.table;
         let owner = right.witness();
-        recall(table, &mut self.seat, owner);
-        watch(table, &mut self.seat, owner);
-        self.domain.values.look(
+        recall(&mut self.seat, owner);
+        watch(&mut self.seat, owner);
+        look(
+            &self.domain.values,
             right.number() as usize,
             &mut self.seat,
-            &table.atomic.shared,
             section,
         )
     }
@@ -178,7 +174,7 @@ impl<'d, T: Item<T>, J: Job> LocalCore<'d, T, J> {
         ensures recalled { IsLone self.old → (value : Gv) × HasValue value right.now
             × KnowsOwner self.old (number_of right.now) (is_shared (kind_of right.now)) value }
     {
-        recall(&self.domain.table, &mut self.seat, right.witness());
+        recall(&mut self.seat, right.witness());
     }
 
     /// One owner more of the item of an owner that may have others, by one addition. No memory is taken.
@@ -195,14 +191,13 @@ impl<'d, T: Item<T>, J: Job> LocalCore<'d, T, J> {
     {
         let slot = right.number();
         let slots = self.domain.limits.slots as usize;
-        let table = &self.domain.table;
         let owner = right.witness();
-        recall(table, &mut self.seat, owner);
-        if add_owner(table, &mut self.seat, slot, owner) >= MOST_SHARED {
+        recall(&mut self.seat, owner);
+        if add_owner(&mut self.seat, slot, owner) >= MOST_SHARED {
             return Err(Refused::TooManyOwners);
         }
-        let read_fraction = draw_unit(table, &mut self.seat, slot).into_read_fraction();
-        let other = cut(table, &mut self.seat);
+        let read_fraction = draw_unit(&mut self.seat, slot).into_read_fraction();
+        let other = cut(&mut self.seat);
         Ok(Right::of_witness(slot, slots, StandingKind::Shared, other, read_fraction))
     }
 
@@ -224,7 +219,7 @@ impl<'d, T: Item<T>, J: Job> LocalCore<'d, T, J> {
         }
         let tries = self.domain.limits.tries;
         let table = &self.domain.table;
-        let loose = match own_seen(table, &mut self.seat, slot, tries) {
+        let loose = match own_seen(&mut self.seat, slot, tries) {
             Ok(loose) => loose,
             Err(refused) => return Err(refused),
         };
@@ -241,12 +236,11 @@ impl<'d, T: Item<T>, J: Job> LocalCore<'d, T, J> {
         ensures recalled { IsLone self.old → (value : Gv) × KnowsOwner self.old (number_of right) (is_shared (kind_of right)) value }
     {
         let slot = right.number();
-        let table = &self.domain.table;
         let (owner, read_fraction) = right.into_owner();
-        recall(table, &mut self.seat, &owner);
-        take_in(table, &mut self.seat, owner);
+        recall(&mut self.seat, &owner);
+        take_in(&mut self.seat, owner);
         let shared = is_one_of_several(kind);
-        if !let_one_go(table, &mut self.seat, slot, read_fraction, shared) {
+        if !let_one_go(&mut self.seat, slot, read_fraction, shared) {
             return false;
         }
         self.own.bags.push(LimboEntry::Item(SlotName::of(slot)));

@@ -24,8 +24,7 @@ impl<'d, T: Item<T>, J: Job> LocalCore<'d, T, J> {
             (λ e. (e.0 ≡ job) × (self.new ≡ self.old) × ((e.1 ≡ Refused.NoJob) ⊎ ((e.1 ≡ Refused.Contended) × ¬ (IsLone self.old)))
             × (IsLone self.old → AllPlacesTaken self.old)) }
     {
-        let table = &self.domain.table;
-        match claim_place(table, &mut self.seat, self.next_job, &self.domain.limits) {
+        match claim_place(&mut self.seat, self.next_job, &self.domain.limits) {
             Ok(place) => {
                 self.jobs.put(place, job);
                 self.next_job = place + 1;
@@ -45,7 +44,7 @@ impl<'d, T: Item<T>, J: Job> LocalCore<'d, T, J> {
         self.due.next();
         let job = self.jobs.take(place);
         let slots = self.domain.limits.slots as u32;
-        give_place_back(&self.domain.table, &mut self.seat, slots + place);
+        give_place_back(&mut self.seat, slots + place);
         job
     }
 }

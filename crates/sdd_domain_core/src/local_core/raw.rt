@@ -14,6 +14,7 @@ ghost use Rattle.sdd_domain_steps.specs.RawItems.{put_out as after_put_out, take
 use crate::local_core::LocalCore;
 use sdd_atomics::steps::raw::{RAW, look_for_raw};
 use sdd_atomics::steps::slots::{recall, take_in};
+use sdd_atomics::steps::values::look;
 use sdd_domain_steps::raw::values::{put_out, take_back};
 use sdd_participants::Job;
 use sdd_rights::{Right, StandingKind};
@@ -31,11 +32,10 @@ impl<'d, T: Item<T>, J: Job> LocalCore<'d, T, J> {
         ensures recalled { IsLone self.old → (value : Gv) × KnowsOwner self.old (number_of right) false value }
     {
         let slot = right.number();
-        let table = &self.domain.table;
         let (owner, read_fraction) = right.into_owner();
-        recall(table, &mut self.seat, &owner);
-        take_in(table, &mut self.seat, owner);
-        put_out(table, &mut self.seat, slot, read_fraction);
+        recall(&mut self.seat, &owner);
+        take_in(&mut self.seat, owner);
+        put_out(&mut self.seat, slot, read_fraction);
         slot
     }
 
@@ -51,7 +51,7 @@ impl<'d, T: Item<T>, J: Job> LocalCore<'d, T, J> {
         if slot as u64 >= slots {
             return None;
         }
-        let (owner, read_fraction) = take_back(&self.domain.table, &mut self.seat, slot)?;
+        let (owner, read_fraction) = take_back(&mut self.seat, slot)?;
         Some(Right::of_witness(
             slot,
             slots as usize,
@@ -75,10 +75,9 @@ impl<'d, T: Item<T>, J: Job> LocalCore<'d, T, J> {
         }
         let section = section_of(guard);
         self.section.agree(section);
-        let table = &self.domain.table;
-        if look_for_raw(table, &mut self.seat, slot) != RAW {
+        if look_for_raw(&mut self.seat, slot) != RAW {
             return None;
         }
-        Some(self.domain.values.look(slot as usize, &mut self.seat, &table.atomic.shared, section))
+        Some(look(&self.domain.values, slot as usize, &mut self.seat, section))
     }
 }

@@ -40,9 +40,8 @@ impl<'d, T: Item<T>, J: Job> LocalCore<'d, T, J> {
         ensures same { self.new ≡ self.old }
         ensures found { FindsPointer (raw_number_of cell.now) result self.old }
     {
-        let table = &self.domain.table;
-        find_cell(table, &mut self.seat, cell.witness());
-        pointer_in(look_at_pointer(table, &mut self.seat, cell.number()))
+        find_cell(&mut self.seat, cell.witness());
+        pointer_in(look_at_pointer(&mut self.seat, cell.number()))
     }
 
     /// A raw cell points to this. What it pointed to.
@@ -50,10 +49,9 @@ impl<'d, T: Item<T>, J: Job> LocalCore<'d, T, J> {
         requires home { raw_home_of cell.now ≡ cells_home self.old.home }
         ensures { PointsAt (raw_number_of cell.now) result new self.old self.new }
     {
-        let table = &self.domain.table;
         let word = word_to(new);
-        find_cell(table, &mut self.seat, cell.witness());
-        pointer_in(swap_pointer(table, &mut self.seat, cell.number(), word))
+        find_cell(&mut self.seat, cell.witness());
+        pointer_in(swap_pointer(&mut self.seat, cell.number(), word))
     }
 
     /// The same, if it points to what was expected; else what it points to comes back.
@@ -68,11 +66,10 @@ impl<'d, T: Item<T>, J: Job> LocalCore<'d, T, J> {
             (λ _. PointsAt (raw_number_of cell.now) current new self.old self.new)
             (λ now. (self.new ≡ self.old) × (now ≢ current) × FindsPointer (raw_number_of cell.now) now self.old) }
     {
-        let table = &self.domain.table;
         let old = word_to(current);
         let word = word_to(new);
-        find_cell(table, &mut self.seat, cell.witness());
-        let found = exchange_pointer(table, &mut self.seat, cell.number(), old, word);
+        find_cell(&mut self.seat, cell.witness());
+        let found = exchange_pointer(&mut self.seat, cell.number(), old, word);
         if found == old {
             return Ok(());
         }

@@ -1,13 +1,13 @@
 //! The search for a free cell.
-ghost use Rattle.std.specs.Prelude.{◌≡◌, ◌⊎◌, ◌<◌, ◌≤◌, ℕ, [], None, IfErr, IfOk, IfSome, MatchOption, MatchResult, length};
+ghost use Rattle.std.specs.Prelude.{◌≡◌, ◌⊎◌, ◌<◌, ◌≤◌, [], None, IfErr, IfOk, IfSome, MatchOption, MatchResult, length};
 ghost use Rattle.sdd_rights.specs.Views.{no_rights};
 ghost use Rattle.sdd_domain_invariant.specs.Codes.{held_slots, null_word};
 ghost use Rattle.sdd_domain_invariant.specs.Epoch.{HasPlace};
 ghost use Rattle.sdd_rights.specs.Owner.{cell_kind, witness_of_cell};
 ghost use Rattle.sdd_domain_invariant.specs.Cells.CellWordSteps.{cell_noted};
 ghost use Rattle.sdd_atomics.specs.Cells.{cells_of, FitsCell};
-ghost use Rattle.sdd_atomics.specs.DomainTable.{id_of};
-ghost use Rattle.sdd_atomics.specs.DomainSeat.{view, epoch, slots, Knows};
+ghost use Rattle.sdd_atomics.specs.SeatAtTable.{id_of, IsReady, facts_at};
+ghost use Rattle.sdd_atomics.specs.DomainSeat.{view, epoch, slots};
 ghost use Rattle.sdd_domain_steps.specs.Cells.{AreLoose, AreCellsTaken, CellComesFirst, Claims, Fills, IsWith, MissedAll, MissesCells, slots_in, told_of};
 ghost use Rattle.sdd_domain_steps.specs.InPlace.{IsBare as HasNothing};
 ghost use Rattle.sdd_domain_steps.specs.Claims.{Loses};
@@ -17,10 +17,10 @@ use crate::cells::values::{LooseOwner, put_down, take_up};
 use crate::cells::words::{NULL_WORD, held_slot};
 use crate::search::Search;
 use crate::sightings::Sightings;
+use sdd_atomics::SeatAtTable;
 use sdd_atomics::steps::cells::{
     FREE_CELL, claim_cell, cut_right, fill_bare_cell, find_cell, take_in_right,
 };
-use sdd_atomics::{DomainSeat, DomainTable};
 use sdd_core::Refused;
 use sdd_rights::views::CellKind;
 use sdd_witness::Witness;
@@ -28,47 +28,34 @@ use sdd_witness::Witness;
 /// Claims a cell of this kind by this word, if it is free: the right to it is a seat of its own, and the owner that the participant had is in the cell,
 /// if it had one.
 #[inline]
-pub fn claim(
-    table: &DomainTable,
-    seat: &mut DomainSeat,
-    cell: u32,
-    word: u64,
-    kind: CellKind,
-) -> Option<Witness>
-    requires home { seat.old.table_id ≡ id_of table.now }
-    requires knows { Knows table.now seat.old }
-    requires inside { cell < cells_of table.now }
-    requires place { HasPlace (epoch seat.old) }
-    requires rests { (view seat.old).fractions.moves ≡ None }
+pub fn claim(seat: &mut SeatAtTable<'_>, cell: u32, word: u64, kind: CellKind) -> Option<Witness>
+    requires inside { cell < cells_of seat.old }
+    requires ready { IsReady seat.old }
     requires own { ((slots seat.old).owns ≡ held_slots word) × ((slots seat.old).holds ≡ None) × ((slots seat.old).drawn ≡ []) }
     requires fits { FitsCell kind word (view seat.old).fractions.owns }
     requires rights { (view seat.old).cells ≡ no_rights }
     requires word { 0 < word }
     ensures claimed { MatchOption result
         (MissesCells (λ k. k ≡ cell) seat.old seat.new)
-        (λ right. Claims word cell seat.old seat.new × (right.table_id ≡ id_of table.now) × (right.views ≡ witness_of_cell cell kind)) }
+        (λ right. Claims word cell seat.old seat.new × (right.table_id ≡ id_of seat.old) × (right.views ≡ witness_of_cell cell kind)) }
 {
-    if claim_cell(table, seat, cell, word, kind) != FREE_CELL {
+    if claim_cell(seat, cell, word, kind) != FREE_CELL {
         return None;
     }
-    Some(cut_right(table, seat))
+    Some(cut_right(seat))
 }
 
 /// Tries the cells from one up to another one.
 fn walk(
-    table: &DomainTable,
-    seat: &mut DomainSeat,
+    seat: &mut SeatAtTable<'_>,
     from: u32,
     to: u32,
     word: u64,
     kind: CellKind,
     search: &mut Search,
 ) -> Result<Option<(u32, Witness)>, Refused>
-    requires home { seat.old.table_id ≡ id_of table.now }
-    requires knows { Knows table.now seat.old }
-    requires inside { to ≤ cells_of table.now }
-    requires place { HasPlace (epoch seat.old) }
-    requires rests { (view seat.old).fractions.moves ≡ None }
+    requires inside { to ≤ cells_of seat.old }
+    requires ready { IsReady seat.old }
     requires own { ((slots seat.old).owns ≡ held_slots word) × ((slots seat.old).holds ≡ None) × ((slots seat.old).drawn ≡ []) }
     requires fits { FitsCell kind word (view seat.old).fractions.owns }
     requires rights { (view seat.old).cells ≡ no_rights }
@@ -78,7 +65,7 @@ fn walk(
     ensures tried { MatchResult result
         (λ found. MatchOption found (MissesCells (λ k. (from ≤ k) × (k < to)) seat.old seat.new)
         (λ won. (from ≤ won.0) × (won.0 < to) × Claims word won.0 seat.old seat.new
-        × (won.1.table_id ≡ id_of table.now) × (won.1.views ≡ witness_of_cell won.0 kind)))
+        × (won.1.table_id ≡ id_of seat.old) × (won.1.views ≡ witness_of_cell won.0 kind)))
         (λ e. (e ≡ Refused.Contended) × Loses seat.old seat.new) }
     ensures first { IfOk result (λ found. IfSome found (λ won. AreCellsTaken (λ k. (from ≤ k) × (k < won.0)) seat.old)) }
     ensures on { SearchesOn search.old search.new }
@@ -87,7 +74,7 @@ fn walk(
         (λ _. IsOver search.new) }
 {
     for cell in from..to {
-        if let Some(right) = search.cell(table, seat, cell, word, kind)? {
+        if let Some(right) = search.cell(seat, cell, word, kind)? {
             return Ok(Some((cell, right)));
         }
     }
@@ -96,20 +83,16 @@ fn walk(
 
 /// Tries all cells in a walk, once round, which begins at this one.
 fn try_all(
-    table: &DomainTable,
-    seat: &mut DomainSeat,
+    seat: &mut SeatAtTable<'_>,
     next: u32,
     cells: u32,
     word: u64,
     kind: CellKind,
     search: &mut Search,
 ) -> Result<(u32, Witness), Refused>
-    requires home { seat.old.table_id ≡ id_of table.now }
-    requires knows { Knows table.now seat.old }
-    requires cells { cells ≡ cells_of table.now }
+    requires cells { cells ≡ cells_of seat.old }
     requires next { next ≤ cells }
-    requires place { HasPlace (epoch seat.old) }
-    requires rests { (view seat.old).fractions.moves ≡ None }
+    requires ready { IsReady seat.old }
     requires own { ((slots seat.old).owns ≡ held_slots word) × ((slots seat.old).holds ≡ None) × ((slots seat.old).drawn ≡ []) }
     requires fits { FitsCell kind word (view seat.old).fractions.owns }
     requires rights { (view seat.old).cells ≡ no_rights }
@@ -118,15 +101,15 @@ fn try_all(
     requires numbers { cells ≤ length search.old.seen.taken }
     ensures tried { MatchResult result
         (λ won. (won.0 < cells) × Claims word won.0 seat.old seat.new
-        × (won.1.table_id ≡ id_of table.now) × (won.1.views ≡ witness_of_cell won.0 kind))
+        × (won.1.table_id ≡ id_of seat.old) × (won.1.views ≡ witness_of_cell won.0 kind))
         (λ e. ((e ≡ Refused.NoCell) × MissesCells (λ k. k < cells) seat.old seat.new) ⊎ ((e ≡ Refused.Contended) × Loses seat.old seat.new)) }
     ensures seen { IfErr result (λ e. Explains Refused.NoCell 0 cells (length search.old.seen.lost) e search.new.seen) }
     ensures first { IfOk result (λ won. CellComesFirst cells next won.0 seat.old) }
 {
-    if let Some(won) = walk(table, seat, next, cells, word, kind, search)? {
+    if let Some(won) = walk(seat, next, cells, word, kind, search)? {
         return Ok(won);
     }
-    if let Some(won) = walk(table, seat, 0, next, word, kind, search)? {
+    if let Some(won) = walk(seat, 0, next, word, kind, search)? {
         return Ok(won);
     }
     Err(Refused::NoCell)
@@ -137,20 +120,16 @@ fn try_all(
 /// `NoCell` where none was found free; `Contended` where so many exchanges were lost: what was seen of that is told for clauses.
 #[inline(never)]
 pub fn claim_free(
-    table: &DomainTable,
-    seat: &mut DomainSeat,
+    seat: &mut SeatAtTable<'_>,
     next: u32,
     cells: u32,
     word: u64,
     kind: CellKind,
     tries: u64,
 ) -> Result<(u32, Witness), (Refused, Sightings)>
-    requires home { seat.old.table_id ≡ id_of table.now }
-    requires knows { Knows table.now seat.old }
-    requires cells { cells ≡ cells_of table.now }
+    requires cells { cells ≡ cells_of seat.old }
     requires next { next ≤ cells }
-    requires place { HasPlace (epoch seat.old) }
-    requires rests { (view seat.old).fractions.moves ≡ None }
+    requires ready { IsReady seat.old }
     requires own { ((slots seat.old).owns ≡ held_slots word) × ((slots seat.old).holds ≡ None) × ((slots seat.old).drawn ≡ []) }
     requires fits { FitsCell kind word (view seat.old).fractions.owns }
     requires rights { (view seat.old).cells ≡ no_rights }
@@ -158,13 +137,13 @@ pub fn claim_free(
     requires tries { 0 < tries }
     ensures tried { MatchResult result
         (λ won. (won.0 < cells) × Claims word won.0 seat.old seat.new
-        × (won.1.table_id ≡ id_of table.now) × (won.1.views ≡ witness_of_cell won.0 kind))
+        × (won.1.table_id ≡ id_of seat.old) × (won.1.views ≡ witness_of_cell won.0 kind))
         (λ e. ((e.0 ≡ Refused.NoCell) × MissesCells (λ k. k < cells) seat.old seat.new) ⊎ ((e.0 ≡ Refused.Contended) × Loses seat.old seat.new)) }
     ensures seen { IfErr result (λ e. Explains Refused.NoCell 0 cells tries e.0 e.1) }
     ensures first { IfOk result (λ won. CellComesFirst cells next won.0 seat.old) }
 {
     let mut search = Search::new(cells, tries);
-    match try_all(table, seat, next, cells, word, kind, &mut search) {
+    match try_all(seat, next, cells, word, kind, &mut search) {
         Ok(won) => Ok(won),
         Err(refused) => Err((refused, search.into_seen())),
     }
@@ -174,8 +153,7 @@ pub fn claim_free(
 ///
 /// The owner comes back: `NoCell` where none was found free; `Contended` where so many exchanges were lost: what was seen of that is told for clauses.
 pub fn claim_with(
-    table: &DomainTable,
-    seat: &mut DomainSeat,
+    seat: &mut SeatAtTable<'_>,
     next: u32,
     cells: u32,
     new: Option<LooseOwner>,
@@ -183,28 +161,26 @@ pub fn claim_with(
     shared: bool,
     tries: u64,
 ) -> Result<(u32, Witness), (Option<LooseOwner>, (Refused, Sightings))>
-    requires home { seat.old.table_id ≡ id_of table.now }
-    requires knows { Knows table.now seat.old }
-    requires cells { cells ≡ cells_of table.now }
+    requires cells { cells ≡ cells_of seat.old }
     requires next { next ≤ cells }
     requires place { HasPlace (epoch seat.old) }
     requires bare { HasNothing (view seat.old) }
     requires rights { (view seat.old).cells ≡ no_rights }
-    requires owner { AreLoose table.now shared new }
+    requires owner { AreLoose (facts_at seat.old) shared new }
     requires word { (0 < word) × (held_slots word ≡ slots_in new) }
     requires tries { 0 < tries }
     ensures claimed { MatchResult result
         (λ won. (won.0 < cells) × Fills word won.0 seat.old seat.new
-        × (won.1.table_id ≡ id_of table.now) × (won.1.views ≡ witness_of_cell won.0 (cell_kind shared)))
+        × (won.1.table_id ≡ id_of seat.old) × (won.1.views ≡ witness_of_cell won.0 (cell_kind shared)))
         (λ e. IsWith (view seat.old) seat.old seat.new × MissedAll cells e.1.0 (view seat.old)
-        × (slots_in e.0 ≡ slots_in new) × AreLoose table.now shared e.0 × (told_of shared e.0 ≡ told_of shared new)) }
+        × (slots_in e.0 ≡ slots_in new) × AreLoose (facts_at seat.old) shared e.0 × (told_of shared e.0 ≡ told_of shared new)) }
     ensures seen { IfErr result (λ e. Explains Refused.NoCell 0 cells tries e.1.0 e.1.1) }
     ensures first { IfOk result (λ won. CellComesFirst cells next won.0 seat.old) }
 {
-    take_up(table, seat, new);
-    match claim_free(table, seat, next, cells, word, kind_for(shared), tries) {
+    take_up(seat, new);
+    match claim_free(seat, next, cells, word, kind_for(shared), tries) {
         Ok(won) => Ok(won),
-        Err(missed) => Err((put_down(table, seat, word, held_slot(word)), missed)),
+        Err(missed) => Err((put_down(seat, word, held_slot(word)), missed)),
     }
 }
 
@@ -224,15 +200,12 @@ fn kind_for(shared: bool) -> CellKind
 ///
 /// `NoCell` where none was found free; `Contended` where so many exchanges were lost: what was seen of that is told for clauses.
 pub fn reserve(
-    table: &DomainTable,
-    seat: &mut DomainSeat,
+    seat: &mut SeatAtTable<'_>,
     next: u32,
     cells: u32,
     tries: u64,
 ) -> Result<(u32, Witness), (Refused, Sightings)>
-    requires home { seat.old.table_id ≡ id_of table.now }
-    requires knows { Knows table.now seat.old }
-    requires cells { cells ≡ cells_of table.now }
+    requires cells { cells ≡ cells_of seat.old }
     requires next { next ≤ cells }
     requires place { HasPlace (epoch seat.old) }
     requires bare { HasNothing (view seat.old) }
@@ -240,39 +213,36 @@ pub fn reserve(
     requires tries { 0 < tries }
     ensures reserved { MatchResult result
         (λ won. (won.0 < cells) × Fills (null_word 0) won.0 seat.old seat.new
-        × (won.1.table_id ≡ id_of table.now) × (won.1.views ≡ witness_of_cell won.0 CellKind.Raw))
+        × (won.1.table_id ≡ id_of seat.old) × (won.1.views ≡ witness_of_cell won.0 CellKind.Raw))
         (λ e. IsWith (view seat.old) seat.old seat.new × MissedAll cells e.0 (view seat.old)) }
     ensures seen { IfErr result (λ e. Explains Refused.NoCell 0 cells tries e.0 e.1) }
     ensures first { IfOk result (λ won. CellComesFirst cells next won.0 seat.old) }
 {
-    claim_free(table, seat, next, cells, NULL_WORD, CellKind::Raw, tries)
+    claim_free(seat, next, cells, NULL_WORD, CellKind::Raw, tries)
 }
 
 /// Puts an owner, or none, into a cell that was reserved, by this word.
 pub fn fill(
-    table: &DomainTable,
-    seat: &mut DomainSeat,
+    seat: &mut SeatAtTable<'_>,
     cell: u32,
     right: Witness,
     new: Option<LooseOwner>,
     word: u64,
     shared: bool,
 ) -> Witness
-    requires home { seat.old.table_id ≡ id_of table.now }
-    requires knows { Knows table.now seat.old }
     requires place { HasPlace (epoch seat.old) }
     requires bare { HasNothing (view seat.old) }
     requires rights { (view seat.old).cells ≡ no_rights }
-    requires right { (right.table_id ≡ id_of table.now) × (right.views ≡ witness_of_cell cell CellKind.Raw) }
-    requires owner { AreLoose table.now shared new }
+    requires right { (right.table_id ≡ id_of seat.old) × (right.views ≡ witness_of_cell cell CellKind.Raw) }
+    requires owner { AreLoose (facts_at seat.old) shared new }
     requires word { (0 < word) × (held_slots word ≡ slots_in new) }
     ensures filled { IsWith (record (view seat.old) { words = cell_noted cell word (view seat.old) }) seat.old seat.new }
     ensures inside { cell < (view seat.old).sizes.cells }
-    ensures right { (result.table_id ≡ id_of table.now) × (result.views ≡ witness_of_cell cell (cell_kind shared)) }
+    ensures right { (result.table_id ≡ id_of seat.old) × (result.views ≡ witness_of_cell cell (cell_kind shared)) }
 {
-    find_cell(table, seat, &right);
-    take_in_right(table, seat, right);
-    take_up(table, seat, new);
-    fill_bare_cell(table, seat, cell, word, shared);
-    cut_right(table, seat)
+    find_cell(seat, &right);
+    take_in_right(seat, right);
+    take_up(seat, new);
+    fill_bare_cell(seat, cell, word, shared);
+    cut_right(seat)
 }

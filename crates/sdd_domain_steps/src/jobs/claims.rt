@@ -1,31 +1,25 @@
 //! The search for a free place of a job.
 ghost use Rattle.std.specs.Prelude.{◌≡◌, ◌⊎◌, ◌+◌, ◌^◌, ◌<◌, ◌≤◌, true, false, None, IfErr, IfOk, IfSome, MatchOption, MatchResult, length};
-ghost use Rattle.sdd_domain_invariant.specs.Epoch.{HasPlace};
-ghost use Rattle.sdd_atomics.specs.DomainTable.{id_of, slots_of, most_waiting_of};
-ghost use Rattle.sdd_atomics.specs.DomainSeat.{view, epoch, Knows};
+ghost use Rattle.sdd_atomics.specs.SeatAtTable.{slots_of, most_waiting_of, IsReady};
 ghost use Rattle.sdd_domain_steps.specs.Claims.{AreTaken, ComesFirst, Defers, Misses, Loses};
 ghost use Rattle.sdd_domain_steps.specs.Sightings.{AreSeenTaken, Explains, IsOver, SearchesOn};
 
 use crate::search::Search;
 use crate::sightings::Sightings;
+use sdd_atomics::SeatAtTable;
 use sdd_atomics::steps::jobs::defer;
 use sdd_atomics::steps::slots::FREE;
-use sdd_atomics::{DomainSeat, DomainTable};
 use sdd_core::{Limits, Refused};
 
 /// Tries the places from one up to another one.
 fn walk(
-    table: &DomainTable,
-    seat: &mut DomainSeat,
+    seat: &mut SeatAtTable<'_>,
     from: u32,
     to: u32,
     search: &mut Search,
 ) -> Result<Option<u32>, Refused>
-    requires home { seat.old.table_id ≡ id_of table.now }
-    requires knows { Knows table.now seat.old }
-    requires rests { (view seat.old).fractions.moves ≡ None }
-    requires inside { (slots_of table.now ≤ from) × (to ≤ most_waiting_of table.now) }
-    requires place { HasPlace (epoch seat.old) }
+    requires inside { (slots_of seat.old ≤ from) × (to ≤ most_waiting_of seat.old) }
+    requires ready { IsReady seat.old }
     requires left { 0 < search.old.left }
     requires numbers { to ≤ length search.old.seen.taken }
     ensures tried { MatchResult result
@@ -40,7 +34,7 @@ fn walk(
         (λ _. IsOver search.new) }
 {
     for place in from..to {
-        if search.place(table, seat, place)? {
+        if search.place(seat, place)? {
             return Ok(Some(place));
         }
     }
@@ -49,16 +43,13 @@ fn walk(
 
 /// Claims a place for a job, if it is free.
 #[inline]
-fn claim(table: &DomainTable, seat: &mut DomainSeat, place: u32) -> bool
-    requires home { seat.old.table_id ≡ id_of table.now }
-    requires knows { Knows table.now seat.old }
-    requires rests { (view seat.old).fractions.moves ≡ None }
-    requires inside { (slots_of table.now ≤ place) × (place < most_waiting_of table.now) }
-    requires place { HasPlace (epoch seat.old) }
+fn claim(seat: &mut SeatAtTable<'_>, place: u32) -> bool
+    requires inside { (slots_of seat.old ≤ place) × (place < most_waiting_of seat.old) }
+    requires ready { IsReady seat.old }
     ensures won { result ≡ true → Defers place seat.old seat.new }
     ensures lost { result ≡ false → Misses (λ k. k ≡ place) seat.old seat.new }
 {
-    defer(table, seat, place) == FREE
+    defer(seat, place) == FREE
 }
 
 /// Where a walk over so many places begins: at this one, or at the first where there is no such place.
@@ -72,19 +63,15 @@ fn start_of(next: u32, places: u32) -> u32
 
 /// Tries all places in a walk, once round, which begins at this one, or at the first where there is no such place.
 fn try_all(
-    table: &DomainTable,
-    seat: &mut DomainSeat,
+    seat: &mut SeatAtTable<'_>,
     next: u32,
     slots: u32,
     jobs: u32,
     search: &mut Search,
 ) -> Result<u32, Refused>
-    requires home { seat.old.table_id ≡ id_of table.now }
-    requires knows { Knows table.now seat.old }
-    requires rests { (view seat.old).fractions.moves ≡ None }
-    requires slots { (slots ≡ slots_of table.now) × (slots + jobs ≡ most_waiting_of table.now) }
+    requires slots { (slots ≡ slots_of seat.old) × (slots + jobs ≡ most_waiting_of seat.old) }
     requires small { slots + jobs < 2 ^ 32 }
-    requires place { HasPlace (epoch seat.old) }
+    requires ready { IsReady seat.old }
     requires left { 0 < search.old.left }
     requires numbers { slots + jobs ≤ length search.old.seen.taken }
     ensures tried { MatchResult result
@@ -95,10 +82,10 @@ fn try_all(
     ensures first { IfOk result (λ job. ComesFirst slots (slots + jobs) (slots + next) (slots + job) seat.old) }
 {
     let next = start_of(next, jobs);
-    if let Some(place) = walk(table, seat, slots + next, slots + jobs, search)? {
+    if let Some(place) = walk(seat, slots + next, slots + jobs, search)? {
         return Ok(place - slots);
     }
-    if let Some(place) = walk(table, seat, slots, slots + next, search)? {
+    if let Some(place) = walk(seat, slots, slots + next, search)? {
         return Ok(place - slots);
     }
     Err(Refused::NoJob)
@@ -107,19 +94,15 @@ fn try_all(
 /// The same search, which may lose so many exchanges, and tells with a refusal what it saw.
 #[inline(never)]
 fn search(
-    table: &DomainTable,
-    seat: &mut DomainSeat,
+    seat: &mut SeatAtTable<'_>,
     next: u32,
     slots: u32,
     jobs: u32,
     tries: u64,
 ) -> Result<u32, (Refused, Sightings)>
-    requires home { seat.old.table_id ≡ id_of table.now }
-    requires knows { Knows table.now seat.old }
-    requires rests { (view seat.old).fractions.moves ≡ None }
-    requires slots { (slots ≡ slots_of table.now) × (slots + jobs ≡ most_waiting_of table.now) }
+    requires slots { (slots ≡ slots_of seat.old) × (slots + jobs ≡ most_waiting_of seat.old) }
     requires small { slots + jobs < 2 ^ 32 }
-    requires place { HasPlace (epoch seat.old) }
+    requires ready { IsReady seat.old }
     requires tries { 0 < tries }
     ensures tried { MatchResult result
         (λ job. (job < jobs) × Defers (slots + job) seat.old seat.new)
@@ -129,7 +112,7 @@ fn search(
     ensures first { IfOk result (λ job. ComesFirst slots (slots + jobs) (slots + next) (slots + job) seat.old) }
 {
     let mut search = Search::new(slots + jobs, tries);
-    match try_all(table, seat, next, slots, jobs, &mut search) {
+    match try_all(seat, next, slots, jobs, &mut search) {
         Ok(place) => Ok(place),
         Err(refused) => Err((refused, search.into_seen())),
     }
@@ -139,17 +122,13 @@ fn search(
 // Compiled into its caller, so that the place in memory of the search's answer is made ready only where there is a search.
 #[inline]
 fn search_within(
-    table: &DomainTable,
-    seat: &mut DomainSeat,
+    seat: &mut SeatAtTable<'_>,
     next: u32,
     limits: &Limits,
 ) -> Result<u32, (Refused, Sightings)>
-    requires home { seat.old.table_id ≡ id_of table.now }
-    requires knows { Knows table.now seat.old }
-    requires rests { (view seat.old).fractions.moves ≡ None }
-    requires slots { (limits.now.slots ≡ slots_of table.now) × (limits.now.slots + limits.now.jobs ≡ most_waiting_of table.now) }
+    requires slots { (limits.now.slots ≡ slots_of seat.old) × (limits.now.slots + limits.now.jobs ≡ most_waiting_of seat.old) }
     requires small { limits.now.slots + limits.now.jobs < 2 ^ 32 }
-    requires place { HasPlace (epoch seat.old) }
+    requires ready { IsReady seat.old }
     requires tries { 0 < limits.now.tries }
     ensures tried { MatchResult result
         (λ job. (job < limits.now.jobs) × Defers (limits.now.slots + job) seat.old seat.new)
@@ -161,7 +140,7 @@ fn search_within(
 {
     let slots = limits.slots as u32;
     let jobs = limits.jobs as u32;
-    match search(table, seat, next, slots, jobs, limits.tries) {
+    match search(seat, next, slots, jobs, limits.tries) {
         Ok(place) => Ok(place),
         Err(refused) => Err(refused),
     }
@@ -174,17 +153,13 @@ fn search_within(
 /// clauses.
 #[inline]
 pub fn claim_place(
-    table: &DomainTable,
-    seat: &mut DomainSeat,
+    seat: &mut SeatAtTable<'_>,
     next: u32,
     limits: &Limits,
 ) -> Result<u32, (Refused, Sightings)>
-    requires home { seat.old.table_id ≡ id_of table.now }
-    requires knows { Knows table.now seat.old }
-    requires rests { (view seat.old).fractions.moves ≡ None }
-    requires slots { (limits.now.slots ≡ slots_of table.now) × (limits.now.slots + limits.now.jobs ≡ most_waiting_of table.now) }
+    requires slots { (limits.now.slots ≡ slots_of seat.old) × (limits.now.slots + limits.now.jobs ≡ most_waiting_of seat.old) }
     requires small { limits.now.slots + limits.now.jobs < 2 ^ 32 }
-    requires place { HasPlace (epoch seat.old) }
+    requires ready { IsReady seat.old }
     requires tries { 0 < limits.now.tries }
     ensures tried { MatchResult result
         (λ job. (job < limits.now.jobs) × Defers (limits.now.slots + job) seat.old seat.new)
@@ -194,8 +169,8 @@ pub fn claim_place(
     ensures first { IfOk result (λ job. ComesFirst limits.now.slots (limits.now.slots + limits.now.jobs)
         (limits.now.slots + next) (limits.now.slots + job) seat.old) }
 {
-    if next < limits.jobs as u32 && claim(table, seat, limits.slots as u32 + next) {
+    if next < limits.jobs as u32 && claim(seat, limits.slots as u32 + next) {
         return Ok(next);
     }
-    search_within(table, seat, next, limits)
+    search_within(seat, next, limits)
 }

@@ -2,48 +2,41 @@
 ghost use Rattle.std.specs.Prelude.{◌≡◌, ◌⊎◌, ◌+◌, ◌<◌, ◌≤◌, ℕ, List, [], ◌∷◌, ◌++◌, None, Ok, IfErr, IfOk, IfSome, IsTrue, MatchBool, MatchOption, MatchResult, length};
 ghost use Rattle.sdd_domain_invariant.specs.Codes.{alive};
 ghost use Rattle.sdd_domain_invariant.specs.Epoch.{HasPlace, IsLone};
-ghost use Rattle.sdd_atomics.specs.DomainTable.{id_of, slots_of};
-ghost use Rattle.sdd_atomics.specs.DomainSeat.{view, epoch, Knows};
+ghost use Rattle.sdd_atomics.specs.SeatAtTable.{slots_of, IsReady};
+ghost use Rattle.sdd_atomics.specs.DomainSeat.{epoch};
 ghost use Rattle.sdd_domain_steps.specs.Claims.{AreTaken, ComesFirst, IsKnownFree, IsUnmoved, Gains, Misses, Loses};
 ghost use Rattle.sdd_domain_steps.specs.Sightings.{AreSeenTaken, Explains, IsOver, SearchesOn};
 
 use crate::search::Search;
 use crate::sightings::Sightings;
 use crate::slots::free_slot_hints::FreeSlotHints;
+use sdd_atomics::SeatAtTable;
 use sdd_atomics::steps::slots::{FREE, claim, look};
-use sdd_atomics::{DomainSeat, DomainTable};
 use sdd_core::{Limits, Refused};
 
 /// One try at a slot that was given back, by an exchange at once: it is claimed by this word, of one owner, if it is free.
 #[inline(always)]
-fn claim_at_once(table: &DomainTable, seat: &mut DomainSeat, slot: u32, word: u64) -> bool
-    requires home { seat.old.table_id ≡ id_of table.now }
-    requires knows { Knows table.now seat.old }
-    requires rests { (view seat.old).fractions.moves ≡ None }
-    requires inside { slot < slots_of table.now }
-    requires place { HasPlace (epoch seat.old) }
+fn claim_at_once(seat: &mut SeatAtTable<'_>, slot: u32, word: u64) -> bool
+    requires inside { slot < slots_of seat.old }
+    requires ready { IsReady seat.old }
     requires one { alive word ≡ 1 }
     ensures { MatchBool result (Gains word slot seat.old seat.new) (Misses (λ k. k ≡ slot) seat.old seat.new) }
 {
-    claim(table, seat, slot, word) == FREE
+    claim(seat, slot, word) == FREE
 }
 
 /// Tries the slots that were given back.
 fn try_known(
-    table: &DomainTable,
-    seat: &mut DomainSeat,
+    seat: &mut SeatAtTable<'_>,
     known: &mut FreeSlotHints,
     word: u64,
     search: &mut Search,
 ) -> Result<Option<u32>, Refused>
-    requires home { seat.old.table_id ≡ id_of table.now }
-    requires knows { Knows table.now seat.old }
-    requires rests { (view seat.old).fractions.moves ≡ None }
-    requires slots { known.old.slots ≡ slots_of table.now }
-    requires place { HasPlace (epoch seat.old) }
+    requires slots { known.old.slots ≡ slots_of seat.old }
+    requires ready { IsReady seat.old }
     requires one { alive word ≡ 1 }
     requires left { 0 < search.old.left }
-    requires numbers { slots_of table.now ≤ length search.old.seen.taken }
+    requires numbers { slots_of seat.old ≤ length search.old.seen.taken }
     ensures tried { MatchResult result
         (λ found. MatchOption found (IsUnmoved seat.old seat.new) (λ slot. Gains word slot seat.old seat.new))
         (λ e. (e ≡ Refused.Contended) × Loses seat.old seat.new) }
@@ -57,7 +50,7 @@ fn try_known(
         let Some(slot) = known.pop() else {
             return Ok(None);
         };
-        if search.slot(table, seat, slot, word)? {
+        if search.slot(seat, slot, word)? {
             return Ok(Some(slot));
         }
     }
@@ -66,18 +59,14 @@ fn try_known(
 
 /// Tries the slots from one up to another one.
 fn walk(
-    table: &DomainTable,
-    seat: &mut DomainSeat,
+    seat: &mut SeatAtTable<'_>,
     from: u32,
     to: u32,
     word: u64,
     search: &mut Search,
 ) -> Result<Option<u32>, Refused>
-    requires home { seat.old.table_id ≡ id_of table.now }
-    requires knows { Knows table.now seat.old }
-    requires rests { (view seat.old).fractions.moves ≡ None }
-    requires inside { to ≤ slots_of table.now }
-    requires place { HasPlace (epoch seat.old) }
+    requires inside { to ≤ slots_of seat.old }
+    requires ready { IsReady seat.old }
     requires one { alive word ≡ 1 }
     requires left { 0 < search.old.left }
     requires numbers { to ≤ length search.old.seen.taken }
@@ -93,7 +82,7 @@ fn walk(
         (λ _. IsOver search.new) }
 {
     for slot in from..to {
-        if search.slot(table, seat, slot, word)? {
+        if search.slot(seat, slot, word)? {
             return Ok(Some(slot));
         }
     }
@@ -102,39 +91,35 @@ fn walk(
 
 /// Tries the slots that were given back, and then all slots in a walk, once round.
 fn try_all(
-    table: &DomainTable,
-    seat: &mut DomainSeat,
+    seat: &mut SeatAtTable<'_>,
     known: &mut FreeSlotHints,
     slots: u32,
     word: u64,
     search: &mut Search,
 ) -> Result<u32, Refused>
-    requires home { seat.old.table_id ≡ id_of table.now }
-    requires knows { Knows table.now seat.old }
-    requires rests { (view seat.old).fractions.moves ≡ None }
-    requires slots { (known.old.slots ≡ slots_of table.now) × (slots ≡ slots_of table.now) }
-    requires place { HasPlace (epoch seat.old) }
+    requires slots { (known.old.slots ≡ slots_of seat.old) × (slots ≡ slots_of seat.old) }
+    requires ready { IsReady seat.old }
     requires one { alive word ≡ 1 }
     requires left { 0 < search.old.left }
     requires numbers { slots ≤ length search.old.seen.taken }
     ensures tried { MatchResult result
         (λ slot. Gains word slot seat.old seat.new)
-        (λ e. ((e ≡ Refused.NoSlot) × Misses (λ k. k < slots_of table.now) seat.old seat.new)
+        (λ e. ((e ≡ Refused.NoSlot) × Misses (λ k. k < slots_of seat.old) seat.old seat.new)
         ⊎ ((e ≡ Refused.Contended) × Loses seat.old seat.new)) }
-    ensures seen { IfErr result (λ e. Explains Refused.NoSlot 0 (slots_of table.now) (length search.old.seen.lost) e search.new.seen) }
+    ensures seen { IfErr result (λ e. Explains Refused.NoSlot 0 (slots_of seat.old) (length search.old.seen.lost) e search.new.seen) }
     ensures first { known.old.given_back.items ≡ [] → IfOk result (λ slot. (known.new.next ≡ slot + 1)
-        × ComesFirst 0 (slots_of table.now) known.old.next slot seat.old) }
+        × ComesFirst 0 (slots_of seat.old) known.old.next slot seat.old) }
     ensures slots { known.new.slots ≡ known.old.slots }
 {
-    if let Some(slot) = try_known(table, seat, known, word, search)? {
+    if let Some(slot) = try_known(seat, known, word, search)? {
         return Ok(slot);
     }
     let next = known.next();
-    if let Some(slot) = walk(table, seat, next, slots, word, search)? {
+    if let Some(slot) = walk(seat, next, slots, word, search)? {
         known.find(slot);
         return Ok(slot);
     }
-    if let Some(slot) = walk(table, seat, 0, next, word, search)? {
+    if let Some(slot) = walk(seat, 0, next, word, search)? {
         known.find(slot);
         return Ok(slot);
     }
@@ -145,49 +130,44 @@ fn try_all(
 #[cold]
 #[inline(never)]
 fn search(
-    table: &DomainTable,
-    seat: &mut DomainSeat,
+    seat: &mut SeatAtTable<'_>,
     known: &mut FreeSlotHints,
     limits: &Limits,
     word: u64,
 ) -> Result<u32, (Refused, Sightings)>
-    requires home { seat.old.table_id ≡ id_of table.now }
-    requires knows { Knows table.now seat.old }
-    requires rests { (view seat.old).fractions.moves ≡ None }
-    requires slots { (known.old.slots ≡ slots_of table.now) × (limits.now.slots ≡ slots_of table.now) }
-    requires place { HasPlace (epoch seat.old) }
+    requires slots { (known.old.slots ≡ slots_of seat.old) × (limits.now.slots ≡ slots_of seat.old) }
+    requires ready { IsReady seat.old }
     requires one { alive word ≡ 1 }
     requires tries { 0 < limits.now.tries }
     ensures tried { MatchResult result
         (λ slot. Gains word slot seat.old seat.new)
-        (λ e. ((e.0 ≡ Refused.NoSlot) × Misses (λ k. k < slots_of table.now) seat.old seat.new)
+        (λ e. ((e.0 ≡ Refused.NoSlot) × Misses (λ k. k < slots_of seat.old) seat.old seat.new)
         ⊎ ((e.0 ≡ Refused.Contended) × Loses seat.old seat.new)) }
-    ensures seen { IfErr result (λ e. Explains Refused.NoSlot 0 (slots_of table.now) limits.now.tries e.0 e.1) }
+    ensures seen { IfErr result (λ e. Explains Refused.NoSlot 0 (slots_of seat.old) limits.now.tries e.0 e.1) }
     ensures first { known.old.given_back.items ≡ [] → IfOk result (λ slot. (known.new.next ≡ slot + 1)
-        × ComesFirst 0 (slots_of table.now) known.old.next slot seat.old) }
+        × ComesFirst 0 (slots_of seat.old) known.old.next slot seat.old) }
     ensures slots { known.new.slots ≡ known.old.slots }
 {
+    seat.is_small();
     let slots = limits.slots as u32;
     let mut search = Search::new(slots, limits.tries);
-    match try_all(table, seat, known, slots, word, &mut search) {
+    match try_all(seat, known, slots, word, &mut search) {
         Ok(slot) => Ok(slot),
         Err(refused) => Err((refused, search.into_seen())),
     }
 }
 
 /// A slot is found free by a walk over all of them, which claims none.
-pub fn finds_free(table: &DomainTable, seat: &mut DomainSeat, slots: u32) -> bool
-    requires home { seat.old.table_id ≡ id_of table.now }
-    requires knows { Knows table.now seat.old }
-    requires slots { slots ≡ slots_of table.now }
+pub fn finds_free(seat: &mut SeatAtTable<'_>, slots: u32) -> bool
+    requires slots { slots ≡ slots_of seat.old }
     requires place { HasPlace (epoch seat.old) }
     ensures same { IsUnmoved seat.old seat.new }
     ensures some { IsTrue result → 0 < slots }
-    ensures found { IsTrue result → IsLone (epoch seat.old) → (slot : ℕ) × (slot < slots_of table.now) × IsKnownFree seat.old slot }
-    ensures missed { ¬ (IsTrue result) → Misses (λ k. k < slots_of table.now) seat.old seat.new }
+    ensures found { IsTrue result → IsLone (epoch seat.old) → (slot : ℕ) × (slot < slots_of seat.old) × IsKnownFree seat.old slot }
+    ensures missed { ¬ (IsTrue result) → Misses (λ k. k < slots_of seat.old) seat.old seat.new }
 {
     for slot in 0..slots {
-        if look(table, seat, slot) == FREE {
+        if look(seat, slot) == FREE {
             return true;
         }
     }
@@ -201,34 +181,30 @@ pub fn finds_free(table: &DomainTable, seat: &mut DomainSeat, slots: u32) -> boo
 /// exchange at once at the slot that was given back last isn't counted: others may have that slot for long.
 #[inline(always)]
 pub fn claim_free(
-    table: &DomainTable,
-    seat: &mut DomainSeat,
+    seat: &mut SeatAtTable<'_>,
     known: &mut FreeSlotHints,
     limits: &Limits,
     word: u64,
 ) -> Result<u32, (Refused, Sightings)>
-    requires home { seat.old.table_id ≡ id_of table.now }
-    requires knows { Knows table.now seat.old }
-    requires rests { (view seat.old).fractions.moves ≡ None }
-    requires slots { (known.old.slots ≡ slots_of table.now) × (limits.now.slots ≡ slots_of table.now) }
-    requires place { HasPlace (epoch seat.old) }
+    requires slots { (known.old.slots ≡ slots_of seat.old) × (limits.now.slots ≡ slots_of seat.old) }
+    requires ready { IsReady seat.old }
     requires one { alive word ≡ 1 }
     requires tries { 0 < limits.now.tries }
     ensures tried { MatchResult result
         (λ slot. Gains word slot seat.old seat.new)
-        (λ e. ((e.0 ≡ Refused.NoSlot) × Misses (λ k. k < slots_of table.now) seat.old seat.new)
+        (λ e. ((e.0 ≡ Refused.NoSlot) × Misses (λ k. k < slots_of seat.old) seat.old seat.new)
         ⊎ ((e.0 ≡ Refused.Contended) × Loses seat.old seat.new)) }
-    ensures seen { IfErr result (λ e. Explains Refused.NoSlot 0 (slots_of table.now) limits.now.tries e.0 e.1) }
+    ensures seen { IfErr result (λ e. Explains Refused.NoSlot 0 (slots_of seat.old) limits.now.tries e.0 e.1) }
     ensures last { IsLone (epoch seat.old) → (rest : List ℕ) (slot : ℕ) → known.old.given_back.items ≡ rest ++ slot ∷ [] → IsKnownFree seat.old slot
         → (result ≡ Ok slot) × (known.new.given_back.items ≡ rest) × (known.new.next ≡ known.old.next) }
     ensures first { known.old.given_back.items ≡ [] → IfOk result (λ slot. (known.new.next ≡ slot + 1)
-        × ComesFirst 0 (slots_of table.now) known.old.next slot seat.old) }
+        × ComesFirst 0 (slots_of seat.old) known.old.next slot seat.old) }
     ensures slots { known.new.slots ≡ known.old.slots }
 {
     if let Some(slot) = known.pop()
-        && claim_at_once(table, seat, slot, word)
+        && claim_at_once(seat, slot, word)
     {
         return Ok(slot);
     }
-    search(table, seat, known, limits, word)
+    search(seat, known, limits, word)
 }

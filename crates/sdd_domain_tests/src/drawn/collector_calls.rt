@@ -1,218 +1,126 @@
-//! The calls of collectors in lists that come as they are drawn.
-ghost use Rattle.std.specs.Prelude.{◌≡◌};
+//! Calls with collectors.
+ghost use Rattle.std.specs.Prelude.{◌≡◌, IfSome};
 ghost use Rattle.sdd_space.specs.CallerId.{IsSeated};
 ghost use Rattle.sdd_space.specs.Collector.{cells_home};
 ghost use Rattle.sdd_space.specs.Guard.{reader_of};
-ghost use Rattle.sdd_domain_tests.specs.Hands.{AreCollectorsIn, AreGuardsOf, AreOwnedIn, AreSharedIn};
+ghost use Rattle.sdd_domain_tests.specs.Hands.{IsHandOf, AreOwnersOf};
 
 use crate::answers::Answer;
-use crate::drawn::hand::{
-    keep_collector, keep_guard, take_collector, take_guard, take_owned, take_shared,
+use crate::drawn::generator::Generator;
+use crate::drawn::in_hand::{InHand, keep_made};
+use crate::hand::{Hand, OwnersInHand};
+use sdd_space::{
+    Collectors, Guard, Owned, PrivateCollector, RawCells, Shared, SharedOwnership, UniqueOwnership,
 };
-use sdd_space::{Collectors, Guard, Owned, PrivateCollector, RawCells, Shared};
 use std::process::Abort;
 
-pub fn makes<S: RawCells<u64> + Collectors<u64>>(
-    rt: &impl Abort,
-    s: &mut S,
-    collectors: &mut Vec<PrivateCollector<u64>>,
-) -> Answer
-    requires seated { IsSeated (S.caller s.old) }
-    requires collectors { AreCollectorsIn (S.caller s.old).home.cells collectors.old.items }
-    ensures caller { S.caller s.new ≡ S.caller s.old }
-    ensures collectors { AreCollectorsIn (S.caller s.old).home.cells collectors.new.items }
-{
-    match PrivateCollector::new(s) {
-        Ok(collector) => {
-            keep_collector(rt, collectors, collector);
-            Answer::Done
-        }
-        Err(refused) => Answer::Refused(refused),
-    }
-}
-
-/// The item of the owner that is taken waits for the collector.
+/// The item of an owner that is taken waits for the collector.
 fn collected<S: Collectors<u64>>(
     s: &mut S,
+    owners: &mut OwnersInHand<UniqueOwnership>,
     collector: &PrivateCollector<u64>,
-    owners: &mut Vec<Owned<u64>>,
     guard: &Guard,
     pick: usize,
-) -> Answer
+) -> Option<Answer>
     requires seated { IsSeated (S.caller s.old) }
+    requires owners { AreOwnersOf (S.caller s.old) owners.old }
     requires collector { cells_home collector.now ≡ (S.caller s.old).home.cells }
-    requires owners { AreOwnedIn (S.caller s.old).home.slots owners.old.items }
     requires reader { reader_of guard.now ≡ (S.caller s.old).reader }
     ensures caller { S.caller s.new ≡ S.caller s.old }
-    ensures owners { AreOwnedIn (S.caller s.old).home.slots owners.new.items }
+    ensures owners { AreOwnersOf (S.caller s.old) owners.new }
 {
-    let Some(owner) = take_owned(owners, pick) else {
-        return Answer::Nothing;
-    };
+    let owner = Owned::take(owners, pick)?;
     collector.collect_owned(owner, guard, s);
-    Answer::Done
+    Some(Answer::Done)
 }
 
 /// The same of an owner that may have others beside it. Whether it was the last.
 fn shared_collected<S: Collectors<u64>>(
     s: &mut S,
+    owners: &mut OwnersInHand<SharedOwnership>,
     collector: &PrivateCollector<u64>,
-    owners: &mut Vec<Shared<u64>>,
     guard: &Guard,
     pick: usize,
-) -> Answer
+) -> Option<Answer>
     requires seated { IsSeated (S.caller s.old) }
+    requires owners { AreOwnersOf (S.caller s.old) owners.old }
     requires collector { cells_home collector.now ≡ (S.caller s.old).home.cells }
-    requires owners { AreSharedIn (S.caller s.old).home.slots owners.old.items }
     requires reader { reader_of guard.now ≡ (S.caller s.old).reader }
     ensures caller { S.caller s.new ≡ S.caller s.old }
-    ensures owners { AreSharedIn (S.caller s.old).home.slots owners.new.items }
+    ensures owners { AreOwnersOf (S.caller s.old) owners.new }
 {
-    let Some(owner) = take_shared(owners, pick) else {
-        return Answer::Nothing;
-    };
-    Answer::Told(collector.collect_shared(owner, guard, s))
+    let owner = Shared::take(owners, pick)?;
+    Some(Answer::Told(collector.collect_shared(owner, guard, s)))
 }
 
-/// The same with the collector that is taken.
-fn collected_for_one<S: Collectors<u64>>(
+/// One of the two, with the collector that is taken.
+#[tactic(auto, unfolding(crate::specs::Hands::IsHandOf))]
+fn collects<S: Collectors<u64>>(
     rt: &impl Abort,
     s: &mut S,
-    collectors: &mut Vec<PrivateCollector<u64>>,
-    owners: &mut Vec<Owned<u64>>,
+    hand: &mut Hand,
     guard: &Guard,
     pick: usize,
-) -> Answer
+    alone: bool,
+) -> Option<Answer>
     requires seated { IsSeated (S.caller s.old) }
-    requires collectors { AreCollectorsIn (S.caller s.old).home.cells collectors.old.items }
-    requires owners { AreOwnedIn (S.caller s.old).home.slots owners.old.items }
+    requires hand { IsHandOf (S.caller s.old) hand.old }
     requires reader { reader_of guard.now ≡ (S.caller s.old).reader }
     ensures caller { S.caller s.new ≡ S.caller s.old }
-    ensures collectors { AreCollectorsIn (S.caller s.old).home.cells collectors.new.items }
-    ensures owners { AreOwnedIn (S.caller s.old).home.slots owners.new.items }
+    ensures hand { IsHandOf (S.caller s.old) hand.new }
 {
-    let Some(collector) = take_collector(collectors, pick) else {
-        return Answer::Nothing;
+    let collector = PrivateCollector::take(hand, pick)?;
+    let answer = if alone {
+        collected(s, &mut hand.owned, &collector, guard, pick)
+    } else {
+        shared_collected(s, &mut hand.shared, &collector, guard, pick)
     };
-    let answer = collected(s, &collector, owners, guard, pick);
-    keep_collector(rt, collectors, collector);
-    answer
-}
-
-pub fn collects<S: Collectors<u64>>(
-    rt: &impl Abort,
-    s: &mut S,
-    collectors: &mut Vec<PrivateCollector<u64>>,
-    owners: &mut Vec<Owned<u64>>,
-    guards: &mut Vec<Guard>,
-    pick: usize,
-) -> Answer
-    requires seated { IsSeated (S.caller s.old) }
-    requires collectors { AreCollectorsIn (S.caller s.old).home.cells collectors.old.items }
-    requires owners { AreOwnedIn (S.caller s.old).home.slots owners.old.items }
-    requires guards { AreGuardsOf (S.caller s.old).reader guards.old.items }
-    ensures caller { S.caller s.new ≡ S.caller s.old }
-    ensures collectors { AreCollectorsIn (S.caller s.old).home.cells collectors.new.items }
-    ensures owners { AreOwnedIn (S.caller s.old).home.slots owners.new.items }
-    ensures guards { AreGuardsOf (S.caller s.old).reader guards.new.items }
-{
-    let Some(guard) = take_guard(guards) else {
-        return Answer::Nothing;
-    };
-    let answer = collected_for_one(rt, s, collectors, owners, &guard, pick);
-    keep_guard(rt, guards, guard);
-    answer
-}
-
-/// The same with the collector that is taken.
-fn shared_collected_for_one<S: Collectors<u64>>(
-    rt: &impl Abort,
-    s: &mut S,
-    collectors: &mut Vec<PrivateCollector<u64>>,
-    owners: &mut Vec<Shared<u64>>,
-    guard: &Guard,
-    pick: usize,
-) -> Answer
-    requires seated { IsSeated (S.caller s.old) }
-    requires collectors { AreCollectorsIn (S.caller s.old).home.cells collectors.old.items }
-    requires owners { AreSharedIn (S.caller s.old).home.slots owners.old.items }
-    requires reader { reader_of guard.now ≡ (S.caller s.old).reader }
-    ensures caller { S.caller s.new ≡ S.caller s.old }
-    ensures collectors { AreCollectorsIn (S.caller s.old).home.cells collectors.new.items }
-    ensures owners { AreSharedIn (S.caller s.old).home.slots owners.new.items }
-{
-    let Some(collector) = take_collector(collectors, pick) else {
-        return Answer::Nothing;
-    };
-    let answer = shared_collected(s, &collector, owners, guard, pick);
-    keep_collector(rt, collectors, collector);
-    answer
-}
-
-pub fn collects_shared<S: Collectors<u64>>(
-    rt: &impl Abort,
-    s: &mut S,
-    collectors: &mut Vec<PrivateCollector<u64>>,
-    owners: &mut Vec<Shared<u64>>,
-    guards: &mut Vec<Guard>,
-    pick: usize,
-) -> Answer
-    requires seated { IsSeated (S.caller s.old) }
-    requires collectors { AreCollectorsIn (S.caller s.old).home.cells collectors.old.items }
-    requires owners { AreSharedIn (S.caller s.old).home.slots owners.old.items }
-    requires guards { AreGuardsOf (S.caller s.old).reader guards.old.items }
-    ensures caller { S.caller s.new ≡ S.caller s.old }
-    ensures collectors { AreCollectorsIn (S.caller s.old).home.cells collectors.new.items }
-    ensures owners { AreSharedIn (S.caller s.old).home.slots owners.new.items }
-    ensures guards { AreGuardsOf (S.caller s.old).reader guards.new.items }
-{
-    let Some(guard) = take_guard(guards) else {
-        return Answer::Nothing;
-    };
-    let answer = shared_collected_for_one(rt, s, collectors, owners, &guard, pick);
-    keep_guard(rt, guards, guard);
+    collector.keep(rt, hand);
     answer
 }
 
 /// What waits for the collector that is taken goes at once, and its cell is free; or it is refused, and kept.
-pub fn closes<S: Collectors<u64>>(
+fn closes<S: Collectors<u64>>(
     rt: &impl Abort,
     s: &mut S,
-    collectors: &mut Vec<PrivateCollector<u64>>,
+    hand: &mut Hand,
     pick: usize,
-) -> Answer
+) -> Option<Answer>
     requires seated { IsSeated (S.caller s.old) }
-    requires collectors { AreCollectorsIn (S.caller s.old).home.cells collectors.old.items }
+    requires hand { IsHandOf (S.caller s.old) hand.old }
     ensures caller { S.caller s.new ≡ S.caller s.old }
-    ensures collectors { AreCollectorsIn (S.caller s.old).home.cells collectors.new.items }
+    ensures hand { IsHandOf (S.caller s.old) hand.new }
 {
-    let Some(collector) = take_collector(collectors, pick) else {
-        return Answer::Nothing;
-    };
+    let collector = PrivateCollector::take(hand, pick)?;
     match collector.close(s) {
-        Ok(()) => Answer::Done,
+        Ok(()) => Some(Answer::Done),
         Err((back, refused)) => {
-            keep_collector(rt, collectors, back);
-            Answer::Refused(refused)
+            back.keep(rt, hand);
+            Some(Answer::Refused(refused))
         }
     }
 }
 
-/// No guard is open any more, so that each close succeeds.
-pub fn close_all<S: Collectors<u64>>(
+/// The next of these calls.
+pub fn call<S: RawCells<u64> + Collectors<u64>>(
     rt: &impl Abort,
     s: &mut S,
-    mut collectors: Vec<PrivateCollector<u64>>,
-)
+    hand: &mut Hand,
+    guard: &Option<Guard>,
+    drawn: &mut Generator,
+) -> Option<Answer>
     requires seated { IsSeated (S.caller s.old) }
-    requires collectors { AreCollectorsIn (S.caller s.old).home.cells collectors.items }
-    ensures { S.caller s.new ≡ S.caller s.old }
+    requires hand { IsHandOf (S.caller s.old) hand.old }
+    requires reader { IfSome guard.now (λ g. reader_of g ≡ (S.caller s.old).reader) }
+    ensures caller { S.caller s.new ≡ S.caller s.old }
+    ensures hand { IsHandOf (S.caller s.old) hand.new }
 {
-    while let Some(collector) = collectors.pop() {
-        match collector.close(s) {
-            Ok(()) => {}
-            Err((_collector, refused)) => panic!(rt; "refused: {refused:?}"),
-        }
+    let call = drawn.below(4);
+    let pick = drawn.below(1000) as usize;
+    match call {
+        0 => keep_made(rt, hand, PrivateCollector::new(s)),
+        1 => collects(rt, s, hand, guard.as_ref()?, pick, true),
+        2 => collects(rt, s, hand, guard.as_ref()?, pick, false),
+        _ => closes(rt, s, hand, pick),
     }
-    collectors.destroy_empty();
 }

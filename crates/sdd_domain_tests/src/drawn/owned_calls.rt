@@ -1,355 +1,218 @@
 //! Calls with the only owners of items, and with what is out as raw.
-ghost use Rattle.std.specs.Prelude.{◌≡◌};
+ghost use Rattle.std.specs.Prelude.{◌≡◌, IfSome};
 ghost use Rattle.sdd_space.specs.CallerId.{IsSeated};
 ghost use Rattle.sdd_space.specs.Guard.{reader_of};
-ghost use Rattle.sdd_space.specs.Owned as owned;
-ghost use Rattle.sdd_domain_tests.specs.Hands.{AreOwnedIn, AreGuardsOf};
+ghost use Rattle.sdd_space.specs.Owned.{IsOfSlots, slots_home};
+ghost use Rattle.sdd_domain_tests.specs.Hands.{IsHandOf, AreOwnersOf};
 
 use crate::answers::Answer;
-use crate::drawn::hand::{keep_guard, keep_out, keep_owned, take_guard, take_out, take_owned};
-use sdd_space::{Guard, InPlaceItems, Items, Look, Owned, RawItems, RawPtr};
+use crate::drawn::generator::Generator;
+use crate::drawn::in_hand::{InHand, keep_out, take_out};
+use crate::drawn::owner_calls;
+use crate::hand::{Hand, OwnersInHand};
+use sdd_space::{Guard, InPlaceItems, Items, Look, Owned, RawItems, RawPtr, UniqueOwnership};
 use std::process::Abort;
 
-pub fn makes<S: Items<u64>>(
-    rt: &impl Abort,
-    s: &mut S,
-    owners: &mut Vec<Owned<u64>>,
-    value: u64,
-) -> Answer
-    requires seated { IsSeated (S.caller s.old) }
-    requires owners { AreOwnedIn (S.caller s.old).home.slots owners.old.items }
-    ensures caller { S.caller s.new ≡ S.caller s.old }
-    ensures owners { AreOwnedIn (S.caller s.old).home.slots owners.new.items }
-{
-    match Owned::new(value, s) {
-        Ok(owner) => {
-            keep_owned(rt, owners, owner);
-            Answer::Done
-        }
-        Err((back, refused)) => {
-            assert_eq!(rt; back, value);
-            Answer::Refused(refused)
-        }
-    }
-}
-
-/// The same by a closure, which comes back where it is refused.
-pub fn makes_by_closure<S: Items<u64>>(
-    rt: &impl Abort,
-    s: &mut S,
-    owners: &mut Vec<Owned<u64>>,
-    value: u64,
-) -> Answer
-    requires seated { IsSeated (S.caller s.old) }
-    requires owners { AreOwnedIn (S.caller s.old).home.slots owners.old.items }
-    ensures caller { S.caller s.new ≡ S.caller s.old }
-    ensures owners { AreOwnedIn (S.caller s.old).home.slots owners.new.items }
-{
-    match Owned::new_with(|| value, s) {
-        Ok(owner) => {
-            keep_owned(rt, owners, owner);
-            Answer::Done
-        }
-        Err((make, refused)) => {
-            assert_eq!(rt; make(), value);
-            Answer::Refused(refused)
-        }
-    }
-}
-
-pub fn looks<S: Look<u64> + Items<u64>>(
-    rt: &impl Abort,
-    s: &mut S,
-    owners: &mut Vec<Owned<u64>>,
-    pick: usize,
-) -> Answer
-    requires seated { IsSeated (S.caller s.old) }
-    requires owners { AreOwnedIn (S.caller s.old).home.slots owners.old.items }
-    ensures caller { S.caller s.new ≡ S.caller s.old }
-    ensures owners { AreOwnedIn (S.caller s.old).home.slots owners.new.items }
-{
-    let Some(owner) = take_owned(owners, pick) else {
-        return Answer::Nothing;
-    };
-    let number = *owner.get(s);
-    keep_owned(rt, owners, owner);
-    Answer::Number(number)
-}
-
-/// By a reference and by a pointer, which show the same.
-fn looks_by<S: Look<u64> + Items<u64>>(
-    rt: &impl Abort,
-    s: &mut S,
-    owners: &mut Vec<Owned<u64>>,
-    guard: &Guard,
-    pick: usize,
-) -> Answer
-    requires seated { IsSeated (S.caller s.old) }
-    requires owners { AreOwnedIn (S.caller s.old).home.slots owners.old.items }
-    requires reader { reader_of guard.now ≡ (S.caller s.old).reader }
-    ensures caller { S.caller s.new ≡ S.caller s.old }
-    ensures owners { AreOwnedIn (S.caller s.old).home.slots owners.new.items }
-{
-    let Some(owner) = take_owned(owners, pick) else {
-        return Answer::Nothing;
-    };
-    let number = *owner.get_guarded_ref(guard, s);
-    let ptr = owner.get_guarded_ptr(guard, s);
-    assert!(rt; ptr.as_ref(s).copied() == Some(number));
-    keep_owned(rt, owners, owner);
-    Answer::Number(number)
-}
-
-pub fn looks_under<S: Look<u64> + Items<u64>>(
-    rt: &impl Abort,
-    s: &mut S,
-    owners: &mut Vec<Owned<u64>>,
-    guards: &mut Vec<Guard>,
-    pick: usize,
-) -> Answer
-    requires seated { IsSeated (S.caller s.old) }
-    requires owners { AreOwnedIn (S.caller s.old).home.slots owners.old.items }
-    requires guards { AreGuardsOf (S.caller s.old).reader guards.old.items }
-    ensures caller { S.caller s.new ≡ S.caller s.old }
-    ensures owners { AreOwnedIn (S.caller s.old).home.slots owners.new.items }
-    ensures guards { AreGuardsOf (S.caller s.old).reader guards.new.items }
-{
-    let Some(guard) = take_guard(guards) else {
-        return Answer::Nothing;
-    };
-    let answer = looks_by(rt, s, owners, &guard, pick);
-    keep_guard(rt, guards, guard);
-    answer
-}
-
 /// Puts another number in place of the one that is there, which it tells. The owner is as it was.
-fn changed<S: InPlaceItems<u64>>(
+fn changes<S: InPlaceItems<u64>>(
+    rt: &impl Abort,
     s: &mut S,
-    mut owner: Owned<u64>,
+    owners: &mut OwnersInHand<UniqueOwnership>,
     value: u64,
-) -> (Owned<u64>, Answer)
+) -> Option<Answer>
     requires seated { IsSeated (S.caller s.old) }
-    requires home { owned.slots_home owner ≡ (S.caller s.old).home.slots }
+    requires owners { AreOwnersOf (S.caller s.old) owners.old }
     ensures caller { S.caller s.new ≡ S.caller s.old }
-    ensures home { owned.slots_home result.0 ≡ (S.caller s.old).home.slots }
+    ensures owners { AreOwnersOf (S.caller s.old) owners.new }
 {
-    match owner.get_mut(|number| std::mem::replace(number, value), s) {
-        Ok(was) => (owner, Answer::Number(was)),
-        Err((_change, refused)) => (owner, Answer::Refused(refused)),
+    let mut owner = Owned::take(owners, value as usize)?;
+    let changed = owner.get_mut(|number| std::mem::replace(number, value), s);
+    owner.keep(rt, owners);
+    match changed {
+        Ok(was) => Some(Answer::Number(was)),
+        Err((_change, refused)) => Some(Answer::Refused(refused)),
     }
 }
 
-pub fn changes<S: InPlaceItems<u64>>(
-    rt: &impl Abort,
+fn retires<S: Items<u64>>(
     s: &mut S,
-    owners: &mut Vec<Owned<u64>>,
-    value: u64,
+    owners: &mut OwnersInHand<UniqueOwnership>,
     pick: usize,
-) -> Answer
+) -> Option<Answer>
     requires seated { IsSeated (S.caller s.old) }
-    requires owners { AreOwnedIn (S.caller s.old).home.slots owners.old.items }
+    requires owners { AreOwnersOf (S.caller s.old) owners.old }
     ensures caller { S.caller s.new ≡ S.caller s.old }
-    ensures owners { AreOwnedIn (S.caller s.old).home.slots owners.new.items }
+    ensures owners { AreOwnersOf (S.caller s.old) owners.new }
 {
-    let Some(owner) = take_owned(owners, pick) else {
-        return Answer::Nothing;
-    };
-    let (owner, answer) = changed(s, owner, value);
-    keep_owned(rt, owners, owner);
-    answer
-}
-
-pub fn retires<S: Items<u64>>(s: &mut S, owners: &mut Vec<Owned<u64>>, pick: usize) -> Answer
-    requires seated { IsSeated (S.caller s.old) }
-    requires owners { AreOwnedIn (S.caller s.old).home.slots owners.old.items }
-    ensures caller { S.caller s.new ≡ S.caller s.old }
-    ensures owners { AreOwnedIn (S.caller s.old).home.slots owners.new.items }
-{
-    let Some(owner) = take_owned(owners, pick) else {
-        return Answer::Nothing;
-    };
-    owner.retire(s);
-    Answer::Done
+    Owned::take(owners, pick)?.retire(s);
+    Some(Answer::Done)
 }
 
 /// The owner goes in place, or comes back.
-fn dropped<S: InPlaceItems<u64>>(s: &mut S, owner: Owned<u64>) -> (Option<Owned<u64>>, Answer)
+fn drops<S: InPlaceItems<u64>>(
+    rt: &impl Abort,
+    s: &mut S,
+    owners: &mut OwnersInHand<UniqueOwnership>,
+    pick: usize,
+) -> Option<Answer>
     requires seated { IsSeated (S.caller s.old) }
-    requires home { owned.slots_home owner ≡ (S.caller s.old).home.slots }
+    requires owners { AreOwnersOf (S.caller s.old) owners.old }
     ensures caller { S.caller s.new ≡ S.caller s.old }
-    ensures home { owned.IsOfSlots (S.caller s.old).home.slots result.0 }
+    ensures owners { AreOwnersOf (S.caller s.old) owners.new }
 {
+    let owner = Owned::take(owners, pick)?;
     match owner.drop_in_place(s) {
-        Ok(()) => (None, Answer::Done),
-        Err((owner, refused)) => (Some(owner), Answer::Refused(refused)),
+        Ok(()) => Some(Answer::Done),
+        Err((owner, refused)) => {
+            owner.keep(rt, owners);
+            Some(Answer::Refused(refused))
+        }
     }
 }
 
-pub fn drops<S: InPlaceItems<u64>>(
+#[tactic(auto, unfolding(crate::specs::Hands::IsHandOf))]
+fn puts_out<S: RawItems<u64>>(
     rt: &impl Abort,
     s: &mut S,
-    owners: &mut Vec<Owned<u64>>,
+    hand: &mut Hand,
     pick: usize,
-) -> Answer
+) -> Option<Answer>
     requires seated { IsSeated (S.caller s.old) }
-    requires owners { AreOwnedIn (S.caller s.old).home.slots owners.old.items }
+    requires hand { IsHandOf (S.caller s.old) hand.old }
     ensures caller { S.caller s.new ≡ S.caller s.old }
-    ensures owners { AreOwnedIn (S.caller s.old).home.slots owners.new.items }
+    ensures hand { IsHandOf (S.caller s.old) hand.new }
 {
-    let Some(owner) = take_owned(owners, pick) else {
-        return Answer::Nothing;
-    };
-    let (back, answer) = dropped(s, owner);
-    let Some(owner) = back else {
-        return answer;
-    };
-    keep_owned(rt, owners, owner);
-    answer
-}
-
-pub fn puts_out<S: RawItems<u64>>(
-    rt: &impl Abort,
-    s: &mut S,
-    owners: &mut Vec<Owned<u64>>,
-    out: &mut Vec<RawPtr<u64>>,
-    pick: usize,
-) -> Answer
-    requires seated { IsSeated (S.caller s.old) }
-    requires owners { AreOwnedIn (S.caller s.old).home.slots owners.old.items }
-    ensures caller { S.caller s.new ≡ S.caller s.old }
-    ensures owners { AreOwnedIn (S.caller s.old).home.slots owners.new.items }
-{
-    let Some(owner) = take_owned(owners, pick) else {
-        return Answer::Nothing;
-    };
-    keep_out(rt, out, owner.into_raw(s));
-    Answer::Done
+    let owner = Owned::take(&mut hand.owned, pick)?;
+    keep_out(rt, hand, owner.into_raw(s));
+    Some(Answer::Done)
 }
 
 /// What is out comes back once. Whether it comes back a second time.
-pub fn takes_back<S: RawItems<u64>>(
+#[tactic(auto, unfolding(crate::specs::Hands::IsHandOf))]
+fn takes_back<S: RawItems<u64>>(
     rt: &impl Abort,
     s: &mut S,
-    owners: &mut Vec<Owned<u64>>,
-    out: &mut Vec<RawPtr<u64>>,
+    hand: &mut Hand,
     pick: usize,
-) -> Answer
+) -> Option<Answer>
     requires seated { IsSeated (S.caller s.old) }
-    requires owners { AreOwnedIn (S.caller s.old).home.slots owners.old.items }
+    requires hand { IsHandOf (S.caller s.old) hand.old }
     ensures caller { S.caller s.new ≡ S.caller s.old }
-    ensures owners { AreOwnedIn (S.caller s.old).home.slots owners.new.items }
+    ensures hand { IsHandOf (S.caller s.old) hand.new }
 {
-    let Some(ptr) = take_out(out, pick) else {
-        return Answer::Nothing;
-    };
+    let ptr = take_out(hand, pick)?;
     let Some(owner) = Owned::from_raw(ptr, s) else {
-        return Answer::Told(false);
+        return Some(Answer::Told(false));
     };
-    keep_owned(rt, owners, owner);
+    owner.keep(rt, &mut hand.owned);
     match Owned::from_raw(ptr, s) {
         Some(owner) => {
-            keep_owned(rt, owners, owner);
-            Answer::Told(true)
+            owner.keep(rt, &mut hand.owned);
+            Some(Answer::Told(true))
         }
-        None => Answer::Done,
+        None => Some(Answer::Done),
     }
 }
 
 /// The number that a guard shows of what is out.
-pub fn sees_out<S: Look<u64> + RawItems<u64>>(
+fn sees_out<S: Look<u64> + RawItems<u64>>(
     rt: &impl Abort,
     s: &mut S,
-    out: &mut Vec<RawPtr<u64>>,
-    guards: &mut Vec<Guard>,
+    hand: &mut Hand,
+    guard: &Guard,
     pick: usize,
-) -> Answer
+) -> Option<Answer>
     requires seated { IsSeated (S.caller s.old) }
-    requires guards { AreGuardsOf (S.caller s.old).reader guards.old.items }
+    requires hand { IsHandOf (S.caller s.old) hand.old }
+    requires reader { reader_of guard.now ≡ (S.caller s.old).reader }
     ensures caller { S.caller s.new ≡ S.caller s.old }
-    ensures guards { AreGuardsOf (S.caller s.old).reader guards.new.items }
+    ensures hand { IsHandOf (S.caller s.old) hand.new }
 {
-    let Some(guard) = take_guard(guards) else {
-        return Answer::Nothing;
-    };
-    let mut seen = None;
-    if let Some(ptr) = take_out(out, pick) {
-        if let Some(shown) = ptr.into_ptr(s, &guard) {
-            seen = shown.as_ref(s).copied();
-        }
-        keep_out(rt, out, ptr);
-    }
-    keep_guard(rt, guards, guard);
-    Answer::of_look(seen)
+    let ptr = take_out(hand, pick)?;
+    keep_out(rt, hand, ptr);
+    let shown = ptr.into_ptr(s, guard)?;
+    Some(Answer::Number(*shown.as_ref(s)?))
 }
 
-/// Puts an item out and takes it back.
+/// Puts an item out and takes it back, with the pointer that it was out by.
 fn out_and_back<S: RawItems<u64>>(s: &mut S, owner: Owned<u64>) -> (Option<Owned<u64>>, RawPtr<u64>)
     requires seated { IsSeated (S.caller s.old) }
-    requires home { owned.slots_home owner ≡ (S.caller s.old).home.slots }
+    requires home { slots_home owner ≡ (S.caller s.old).home.slots }
     ensures caller { S.caller s.new ≡ S.caller s.old }
-    ensures home { owned.IsOfSlots (S.caller s.old).home.slots result.0 }
+    ensures home { IsOfSlots (S.caller s.old).home.slots result.0 }
 {
     let ptr = owner.into_raw(s);
     (Owned::from_raw(ptr, s), ptr)
 }
 
-/// An item goes out and comes back, with the pointer that it was out by.
-fn comes_back<S: RawItems<u64>>(
+/// Whether the guard shows an item as out that went out and came back.
+fn sees_what_came_back<S: RawItems<u64>>(
     rt: &impl Abort,
     s: &mut S,
-    owners: &mut Vec<Owned<u64>>,
-    pick: usize,
-) -> Option<RawPtr<u64>>
-    requires seated { IsSeated (S.caller s.old) }
-    requires owners { AreOwnedIn (S.caller s.old).home.slots owners.old.items }
-    ensures caller { S.caller s.new ≡ S.caller s.old }
-    ensures owners { AreOwnedIn (S.caller s.old).home.slots owners.new.items }
-{
-    let owner = take_owned(owners, pick)?;
-    let (back, ptr) = out_and_back(s, owner);
-    let owner = back?;
-    keep_owned(rt, owners, owner);
-    Some(ptr)
-}
-
-/// Whether the guard shows an item as out that came back.
-fn sees_by<S: RawItems<u64>>(
-    rt: &impl Abort,
-    s: &mut S,
-    owners: &mut Vec<Owned<u64>>,
+    owners: &mut OwnersInHand<UniqueOwnership>,
     guard: &Guard,
     pick: usize,
-) -> Answer
+) -> Option<Answer>
     requires seated { IsSeated (S.caller s.old) }
-    requires owners { AreOwnedIn (S.caller s.old).home.slots owners.old.items }
+    requires owners { AreOwnersOf (S.caller s.old) owners.old }
     requires reader { reader_of guard.now ≡ (S.caller s.old).reader }
     ensures caller { S.caller s.new ≡ S.caller s.old }
-    ensures owners { AreOwnedIn (S.caller s.old).home.slots owners.new.items }
+    ensures owners { AreOwnersOf (S.caller s.old) owners.new }
 {
-    let Some(ptr) = comes_back(rt, s, owners, pick) else {
-        return Answer::Nothing;
-    };
-    Answer::Told(ptr.into_ptr(s, guard).is_some())
+    let owner = Owned::take(owners, pick)?;
+    let (back, ptr) = out_and_back(s, owner);
+    back?.keep(rt, owners);
+    Some(Answer::Told(ptr.into_ptr(s, guard).is_some()))
 }
 
-pub fn sees_what_came_back<S: RawItems<u64>>(
+/// The next of the calls with an owner.
+pub fn call<S: Look<u64> + Items<u64> + InPlaceItems<u64> + RawItems<u64>>(
     rt: &impl Abort,
     s: &mut S,
-    owners: &mut Vec<Owned<u64>>,
-    guards: &mut Vec<Guard>,
-    pick: usize,
-) -> Answer
+    owners: &mut OwnersInHand<UniqueOwnership>,
+    guard: &Option<Guard>,
+    drawn: &mut Generator,
+) -> Option<Answer>
     requires seated { IsSeated (S.caller s.old) }
-    requires owners { AreOwnedIn (S.caller s.old).home.slots owners.old.items }
-    requires guards { AreGuardsOf (S.caller s.old).reader guards.old.items }
+    requires owners { AreOwnersOf (S.caller s.old) owners.old }
+    requires reader { IfSome guard.now (λ g. reader_of g ≡ (S.caller s.old).reader) }
     ensures caller { S.caller s.new ≡ S.caller s.old }
-    ensures owners { AreOwnedIn (S.caller s.old).home.slots owners.new.items }
-    ensures guards { AreGuardsOf (S.caller s.old).reader guards.new.items }
+    ensures owners { AreOwnersOf (S.caller s.old) owners.new }
 {
-    let Some(guard) = take_guard(guards) else {
-        return Answer::Nothing;
-    };
-    let answer = sees_by(rt, s, owners, &guard, pick);
-    keep_guard(rt, guards, guard);
-    answer
+    let call = drawn.below(8);
+    let value = drawn.below(1000);
+    let pick = value as usize;
+    match call {
+        0 => owner_calls::makes(rt, s, owners, value),
+        1 => owner_calls::makes_by_closure(rt, s, owners, value),
+        2 => owner_calls::looks(rt, s, owners, pick),
+        3 => owner_calls::looks_under(rt, s, owners, guard.as_ref()?, pick),
+        4 => changes(rt, s, owners, value),
+        5 => retires(s, owners, pick),
+        6 => drops(rt, s, owners, pick),
+        _ => sees_what_came_back(rt, s, owners, guard.as_ref()?, pick),
+    }
+}
+
+/// The next of the calls with what is out.
+pub fn raw_call<S: Look<u64> + RawItems<u64>>(
+    rt: &impl Abort,
+    s: &mut S,
+    hand: &mut Hand,
+    guard: &Option<Guard>,
+    drawn: &mut Generator,
+) -> Option<Answer>
+    requires seated { IsSeated (S.caller s.old) }
+    requires hand { IsHandOf (S.caller s.old) hand.old }
+    requires reader { IfSome guard.now (λ g. reader_of g ≡ (S.caller s.old).reader) }
+    ensures caller { S.caller s.new ≡ S.caller s.old }
+    ensures hand { IsHandOf (S.caller s.old) hand.new }
+{
+    let call = drawn.below(3);
+    let pick = drawn.below(1000) as usize;
+    match call {
+        0 => puts_out(rt, s, hand, pick),
+        1 => takes_back(rt, s, hand, pick),
+        _ => sees_out(rt, s, hand, guard.as_ref()?, pick),
+    }
 }

@@ -1,12 +1,14 @@
 //! Calls with cells of pointers. Slots may be numbered otherwise in another space, so what is answered of a pointer is whether it names one, and its tag.
-ghost use Rattle.std.specs.Prelude.{◌≡◌};
+ghost use Rattle.std.specs.Prelude.{◌≡◌, IfSome};
 ghost use Rattle.sdd_space.specs.CallerId.{IsSeated};
 ghost use Rattle.sdd_space.specs.Guard.{reader_of};
 ghost use Rattle.sdd_space.specs.RawCell.{cells_home};
-ghost use Rattle.sdd_domain_tests.specs.Hands.{AreRawCellsIn, AreGuardsOf};
+ghost use Rattle.sdd_domain_tests.specs.Hands.{IsHandOf};
 
 use crate::answers::{Answer, tag_of};
-use crate::drawn::hand::{keep_guard, keep_raw_cell, take_guard, take_raw_cell};
+use crate::drawn::generator::Generator;
+use crate::drawn::in_hand::{InHand, keep_made};
+use crate::hand::Hand;
 use sdd_core::Tag;
 use sdd_space::{AtomicRaw, Guard, RawCells, RawPtr};
 use std::process::Abort;
@@ -17,32 +19,12 @@ fn pointed(done: bool, ptr: RawPtr<u64>) -> Answer {
 }
 
 /// Something that is out, or null, with a tag.
-pub fn pointer(out: &Vec<RawPtr<u64>>, pick: usize, draw: u64) -> RawPtr<u64> {
+fn pointer(out: &Vec<RawPtr<u64>>, pick: usize, draw: u64) -> RawPtr<u64> {
     if out.is_empty() || draw % 3 == 0 {
         return RawPtr::null().with_tag(tag_of(draw));
     }
     let place = pick % out.len();
     out[place].with_tag(tag_of(draw))
-}
-
-pub fn makes<S: RawCells<u64>>(
-    rt: &impl Abort,
-    s: &mut S,
-    cells: &mut Vec<AtomicRaw<u64>>,
-    ptr: RawPtr<u64>,
-) -> Answer
-    requires seated { IsSeated (S.caller s.old) }
-    requires cells { AreRawCellsIn (S.caller s.old).home.cells cells.old.items }
-    ensures caller { S.caller s.new ≡ S.caller s.old }
-    ensures cells { AreRawCellsIn (S.caller s.old).home.cells cells.new.items }
-{
-    match AtomicRaw::new(ptr, s) {
-        Ok(cell) => {
-            keep_raw_cell(rt, cells, cell);
-            Answer::Done
-        }
-        Err(refused) => Answer::Refused(refused),
-    }
 }
 
 /// What a cell has.
@@ -55,7 +37,7 @@ fn seen<S: RawCells<u64>>(
     requires seated { IsSeated (S.caller s.old) }
     requires home { cells_home cell.now ≡ (S.caller s.old).home.cells }
     requires reader { reader_of guard.now ≡ (S.caller s.old).reader }
-    ensures caller { S.caller s.new ≡ S.caller s.old }
+    ensures { S.caller s.new ≡ S.caller s.old }
 {
     let ptr = cell.load(guard, s);
     assert!(rt; (cell.is_null(s), cell.tag(s)) == (ptr.is_null(), ptr.tag()));
@@ -73,7 +55,7 @@ fn exchanged<S: RawCells<u64>>(
     requires seated { IsSeated (S.caller s.old) }
     requires home { cells_home cell.now ≡ (S.caller s.old).home.cells }
     requires reader { reader_of guard.now ≡ (S.caller s.old).reader }
-    ensures caller { S.caller s.new ≡ S.caller s.old }
+    ensures { S.caller s.new ≡ S.caller s.old }
 {
     let loaded = cell.load(guard, s);
     let current = match draw % 4 {
@@ -97,7 +79,7 @@ fn tagged<S: RawCells<u64>>(
 ) -> Answer
     requires seated { IsSeated (S.caller s.old) }
     requires home { cells_home cell.now ≡ (S.caller s.old).home.cells }
-    ensures caller { S.caller s.new ≡ S.caller s.old }
+    ensures { S.caller s.new ≡ S.caller s.old }
 {
     let mut times = 0u8;
     let mut shown = RawPtr::null();
@@ -125,7 +107,7 @@ fn updated<S: RawCells<u64>>(
     requires seated { IsSeated (S.caller s.old) }
     requires home { cells_home cell.now ≡ (S.caller s.old).home.cells }
     requires reader { reader_of guard.now ≡ (S.caller s.old).reader }
-    ensures caller { S.caller s.new ≡ S.caller s.old }
+    ensures { S.caller s.new ≡ S.caller s.old }
 {
     let mut times = 0u8;
     let update = |ptr: RawPtr<u64>| {
@@ -157,10 +139,9 @@ fn called<S: RawCells<u64>>(
     requires seated { IsSeated (S.caller s.old) }
     requires home { cells_home cell.now ≡ (S.caller s.old).home.cells }
     requires reader { reader_of guard.now ≡ (S.caller s.old).reader }
-    ensures caller { S.caller s.new ≡ S.caller s.old }
+    ensures { S.caller s.new ≡ S.caller s.old }
 {
-    let call = draw / 16;
-    match call {
+    match draw / 16 {
         0 => seen(rt, s, cell, guard),
         1 => {
             cell.store(ptr, s);
@@ -174,74 +155,59 @@ fn called<S: RawCells<u64>>(
 }
 
 /// The same with the cell that is taken.
-fn called_on_one<S: RawCells<u64>>(
+fn calls<S: RawCells<u64>>(
     rt: &impl Abort,
     s: &mut S,
-    cells: &mut Vec<AtomicRaw<u64>>,
-    ptr: RawPtr<u64>,
+    hand: &mut Hand,
     guard: &Guard,
+    ptr: RawPtr<u64>,
     pick: usize,
     draw: u64,
-) -> Answer
+) -> Option<Answer>
     requires seated { IsSeated (S.caller s.old) }
-    requires cells { AreRawCellsIn (S.caller s.old).home.cells cells.old.items }
+    requires hand { IsHandOf (S.caller s.old) hand.old }
     requires reader { reader_of guard.now ≡ (S.caller s.old).reader }
     ensures caller { S.caller s.new ≡ S.caller s.old }
-    ensures cells { AreRawCellsIn (S.caller s.old).home.cells cells.new.items }
+    ensures hand { IsHandOf (S.caller s.old) hand.new }
 {
-    let Some(cell) = take_raw_cell(cells, pick) else {
-        return Answer::Nothing;
-    };
+    let cell = AtomicRaw::take(hand, pick)?;
     let answer = called(rt, s, &cell, ptr, guard, draw);
-    keep_raw_cell(rt, cells, cell);
-    answer
-}
-
-pub fn calls<S: RawCells<u64>>(
-    rt: &impl Abort,
-    s: &mut S,
-    cells: &mut Vec<AtomicRaw<u64>>,
-    guards: &mut Vec<Guard>,
-    ptr: RawPtr<u64>,
-    pick: usize,
-    draw: u64,
-) -> Answer
-    requires seated { IsSeated (S.caller s.old) }
-    requires cells { AreRawCellsIn (S.caller s.old).home.cells cells.old.items }
-    requires guards { AreGuardsOf (S.caller s.old).reader guards.old.items }
-    ensures caller { S.caller s.new ≡ S.caller s.old }
-    ensures cells { AreRawCellsIn (S.caller s.old).home.cells cells.new.items }
-    ensures guards { AreGuardsOf (S.caller s.old).reader guards.new.items }
-{
-    let Some(guard) = take_guard(guards) else {
-        return Answer::Nothing;
-    };
-    let answer = called_on_one(rt, s, cells, ptr, &guard, pick, draw);
-    keep_guard(rt, guards, guard);
-    answer
+    cell.keep(rt, hand);
+    Some(answer)
 }
 
 /// A cell is free again.
-pub fn closes<S: RawCells<u64>>(s: &mut S, cells: &mut Vec<AtomicRaw<u64>>, pick: usize) -> Answer
+fn closes<S: RawCells<u64>>(s: &mut S, hand: &mut Hand, pick: usize) -> Option<Answer>
     requires seated { IsSeated (S.caller s.old) }
-    requires cells { AreRawCellsIn (S.caller s.old).home.cells cells.old.items }
+    requires hand { IsHandOf (S.caller s.old) hand.old }
     ensures caller { S.caller s.new ≡ S.caller s.old }
-    ensures cells { AreRawCellsIn (S.caller s.old).home.cells cells.new.items }
+    ensures hand { IsHandOf (S.caller s.old) hand.new }
 {
-    let Some(cell) = take_raw_cell(cells, pick) else {
-        return Answer::Nothing;
-    };
-    cell.close(s);
-    Answer::Done
+    AtomicRaw::take(hand, pick)?.close(s);
+    Some(Answer::Done)
 }
 
-pub fn close_all<S: RawCells<u64>>(s: &mut S, mut cells: Vec<AtomicRaw<u64>>)
+/// The next of these calls.
+pub fn call<S: RawCells<u64>>(
+    rt: &impl Abort,
+    s: &mut S,
+    hand: &mut Hand,
+    guard: &Option<Guard>,
+    drawn: &mut Generator,
+) -> Option<Answer>
     requires seated { IsSeated (S.caller s.old) }
-    requires cells { AreRawCellsIn (S.caller s.old).home.cells cells.items }
-    ensures { S.caller s.new ≡ S.caller s.old }
+    requires hand { IsHandOf (S.caller s.old) hand.old }
+    requires reader { IfSome guard.now (λ g. reader_of g ≡ (S.caller s.old).reader) }
+    ensures caller { S.caller s.new ≡ S.caller s.old }
+    ensures hand { IsHandOf (S.caller s.old) hand.new }
 {
-    while let Some(cell) = cells.pop() {
-        cell.close(s);
+    let call = drawn.below(5);
+    let pick = drawn.below(1000) as usize;
+    let draw = drawn.below(96);
+    let ptr = pointer(&hand.out, pick, draw);
+    match call {
+        0 => keep_made(rt, hand, AtomicRaw::new(ptr, s)),
+        1 => closes(s, hand, pick),
+        _ => calls(rt, s, hand, guard.as_ref()?, ptr, pick, draw),
     }
-    cells.destroy_empty();
 }

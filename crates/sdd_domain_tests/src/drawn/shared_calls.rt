@@ -1,249 +1,121 @@
 //! Calls with owners of items that may have others beside them.
-ghost use Rattle.std.specs.Prelude.{◌≡◌};
+ghost use Rattle.std.specs.Prelude.{◌≡◌, IfSome};
 ghost use Rattle.sdd_space.specs.CallerId.{IsSeated};
 ghost use Rattle.sdd_space.specs.Guard.{reader_of};
-ghost use Rattle.sdd_space.specs.Shared as shared;
-ghost use Rattle.sdd_domain_tests.specs.Hands.{AreSharedIn, AreGuardsOf};
+ghost use Rattle.sdd_domain_tests.specs.Hands.{AreOwnersOf};
 
 use crate::answers::Answer;
-use crate::drawn::hand::{keep_guard, keep_shared, take_guard, take_shared};
-use sdd_space::{Guard, InPlaceItems, Items, Look, Shared, SharedOwners};
+use crate::drawn::generator::Generator;
+use crate::drawn::in_hand::{InHand, keep_made};
+use crate::drawn::{owner_calls, upgraded_calls};
+use crate::hand::OwnersInHand;
+use sdd_space::{
+    Guard, InPlaceItems, Items, Look, Shared, SharedItems, SharedOwners, SharedOwnership,
+};
 use std::process::Abort;
 
-pub fn makes<S: Items<u64>>(
+/// Puts another number in place of the one that is there, which it tells. The owner is as it was.
+fn changes<S: InPlaceItems<u64>>(
     rt: &impl Abort,
     s: &mut S,
-    owners: &mut Vec<Shared<u64>>,
+    owners: &mut OwnersInHand<SharedOwnership>,
     value: u64,
-) -> Answer
+) -> Option<Answer>
     requires seated { IsSeated (S.caller s.old) }
-    requires owners { AreSharedIn (S.caller s.old).home.slots owners.old.items }
+    requires owners { AreOwnersOf (S.caller s.old) owners.old }
     ensures caller { S.caller s.new ≡ S.caller s.old }
-    ensures owners { AreSharedIn (S.caller s.old).home.slots owners.new.items }
+    ensures owners { AreOwnersOf (S.caller s.old) owners.new }
 {
-    match Shared::new(value, s) {
-        Ok(owner) => {
-            keep_shared(rt, owners, owner);
-            Answer::Done
-        }
-        Err((back, refused)) => {
-            assert_eq!(rt; back, value);
-            Answer::Refused(refused)
-        }
+    let mut owner = Shared::take(owners, value as usize)?;
+    let changed = owner.get_mut(|number| std::mem::replace(number, value), s);
+    owner.keep(rt, owners);
+    match changed {
+        Ok(was) => Some(Answer::Number(was)),
+        Err((_change, refused)) => Some(Answer::Refused(refused)),
     }
 }
 
-/// The same by a closure, which comes back where it is refused.
-pub fn makes_by_closure<S: Items<u64>>(
+/// One owner more, beside the one that is taken.
+fn clones<S: SharedOwners<u64>>(
     rt: &impl Abort,
     s: &mut S,
-    owners: &mut Vec<Shared<u64>>,
-    value: u64,
-) -> Answer
-    requires seated { IsSeated (S.caller s.old) }
-    requires owners { AreSharedIn (S.caller s.old).home.slots owners.old.items }
-    ensures caller { S.caller s.new ≡ S.caller s.old }
-    ensures owners { AreSharedIn (S.caller s.old).home.slots owners.new.items }
-{
-    match Shared::new_with(|| value, s) {
-        Ok(owner) => {
-            keep_shared(rt, owners, owner);
-            Answer::Done
-        }
-        Err((make, refused)) => {
-            assert_eq!(rt; make(), value);
-            Answer::Refused(refused)
-        }
-    }
-}
-
-pub fn looks<S: Look<u64> + Items<u64>>(
-    rt: &impl Abort,
-    s: &mut S,
-    owners: &mut Vec<Shared<u64>>,
+    owners: &mut OwnersInHand<SharedOwnership>,
     pick: usize,
-) -> Answer
+) -> Option<Answer>
     requires seated { IsSeated (S.caller s.old) }
-    requires owners { AreSharedIn (S.caller s.old).home.slots owners.old.items }
+    requires owners { AreOwnersOf (S.caller s.old) owners.old }
     ensures caller { S.caller s.new ≡ S.caller s.old }
-    ensures owners { AreSharedIn (S.caller s.old).home.slots owners.new.items }
+    ensures owners { AreOwnersOf (S.caller s.old) owners.new }
 {
-    let Some(owner) = take_shared(owners, pick) else {
-        return Answer::Nothing;
-    };
-    let number = *owner.get(s);
-    keep_shared(rt, owners, owner);
-    Answer::Number(number)
-}
-
-/// By a reference and by a pointer, which show the same.
-fn looks_by<S: Look<u64> + Items<u64>>(
-    rt: &impl Abort,
-    s: &mut S,
-    owners: &mut Vec<Shared<u64>>,
-    guard: &Guard,
-    pick: usize,
-) -> Answer
-    requires seated { IsSeated (S.caller s.old) }
-    requires owners { AreSharedIn (S.caller s.old).home.slots owners.old.items }
-    requires reader { reader_of guard.now ≡ (S.caller s.old).reader }
-    ensures caller { S.caller s.new ≡ S.caller s.old }
-    ensures owners { AreSharedIn (S.caller s.old).home.slots owners.new.items }
-{
-    let Some(owner) = take_shared(owners, pick) else {
-        return Answer::Nothing;
-    };
-    let number = *owner.get_guarded_ref(guard, s);
-    let ptr = owner.get_guarded_ptr(guard, s);
-    assert!(rt; ptr.as_ref(s).copied() == Some(number));
-    keep_shared(rt, owners, owner);
-    Answer::Number(number)
-}
-
-pub fn looks_under<S: Look<u64> + Items<u64>>(
-    rt: &impl Abort,
-    s: &mut S,
-    owners: &mut Vec<Shared<u64>>,
-    guards: &mut Vec<Guard>,
-    pick: usize,
-) -> Answer
-    requires seated { IsSeated (S.caller s.old) }
-    requires owners { AreSharedIn (S.caller s.old).home.slots owners.old.items }
-    requires guards { AreGuardsOf (S.caller s.old).reader guards.old.items }
-    ensures caller { S.caller s.new ≡ S.caller s.old }
-    ensures owners { AreSharedIn (S.caller s.old).home.slots owners.new.items }
-    ensures guards { AreGuardsOf (S.caller s.old).reader guards.new.items }
-{
-    let Some(guard) = take_guard(guards) else {
-        return Answer::Nothing;
-    };
-    let answer = looks_by(rt, s, owners, &guard, pick);
-    keep_guard(rt, guards, guard);
-    answer
-}
-
-/// One owner more, beside this one.
-fn clones_one<S: SharedOwners<u64>>(
-    rt: &impl Abort,
-    s: &mut S,
-    owners: &mut Vec<Shared<u64>>,
-    owner: &Shared<u64>,
-) -> Answer
-    requires seated { IsSeated (S.caller s.old) }
-    requires home { shared.slots_home owner.now ≡ (S.caller s.old).home.slots }
-    requires owners { AreSharedIn (S.caller s.old).home.slots owners.old.items }
-    ensures caller { S.caller s.new ≡ S.caller s.old }
-    ensures owners { AreSharedIn (S.caller s.old).home.slots owners.new.items }
-{
-    match owner.clone(s) {
-        Ok(other) => {
-            keep_shared(rt, owners, other);
-            Answer::Done
-        }
-        Err(refused) => Answer::Refused(refused),
-    }
-}
-
-pub fn clones<S: SharedOwners<u64>>(
-    rt: &impl Abort,
-    s: &mut S,
-    owners: &mut Vec<Shared<u64>>,
-    pick: usize,
-) -> Answer
-    requires seated { IsSeated (S.caller s.old) }
-    requires owners { AreSharedIn (S.caller s.old).home.slots owners.old.items }
-    ensures caller { S.caller s.new ≡ S.caller s.old }
-    ensures owners { AreSharedIn (S.caller s.old).home.slots owners.new.items }
-{
-    let Some(owner) = take_shared(owners, pick) else {
-        return Answer::Nothing;
-    };
-    let answer = clones_one(rt, s, owners, &owner);
-    keep_shared(rt, owners, owner);
+    let owner = Shared::take(owners, pick)?;
+    let answer = keep_made(rt, owners, owner.clone(s));
+    owner.keep(rt, owners);
     answer
 }
 
 /// Whether it was the last.
-pub fn releases<S: Items<u64>>(s: &mut S, owners: &mut Vec<Shared<u64>>, pick: usize) -> Answer
-    requires seated { IsSeated (S.caller s.old) }
-    requires owners { AreSharedIn (S.caller s.old).home.slots owners.old.items }
-    ensures caller { S.caller s.new ≡ S.caller s.old }
-    ensures owners { AreSharedIn (S.caller s.old).home.slots owners.new.items }
-{
-    let Some(owner) = take_shared(owners, pick) else {
-        return Answer::Nothing;
-    };
-    Answer::Told(owner.release(s))
-}
-
-/// Puts another number in place of the one that is there, which it tells. The owner is as it was.
-fn changed<S: InPlaceItems<u64>>(
+fn releases<S: Items<u64>>(
     s: &mut S,
-    mut owner: Shared<u64>,
-    value: u64,
-) -> (Shared<u64>, Answer)
-    requires seated { IsSeated (S.caller s.old) }
-    requires home { shared.slots_home owner ≡ (S.caller s.old).home.slots }
-    ensures caller { S.caller s.new ≡ S.caller s.old }
-    ensures home { shared.slots_home result.0 ≡ (S.caller s.old).home.slots }
-{
-    match owner.get_mut(|number| std::mem::replace(number, value), s) {
-        Ok(was) => (owner, Answer::Number(was)),
-        Err((_change, refused)) => (owner, Answer::Refused(refused)),
-    }
-}
-
-pub fn changes<S: InPlaceItems<u64>>(
-    rt: &impl Abort,
-    s: &mut S,
-    owners: &mut Vec<Shared<u64>>,
-    value: u64,
+    owners: &mut OwnersInHand<SharedOwnership>,
     pick: usize,
-) -> Answer
+) -> Option<Answer>
     requires seated { IsSeated (S.caller s.old) }
-    requires owners { AreSharedIn (S.caller s.old).home.slots owners.old.items }
+    requires owners { AreOwnersOf (S.caller s.old) owners.old }
     ensures caller { S.caller s.new ≡ S.caller s.old }
-    ensures owners { AreSharedIn (S.caller s.old).home.slots owners.new.items }
+    ensures owners { AreOwnersOf (S.caller s.old) owners.new }
 {
-    let Some(owner) = take_shared(owners, pick) else {
-        return Answer::Nothing;
-    };
-    let (owner, answer) = changed(s, owner, value);
-    keep_shared(rt, owners, owner);
-    answer
+    let owner = Shared::take(owners, pick)?;
+    Some(Answer::Told(owner.release(s)))
 }
 
 /// The owner goes in place, or comes back.
-fn dropped<S: InPlaceItems<u64>>(s: &mut S, owner: Shared<u64>) -> (Option<Shared<u64>>, Answer)
+fn drops<S: InPlaceItems<u64>>(
+    rt: &impl Abort,
+    s: &mut S,
+    owners: &mut OwnersInHand<SharedOwnership>,
+    pick: usize,
+) -> Option<Answer>
     requires seated { IsSeated (S.caller s.old) }
-    requires home { shared.slots_home owner ≡ (S.caller s.old).home.slots }
+    requires owners { AreOwnersOf (S.caller s.old) owners.old }
     ensures caller { S.caller s.new ≡ S.caller s.old }
-    ensures home { shared.IsOfSlots (S.caller s.old).home.slots result.0 }
+    ensures owners { AreOwnersOf (S.caller s.old) owners.new }
 {
+    let owner = Shared::take(owners, pick)?;
     match owner.drop_in_place(s) {
-        Ok(last) => (None, Answer::Told(last)),
-        Err((owner, refused)) => (Some(owner), Answer::Refused(refused)),
+        Ok(last) => Some(Answer::Told(last)),
+        Err((owner, refused)) => {
+            owner.keep(rt, owners);
+            Some(Answer::Refused(refused))
+        }
     }
 }
 
-pub fn drops<S: InPlaceItems<u64>>(
+/// The next of these calls.
+pub fn call<S: Look<u64> + Items<u64> + SharedItems<u64> + InPlaceItems<u64>>(
     rt: &impl Abort,
     s: &mut S,
-    owners: &mut Vec<Shared<u64>>,
-    pick: usize,
-) -> Answer
+    owners: &mut OwnersInHand<SharedOwnership>,
+    guard: &Option<Guard>,
+    drawn: &mut Generator,
+) -> Option<Answer>
     requires seated { IsSeated (S.caller s.old) }
-    requires owners { AreSharedIn (S.caller s.old).home.slots owners.old.items }
+    requires owners { AreOwnersOf (S.caller s.old) owners.old }
+    requires reader { IfSome guard.now (λ g. reader_of g ≡ (S.caller s.old).reader) }
     ensures caller { S.caller s.new ≡ S.caller s.old }
-    ensures owners { AreSharedIn (S.caller s.old).home.slots owners.new.items }
+    ensures owners { AreOwnersOf (S.caller s.old) owners.new }
 {
-    let Some(owner) = take_shared(owners, pick) else {
-        return Answer::Nothing;
-    };
-    let (back, answer) = dropped(s, owner);
-    let Some(owner) = back else {
-        return answer;
-    };
-    keep_shared(rt, owners, owner);
-    answer
+    let call = drawn.below(9);
+    let value = drawn.below(1000);
+    let pick = value as usize;
+    match call {
+        0 => owner_calls::makes(rt, s, owners, value),
+        1 => owner_calls::makes_by_closure(rt, s, owners, value),
+        2 => owner_calls::looks(rt, s, owners, pick),
+        3 => owner_calls::looks_under(rt, s, owners, guard.as_ref()?, pick),
+        4 => clones(rt, s, owners, pick),
+        5 => upgraded_calls::call(rt, s, owners, guard.as_ref()?, pick, value % 2 == 0),
+        6 => releases(s, owners, pick),
+        7 => changes(rt, s, owners, value),
+        _ => drops(rt, s, owners, pick),
+    }
 }

@@ -3,34 +3,35 @@ ghost use Rattle.std.specs.Prelude.{◌≡◌};
 ghost use Rattle.sdd_space.specs.CallerId.{IsSeated};
 ghost use Rattle.sdd_space.specs.Guard.{reader_of};
 ghost use Rattle.sdd_space.specs.Ptr.{PtrIsShown};
-ghost use Rattle.sdd_domain_tests.specs.Hands.{AreSharedIn, AreGuardsOf};
+ghost use Rattle.sdd_domain_tests.specs.Hands.{AreOwnersOf};
 
 use crate::answers::Answer;
-use crate::drawn::hand::{keep_guard, keep_shared, take_guard, take_shared};
-use crate::drawn::shared_cell_calls::kept;
-use sdd_space::{Guard, Items, Look, Ptr, Shared, SharedItems};
+use crate::drawn::cell_calls::kept;
+use crate::drawn::in_hand::InHand;
+use crate::hand::OwnersInHand;
+use sdd_space::{Guard, Items, Look, Ptr, Shared, SharedItems, SharedOwnership};
 use std::process::Abort;
 
 /// One owner more of the pointer's item is kept, if it is had. It has the number that the pointer shows.
 fn had<S: Look<u64> + Items<u64> + SharedItems<u64>>(
     rt: &impl Abort,
     s: &mut S,
-    owners: &mut Vec<Shared<u64>>,
+    owners: &mut OwnersInHand<SharedOwnership>,
     ptr: Ptr<'_, u64>,
-) -> Answer
+) -> Option<Answer>
     requires seated { IsSeated (S.caller s.old) }
+    requires owners { AreOwnersOf (S.caller s.old) owners.old }
     requires shown { S.asks_shown s.old → PtrIsShown (S.shows s.old) ptr }
-    requires owners { AreSharedIn (S.caller s.old).home.slots owners.old.items }
     ensures caller { S.caller s.new ≡ S.caller s.old }
-    ensures owners { AreSharedIn (S.caller s.old).home.slots owners.new.items }
+    ensures owners { AreOwnersOf (S.caller s.old) owners.new }
 {
     match ptr.get_shared(s) {
         Ok(owner) => {
-            let number = kept(rt, s, owners, owner);
-            assert!(rt; number.is_none() || number == ptr.as_ref(s).copied());
-            Answer::of_look(number)
+            let number = kept(rt, s, owners, owner)?;
+            assert!(rt; ptr.as_ref(s).copied() == Some(number));
+            Some(Answer::Number(number))
         }
-        Err(refused) => Answer::Refused(refused),
+        Err(refused) => Some(Answer::Refused(refused)),
     }
 }
 
@@ -38,27 +39,24 @@ fn had<S: Look<u64> + Items<u64> + SharedItems<u64>>(
 fn converted<S: Look<u64> + Items<u64> + SharedItems<u64>>(
     rt: &impl Abort,
     s: &mut S,
-    owners: &mut Vec<Shared<u64>>,
+    owners: &mut OwnersInHand<SharedOwnership>,
     ptr: Ptr<'_, u64>,
-) -> Answer
+) -> Option<Answer>
     requires seated { IsSeated (S.caller s.old) }
+    requires owners { AreOwnersOf (S.caller s.old) owners.old }
     requires shown { S.asks_shown s.old → PtrIsShown (S.shows s.old) ptr }
-    requires owners { AreSharedIn (S.caller s.old).home.slots owners.old.items }
     ensures caller { S.caller s.new ≡ S.caller s.old }
-    ensures owners { AreSharedIn (S.caller s.old).home.slots owners.new.items }
+    ensures owners { AreOwnersOf (S.caller s.old) owners.new }
 {
     match Shared::try_from_ptr(ptr, s) {
         Ok(owner) => {
             let number = *owner.get(s);
-            keep_shared(rt, owners, owner);
-            Answer::Number(number)
+            owner.keep(rt, owners);
+            Some(Answer::Number(number))
         }
         Err((back, refused)) => {
             assert!(rt; back == ptr);
-            match refused {
-                Some(refused) => Answer::Refused(refused),
-                None => Answer::Nothing,
-            }
+            Some(Answer::Refused(refused?))
         }
     }
 }
@@ -67,21 +65,19 @@ fn converted<S: Look<u64> + Items<u64> + SharedItems<u64>>(
 fn upgraded<S: Look<u64> + Items<u64> + SharedItems<u64>>(
     rt: &impl Abort,
     s: &mut S,
-    owners: &mut Vec<Shared<u64>>,
+    owners: &mut OwnersInHand<SharedOwnership>,
     guard: &Guard,
     pick: usize,
-) -> Answer
+) -> Option<Answer>
     requires seated { IsSeated (S.caller s.old) }
-    requires owners { AreSharedIn (S.caller s.old).home.slots owners.old.items }
+    requires owners { AreOwnersOf (S.caller s.old) owners.old }
     requires reader { reader_of guard.now ≡ (S.caller s.old).reader }
     ensures caller { S.caller s.new ≡ S.caller s.old }
-    ensures owners { AreSharedIn (S.caller s.old).home.slots owners.new.items }
+    ensures owners { AreOwnersOf (S.caller s.old) owners.new }
 {
-    let Some(owner) = take_shared(owners, pick) else {
-        return Answer::Nothing;
-    };
+    let owner = Shared::take(owners, pick)?;
     let ptr = owner.get_guarded_ptr(guard, s);
-    keep_shared(rt, owners, owner);
+    owner.keep(rt, owners);
     had(rt, s, owners, ptr)
 }
 
@@ -90,48 +86,40 @@ fn upgraded<S: Look<u64> + Items<u64> + SharedItems<u64>>(
 fn converted_late<S: Look<u64> + Items<u64> + SharedItems<u64>>(
     rt: &impl Abort,
     s: &mut S,
-    owners: &mut Vec<Shared<u64>>,
+    owners: &mut OwnersInHand<SharedOwnership>,
     guard: &Guard,
     pick: usize,
-) -> Answer
+) -> Option<Answer>
     requires seated { IsSeated (S.caller s.old) }
-    requires owners { AreSharedIn (S.caller s.old).home.slots owners.old.items }
+    requires owners { AreOwnersOf (S.caller s.old) owners.old }
     requires reader { reader_of guard.now ≡ (S.caller s.old).reader }
     ensures caller { S.caller s.new ≡ S.caller s.old }
-    ensures owners { AreSharedIn (S.caller s.old).home.slots owners.new.items }
+    ensures owners { AreOwnersOf (S.caller s.old) owners.new }
 {
-    let Some(owner) = take_shared(owners, pick) else {
-        return Answer::Nothing;
-    };
+    let owner = Shared::take(owners, pick)?;
     let ptr = owner.get_guarded_ptr(guard, s);
     let _ = owner.release(s);
     converted(rt, s, owners, ptr)
 }
 
 /// One owner more by a guard's pointer, beside another one, or once that went.
-pub fn upgrades<S: Look<u64> + Items<u64> + SharedItems<u64>>(
+pub fn call<S: Look<u64> + Items<u64> + SharedItems<u64>>(
     rt: &impl Abort,
     s: &mut S,
-    owners: &mut Vec<Shared<u64>>,
-    guards: &mut Vec<Guard>,
+    owners: &mut OwnersInHand<SharedOwnership>,
+    guard: &Guard,
     pick: usize,
     late: bool,
-) -> Answer
+) -> Option<Answer>
     requires seated { IsSeated (S.caller s.old) }
-    requires owners { AreSharedIn (S.caller s.old).home.slots owners.old.items }
-    requires guards { AreGuardsOf (S.caller s.old).reader guards.old.items }
+    requires owners { AreOwnersOf (S.caller s.old) owners.old }
+    requires reader { reader_of guard.now ≡ (S.caller s.old).reader }
     ensures caller { S.caller s.new ≡ S.caller s.old }
-    ensures owners { AreSharedIn (S.caller s.old).home.slots owners.new.items }
-    ensures guards { AreGuardsOf (S.caller s.old).reader guards.new.items }
+    ensures owners { AreOwnersOf (S.caller s.old) owners.new }
 {
-    let Some(guard) = take_guard(guards) else {
-        return Answer::Nothing;
-    };
-    let answer = if late {
-        converted_late(rt, s, owners, &guard, pick)
+    if late {
+        converted_late(rt, s, owners, guard, pick)
     } else {
-        upgraded(rt, s, owners, &guard, pick)
-    };
-    keep_guard(rt, guards, guard);
-    answer
+        upgraded(rt, s, owners, guard, pick)
+    }
 }

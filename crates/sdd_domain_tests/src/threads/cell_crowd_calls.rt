@@ -2,21 +2,21 @@
 ghost use Rattle.std.specs.Prelude.{◌≡◌};
 ghost use Rattle.sdd_space.specs.CallerId.{IsSeated};
 ghost use Rattle.sdd_space.specs.Guard.{reader_of};
-ghost use Rattle.sdd_space.specs.Owned as owned;
+ghost use Rattle.sdd_space.specs.Owner.{IsOfSlots, cells_home};
 ghost use Rattle.sdd_space.specs.Ptr.{PtrIsShown};
 ghost use Rattle.sdd_space.specs.RawCell as raw_cell;
-ghost use Rattle.sdd_space.specs.Shared as shared;
 ghost use Rattle.sdd_domain_tests.specs.FewCells.{AreFewOf};
 
 use crate::answers::tag_of;
 use crate::drawn::generator::Generator;
 use crate::few::FewCells;
 use crate::owners::counted::Counted;
-use crate::threads::crowd_calls::Counts;
+use crate::threads::crowd_calls::{Counts, is_taken};
 use sdd_core::{Refused, Tag};
 use sdd_space::{
-    AtomicOwned, AtomicRaw, AtomicShared, Cells, Guard, Guards, InPlaceItems, Items, Look, Owned,
-    Ptr, RawCells, RawPtr, Shared, SharedItems,
+    AtomicCell, AtomicOwned, AtomicRaw, AtomicShared, Cells, Guard, Guards, InPlaceItems, Items,
+    Look, Owned, Owner, Ownership, Ptr, RawCells, RawPtr, Shared, SharedItems, SharedOwnership,
+    Space, UniqueOwnership,
 };
 use std::process::Abort;
 use std::sync::atomic::Ordering;
@@ -42,17 +42,17 @@ pub fn is_refused(rt: &impl Abort, refused: Refused, wanted: Refused) {
 }
 
 /// The owner of a new item, if a slot is free.
-pub fn new_owned<S: Items<Counted>>(
+pub fn new_owner<K: Ownership, S: Items<Counted>>(
     rt: &impl Abort,
     s: &mut S,
     counts: &Counts,
     number: u64,
-) -> Option<Owned<Counted>>
+) -> Option<Owner<K, Counted>>
     requires seated { IsSeated (S.caller s.old) }
     ensures caller { S.caller s.new ≡ S.caller s.old }
-    ensures home { owned.IsOfSlots (S.caller s.old).home.slots result }
+    ensures home { IsOfSlots (S.caller s.old).home.slots result }
 {
-    match Owned::new(Counted::new(rt, number, &counts.drops), s) {
+    match Owner::new(Counted::new(rt, number, &counts.drops), s) {
         Ok(owner) => Some(owner),
         Err((_value, refused)) => {
             is_refused(rt, refused, Refused::NoSlot);
@@ -62,97 +62,77 @@ pub fn new_owned<S: Items<Counted>>(
     }
 }
 
-/// The same of an owner that may have others beside it.
-pub fn new_shared<S: Items<Counted>>(
-    rt: &impl Abort,
-    s: &mut S,
-    counts: &Counts,
-    number: u64,
-) -> Option<Shared<Counted>>
-    requires seated { IsSeated (S.caller s.old) }
-    ensures caller { S.caller s.new ≡ S.caller s.old }
-    ensures home { shared.IsOfSlots (S.caller s.old).home.slots result }
-{
-    match Shared::new(Counted::new(rt, number, &counts.drops), s) {
-        Ok(owner) => Some(owner),
-        Err((_value, refused)) => {
-            is_refused(rt, refused, Refused::NoSlot);
-            counts.refused.fetch_add(1, Ordering::SeqCst);
-            None
+/// How an owner of this kind goes.
+pub trait Goes: Ownership + Sized {
+    /// Takes the owner out of its place, if there is one, adds one to its number, where that isn't refused, and lets it go.
+    fn change_and_go<R: Abort, S: Items<Counted> + InPlaceItems<Counted>>(
+        rt: &R,
+        s: &mut S,
+        place: &mut Option<Owner<Self, Counted>>,
+    )
+        requires seated { IsSeated (S.caller s.old) }
+        requires home { IsOfSlots (S.caller s.old).home.slots place.old }
+        ensures { S.caller s.new ≡ S.caller s.old };
+}
+
+impl Goes for UniqueOwnership {
+    fn change_and_go<R: Abort, S: Items<Counted> + InPlaceItems<Counted>>(
+        rt: &R,
+        s: &mut S,
+        place: &mut Option<Owned<Counted>>,
+    ) {
+        let Some(mut owner) = place.take() else {
+            return;
+        };
+        match owner.get_mut(|value| value.number = value.number.wrapping_add(1), s) {
+            Ok(()) => {}
+            Err((_add, refused)) => assert_eq!(rt; refused, Refused::GuardOpen),
         }
+        owner.retire(s);
     }
 }
 
-/// Adds one to the number, where no guard is open, and lets go.
-fn changes_and_retires<S: Items<Counted> + InPlaceItems<Counted>>(
-    rt: &impl Abort,
-    s: &mut S,
-    owner: Option<Owned<Counted>>,
-)
-    requires seated { IsSeated (S.caller s.old) }
-    requires home { owned.IsOfSlots (S.caller s.old).home.slots owner }
-    ensures { S.caller s.new ≡ S.caller s.old }
-{
-    let Some(mut owner) = owner else {
-        return;
-    };
-    match owner.get_mut(|value| value.number = value.number.wrapping_add(1), s) {
-        Ok(()) => {}
-        Err((_add, refused)) => assert_eq!(rt; refused, Refused::GuardOpen),
+impl Goes for SharedOwnership {
+    fn change_and_go<R: Abort, S: Items<Counted> + InPlaceItems<Counted>>(
+        rt: &R,
+        s: &mut S,
+        place: &mut Option<Shared<Counted>>,
+    ) {
+        let Some(mut owner) = place.take() else {
+            return;
+        };
+        match owner.get_mut(|value| value.number = value.number.wrapping_add(1), s) {
+            Ok(()) => {}
+            Err((_add, refused)) => {
+                assert!(rt; refused == Refused::NotAlone || refused == Refused::GuardOpen);
+            }
+        }
+        let _ = owner.release(s);
     }
-    owner.retire(s);
 }
 
-/// The same where the owner may have others beside it.
-fn changes_and_releases<S: Items<Counted> + InPlaceItems<Counted>>(
+/// Changes what the owner has, if there is one, and lets it go.
+fn changes<K: Goes, S: Items<Counted> + InPlaceItems<Counted>>(
     rt: &impl Abort,
     s: &mut S,
-    owner: Option<Shared<Counted>>,
+    mut owner: Option<Owner<K, Counted>>,
 )
     requires seated { IsSeated (S.caller s.old) }
-    requires home { shared.IsOfSlots (S.caller s.old).home.slots owner }
+    requires home { IsOfSlots (S.caller s.old).home.slots owner }
     ensures { S.caller s.new ≡ S.caller s.old }
 {
-    let Some(mut owner) = owner else {
-        return;
-    };
-    match owner.get_mut(|value| value.number = value.number.wrapping_add(1), s) {
-        Ok(()) => {}
-        Err((_add, refused)) => {
-            assert!(rt; refused == Refused::NotAlone || refused == Refused::GuardOpen);
-        }
-    }
-    let _ = owner.release(s);
+    K::change_and_go(rt, s, &mut owner);
+    is_taken(rt, owner);
 }
 
 /// Looks twice at what a cell holds.
-pub fn looks_alone<S: Look<Counted> + Guards<Counted> + Cells<Counted>>(
+pub fn looks<K: Ownership, S: Look<Counted> + Guards<Counted> + Cells<Counted>>(
     rt: &impl Abort,
     s: &mut S,
-    cell: &AtomicOwned<Counted>,
+    cell: &AtomicCell<K, Counted>,
 )
     requires seated { IsSeated (S.caller s.old) }
-    requires home { owned.cells_home cell.now ≡ (S.caller s.old).home.cells }
-    ensures { S.caller s.new ≡ S.caller s.old }
-{
-    let guard = Guard::new(s).expect(rt, "a guard may be opened");
-    let ptr = cell.load(&guard, s);
-    shows_twice(rt, s, ptr);
-    let later = cell.load(&guard, s);
-    shows_twice(rt, s, ptr);
-    shows_twice(rt, s, later);
-    guard.accelerate(s);
-    guard.close(s);
-}
-
-/// The same of a cell of owners that may have others.
-pub fn looks_shared<S: Look<Counted> + Guards<Counted> + Cells<Counted>>(
-    rt: &impl Abort,
-    s: &mut S,
-    cell: &AtomicShared<Counted>,
-)
-    requires seated { IsSeated (S.caller s.old) }
-    requires home { shared.cells_home cell.now ≡ (S.caller s.old).home.cells }
+    requires home { cells_home cell.now ≡ (S.caller s.old).home.cells }
     ensures { S.caller s.new ≡ S.caller s.old }
 {
     let guard = Guard::new(s).expect(rt, "a guard may be opened");
@@ -166,84 +146,46 @@ pub fn looks_shared<S: Look<Counted> + Guards<Counted> + Cells<Counted>>(
 }
 
 /// A new item, or nothing where no slot is free, takes the place of what a cell held, which goes.
-pub fn swaps_alone<S: Items<Counted> + InPlaceItems<Counted> + Cells<Counted>>(
+pub fn swaps<K: Goes, S: Items<Counted> + InPlaceItems<Counted> + Cells<Counted>>(
     rt: &impl Abort,
     s: &mut S,
     counts: &Counts,
-    cell: &AtomicOwned<Counted>,
+    cell: &AtomicCell<K, Counted>,
     draw: u64,
 )
     requires seated { IsSeated (S.caller s.old) }
-    requires home { owned.cells_home cell.now ≡ (S.caller s.old).home.cells }
+    requires home { cells_home cell.now ≡ (S.caller s.old).home.cells }
     ensures { S.caller s.new ≡ S.caller s.old }
 {
-    let next = new_owned(rt, s, counts, draw);
+    let next = new_owner(rt, s, counts, draw);
     let (old, _tag) = cell.swap((next, tag_of(draw)), s);
-    changes_and_retires(rt, s, old);
-}
-
-pub fn swaps_shared<S: Items<Counted> + InPlaceItems<Counted> + Cells<Counted>>(
-    rt: &impl Abort,
-    s: &mut S,
-    counts: &Counts,
-    cell: &AtomicShared<Counted>,
-    draw: u64,
-)
-    requires seated { IsSeated (S.caller s.old) }
-    requires home { shared.cells_home cell.now ≡ (S.caller s.old).home.cells }
-    ensures { S.caller s.new ≡ S.caller s.old }
-{
-    let next = new_shared(rt, s, counts, draw);
-    let (old, _tag) = cell.swap((next, tag_of(draw)), s);
-    changes_and_releases(rt, s, old);
+    changes(rt, s, old);
 }
 
 /// The same where the cell still holds what was loaded. Whoever goes, the pointer shows what it showed.
-fn exchanges_alone<
-    S: Look<Counted> + Guards<Counted> + Items<Counted> + InPlaceItems<Counted> + Cells<Counted>,
->(rt: &impl Abort, s: &mut S, counts: &Counts, cell: &AtomicOwned<Counted>, draw: u64)
+fn exchanges<K: Goes, S: Space<Counted>>(
+    rt: &impl Abort,
+    s: &mut S,
+    counts: &Counts,
+    cell: &AtomicCell<K, Counted>,
+    draw: u64,
+)
     requires seated { IsSeated (S.caller s.old) }
-    requires home { owned.cells_home cell.now ≡ (S.caller s.old).home.cells }
+    requires home { cells_home cell.now ≡ (S.caller s.old).home.cells }
     ensures { S.caller s.new ≡ S.caller s.old }
 {
     let guard = Guard::new(s).expect(rt, "a guard may be opened");
     let ptr = cell.load(&guard, s);
-    let next = new_owned(rt, s, counts, draw);
+    let next = new_owner(rt, s, counts, draw);
     match cell.compare_exchange(ptr, (next, tag_of(draw)), &guard, s) {
         Ok((old, now)) => {
             assert!(rt; old.is_none() == ptr.is_null());
             shows_twice(rt, s, now);
-            changes_and_retires(rt, s, old);
+            changes(rt, s, old);
         }
         Err((back, now)) => {
             shows_twice(rt, s, now);
-            changes_and_retires(rt, s, back);
-        }
-    }
-    shows_twice(rt, s, ptr);
-    guard.accelerate(s);
-    guard.close(s);
-}
-
-fn exchanges_shared<
-    S: Look<Counted> + Guards<Counted> + Items<Counted> + InPlaceItems<Counted> + Cells<Counted>,
->(rt: &impl Abort, s: &mut S, counts: &Counts, cell: &AtomicShared<Counted>, draw: u64)
-    requires seated { IsSeated (S.caller s.old) }
-    requires home { shared.cells_home cell.now ≡ (S.caller s.old).home.cells }
-    ensures { S.caller s.new ≡ S.caller s.old }
-{
-    let guard = Guard::new(s).expect(rt, "a guard may be opened");
-    let ptr = cell.load(&guard, s);
-    let next = new_shared(rt, s, counts, draw);
-    match cell.compare_exchange(ptr, (next, tag_of(draw)), &guard, s) {
-        Ok((old, now)) => {
-            assert!(rt; old.is_none() == ptr.is_null());
-            shows_twice(rt, s, now);
-            changes_and_releases(rt, s, old);
-        }
-        Err((back, now)) => {
-            shows_twice(rt, s, now);
-            changes_and_releases(rt, s, back);
+            changes(rt, s, back);
         }
     }
     shows_twice(rt, s, ptr);
@@ -252,11 +194,14 @@ fn exchanges_shared<
 }
 
 /// Another cell holds what this one does, for a while.
-fn copies<
-    S: Look<Counted> + Guards<Counted> + Items<Counted> + InPlaceItems<Counted> + Cells<Counted>,
->(rt: &impl Abort, s: &mut S, cell: &AtomicShared<Counted>, comes_out: bool)
+fn copies<S: Space<Counted>>(
+    rt: &impl Abort,
+    s: &mut S,
+    cell: &AtomicShared<Counted>,
+    comes_out: bool,
+)
     requires seated { IsSeated (S.caller s.old) }
-    requires home { shared.cells_home cell.now ≡ (S.caller s.old).home.cells }
+    requires home { cells_home cell.now ≡ (S.caller s.old).home.cells }
     ensures { S.caller s.new ≡ S.caller s.old }
 {
     let guard = Guard::new(s).expect(rt, "a guard may be opened");
@@ -265,10 +210,10 @@ fn copies<
     guard.close(s);
     match copied {
         Ok(copy) => {
-            looks_shared(rt, s, &copy);
+            looks(rt, s, &copy);
             if comes_out {
                 let owner = copy.into_shared(s);
-                changes_and_releases(rt, s, owner);
+                changes(rt, s, owner);
             } else {
                 copy.close(s);
             }
@@ -286,12 +231,33 @@ pub fn shared_of<S: SharedItems<Counted>>(
     requires seated { IsSeated (S.caller s.old) }
     requires shown { S.asks_shown s.old → PtrIsShown (S.shows s.old) ptr }
     ensures caller { S.caller s.new ≡ S.caller s.old }
-    ensures home { shared.IsOfSlots (S.caller s.old).home.slots result }
+    ensures home { IsOfSlots (S.caller s.old).home.slots result }
 {
     match ptr.get_shared(s) {
         Ok(owner) => owner,
         Err(refused) => {
             assert_eq!(rt; refused, Refused::Contended);
+            None
+        }
+    }
+}
+
+/// The same by a call that gives the pointer back where there is none.
+fn converted<S: SharedItems<Counted>>(
+    rt: &impl Abort,
+    s: &mut S,
+    ptr: Ptr<'_, Counted>,
+) -> Option<Shared<Counted>>
+    requires seated { IsSeated (S.caller s.old) }
+    requires shown { S.asks_shown s.old → PtrIsShown (S.shows s.old) ptr }
+    ensures caller { S.caller s.new ≡ S.caller s.old }
+    ensures home { IsOfSlots (S.caller s.old).home.slots result }
+{
+    match Shared::try_from_ptr(ptr, s) {
+        Ok(owner) => Some(owner),
+        Err((back, refused)) => {
+            assert!(rt; back == ptr);
+            assert!(rt; refused.is_none() || refused == Some(Refused::Contended));
             None
         }
     }
@@ -305,7 +271,7 @@ fn is_shown<S: Look<Counted> + Items<Counted>>(
     owner: &Option<Shared<Counted>>,
 )
     requires seated { IsSeated (S.caller s.now) }
-    requires home { shared.IsOfSlots (S.caller s.now).home.slots owner.now }
+    requires home { IsOfSlots (S.caller s.now).home.slots owner.now }
 {
     let Some(owner) = owner else {
         return;
@@ -316,39 +282,35 @@ fn is_shown<S: Look<Counted> + Items<Counted>>(
     }
 }
 
-/// An owner comes of what a cell holds, while others let go of it, and goes.
-fn shares<
-    S: Look<Counted>
-        + Guards<Counted>
-        + Items<Counted>
-        + InPlaceItems<Counted>
-        + SharedItems<Counted>
-        + Cells<Counted>,
->(rt: &impl Abort, s: &mut S, cell: &AtomicShared<Counted>)
+/// An owner comes of what a cell holds, while others let go of it, by either of the two calls, and goes.
+fn shares<S: Space<Counted>>(
+    rt: &impl Abort,
+    s: &mut S,
+    cell: &AtomicShared<Counted>,
+    converts: bool,
+)
     requires seated { IsSeated (S.caller s.old) }
-    requires home { shared.cells_home cell.now ≡ (S.caller s.old).home.cells }
+    requires home { cells_home cell.now ≡ (S.caller s.old).home.cells }
     ensures { S.caller s.new ≡ S.caller s.old }
 {
     let guard = Guard::new(s).expect(rt, "a guard may be opened");
     let ptr = cell.load(&guard, s);
-    let owner = shared_of(rt, s, ptr);
+    let owner = if converts {
+        converted(rt, s, ptr)
+    } else {
+        shared_of(rt, s, ptr)
+    };
     is_shown(rt, s, ptr, &owner);
     shows_twice(rt, s, ptr);
     guard.accelerate(s);
     guard.close(s);
-    changes_and_releases(rt, s, owner);
+    changes(rt, s, owner);
 }
 
 /// The same by a call of the cell.
-fn shares_held<
-    S: Guards<Counted>
-        + Items<Counted>
-        + InPlaceItems<Counted>
-        + SharedItems<Counted>
-        + Cells<Counted>,
->(rt: &impl Abort, s: &mut S, cell: &AtomicShared<Counted>)
+fn shares_held<S: Space<Counted>>(rt: &impl Abort, s: &mut S, cell: &AtomicShared<Counted>)
     requires seated { IsSeated (S.caller s.old) }
-    requires home { shared.cells_home cell.now ≡ (S.caller s.old).home.cells }
+    requires home { cells_home cell.now ≡ (S.caller s.old).home.cells }
     ensures { S.caller s.new ≡ S.caller s.old }
 {
     let guard = Guard::new(s).expect(rt, "a guard may be opened");
@@ -356,53 +318,9 @@ fn shares_held<
     guard.accelerate(s);
     guard.close(s);
     match had {
-        Ok(owner) => changes_and_releases(rt, s, owner),
+        Ok(owner) => changes(rt, s, owner),
         Err(refused) => assert_eq!(rt; refused, Refused::Contended),
     }
-}
-
-/// The owner of a pointer's item, by a call that gives the pointer back where there is none.
-fn converted<S: SharedItems<Counted>>(
-    rt: &impl Abort,
-    s: &mut S,
-    ptr: Ptr<'_, Counted>,
-) -> Option<Shared<Counted>>
-    requires seated { IsSeated (S.caller s.old) }
-    requires shown { S.asks_shown s.old → PtrIsShown (S.shows s.old) ptr }
-    ensures caller { S.caller s.new ≡ S.caller s.old }
-    ensures home { shared.IsOfSlots (S.caller s.old).home.slots result }
-{
-    match Shared::try_from_ptr(ptr, s) {
-        Ok(owner) => Some(owner),
-        Err((back, refused)) => {
-            assert!(rt; back == ptr);
-            assert!(rt; refused.is_none() || refused == Some(Refused::Contended));
-            None
-        }
-    }
-}
-
-/// The same by that call.
-fn converts<
-    S: Look<Counted>
-        + Guards<Counted>
-        + Items<Counted>
-        + InPlaceItems<Counted>
-        + SharedItems<Counted>
-        + Cells<Counted>,
->(rt: &impl Abort, s: &mut S, cell: &AtomicShared<Counted>)
-    requires seated { IsSeated (S.caller s.old) }
-    requires home { shared.cells_home cell.now ≡ (S.caller s.old).home.cells }
-    ensures { S.caller s.new ≡ S.caller s.old }
-{
-    let guard = Guard::new(s).expect(rt, "a guard may be opened");
-    let ptr = cell.load(&guard, s);
-    let owner = converted(rt, s, ptr);
-    is_shown(rt, s, ptr, &owner);
-    shows_twice(rt, s, ptr);
-    guard.accelerate(s);
-    guard.close(s);
-    changes_and_releases(rt, s, owner);
 }
 
 /// What has an only owner can't be shared, whoever swaps it meanwhile.
@@ -412,7 +330,7 @@ fn shares_none<S: Look<Counted> + Guards<Counted> + SharedItems<Counted> + Cells
     cell: &AtomicOwned<Counted>,
 )
     requires seated { IsSeated (S.caller s.old) }
-    requires home { owned.cells_home cell.now ≡ (S.caller s.old).home.cells }
+    requires home { cells_home cell.now ≡ (S.caller s.old).home.cells }
     ensures { S.caller s.new ≡ S.caller s.old }
 {
     let guard = Guard::new(s).expect(rt, "a guard may be opened");
@@ -497,15 +415,13 @@ fn makes_own<S: Items<Counted> + Cells<Counted>>(rt: &impl Abort, s: &mut S, cou
 }
 
 /// One call, drawn.
-fn draw<
-    S: Look<Counted>
-        + Guards<Counted>
-        + Items<Counted>
-        + InPlaceItems<Counted>
-        + SharedItems<Counted>
-        + Cells<Counted>
-        + RawCells<Counted>,
->(rt: &impl Abort, s: &mut S, counts: &Counts, cells: &FewCells<Counted>, drawn: &mut Generator)
+fn draw<S: Space<Counted>>(
+    rt: &impl Abort,
+    s: &mut S,
+    counts: &Counts,
+    cells: &FewCells<Counted>,
+    drawn: &mut Generator,
+)
     requires seated { IsSeated (S.caller s.old) }
     requires cells { AreFewOf (S.caller s.old).home.cells cells.now }
     ensures { S.caller s.new ≡ S.caller s.old }
@@ -513,19 +429,19 @@ fn draw<
     let call = drawn.below(16);
     let draw = drawn.below(16);
     match call {
-        0 => looks_shared(rt, s, &cells.first),
-        1 => looks_alone(rt, s, &cells.third),
-        2 => swaps_shared(rt, s, counts, &cells.first, draw),
-        3 => swaps_alone(rt, s, counts, &cells.third, draw),
-        4 => exchanges_shared(rt, s, counts, &cells.second, draw),
-        5 => exchanges_alone(rt, s, counts, &cells.fourth, draw),
+        0 => looks(rt, s, &cells.first),
+        1 => looks(rt, s, &cells.third),
+        2 => swaps(rt, s, counts, &cells.first, draw),
+        3 => swaps(rt, s, counts, &cells.third, draw),
+        4 => exchanges(rt, s, counts, &cells.second, draw),
+        5 => exchanges(rt, s, counts, &cells.fourth, draw),
         6 => copies(rt, s, &cells.first, draw % 2 == 0),
         7 => copies(rt, s, &cells.second, draw % 2 == 0),
         8 => tags(rt, s, cells, draw),
-        9 => shares(rt, s, &cells.first),
-        10 => shares(rt, s, &cells.second),
+        9 => shares(rt, s, &cells.first, false),
+        10 => shares(rt, s, &cells.second, false),
         11 => shares_held(rt, s, &cells.first),
-        12 => converts(rt, s, &cells.second),
+        12 => shares(rt, s, &cells.second, true),
         13 => shares_none(rt, s, &cells.third),
         14 => turns_tag(rt, s, counts, &cells.fifth),
         _ => makes_own(rt, s, counts),
@@ -533,15 +449,7 @@ fn draw<
 }
 
 /// So many calls, drawn.
-pub fn draws<
-    S: Look<Counted>
-        + Guards<Counted>
-        + Items<Counted>
-        + InPlaceItems<Counted>
-        + SharedItems<Counted>
-        + Cells<Counted>
-        + RawCells<Counted>,
->(
+pub fn draws<S: Space<Counted>>(
     rt: &impl Abort,
     s: &mut S,
     counts: &Counts,

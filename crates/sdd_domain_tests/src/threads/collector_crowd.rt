@@ -14,7 +14,7 @@ use crate::owners::counted::Counted;
 use crate::steps::{ONE_SLOT, add, closed, ended, new_domain, registered};
 use crate::threads::cell_crowd::{adds_up, close_all, new_cells};
 use crate::threads::collector_crowd_calls::{closes, collects, looks};
-use crate::threads::crowd_calls::Counts;
+use crate::threads::crowd_calls::{Counts, is_taken};
 use sdd_core::Limits;
 use sdd_domain::{Domain, Local, Receipt};
 use sdd_space::PrivateCollector;
@@ -107,13 +107,6 @@ fn four_collecting<'d>(
             requires { AreFewOf (cells_in domain.now) cells.now × AreCollectorsOf (cells_in domain.now) collectors.now }
         { two_collecting(rt, domain, counts, cells, collectors) },
     )
-}
-
-/// It was given to a thread.
-fn is_taken<X>(rt: &impl Abort, given: Option<X>) {
-    if let Some(_given) = given {
-        panic!(rt; "a thread has it")
-    }
 }
 
 /// What a thread does then that closes nothing: it looks at the cells, out of which others collect what they hold.

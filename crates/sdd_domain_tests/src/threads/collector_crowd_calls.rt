@@ -12,14 +12,13 @@ use crate::drawn::generator::Generator;
 use crate::few::{FewCells, FewCollectors};
 use crate::owners::counted::Counted;
 use crate::threads::cell_crowd_calls::{
-    is_refused, looks_alone, looks_shared, new_owned, new_shared, shared_of, shows_twice,
-    swaps_alone, swaps_shared,
+    self, is_refused, new_owner, shared_of, shows_twice, swaps,
 };
 use crate::threads::crowd_calls::Counts;
 use sdd_core::{Refused, Tag};
 use sdd_space::{
-    AtomicOwned, AtomicShared, Cells, Collectors, Guard, Guards, InPlaceItems, Items, Look,
-    PrivateCollector, RawCells, SharedItems,
+    AtomicOwned, AtomicShared, Cells, Collectors, Guard, Guards, Items, PrivateCollector, RawCells,
+    Space,
 };
 use std::process::Abort;
 
@@ -37,7 +36,7 @@ fn collects_owned<S: Items<Counted> + Guards<Counted> + Cells<Counted> + Collect
     requires collector { cells_home collector.now ≡ (S.caller s.old).home.cells }
     ensures { S.caller s.new ≡ S.caller s.old }
 {
-    let next = new_owned(rt, s, counts, 0);
+    let next = new_owner(rt, s, counts, 0);
     let (old, _tag) = cell.swap((next, Tag::None), s);
     let Some(owner) = old else {
         return;
@@ -60,7 +59,7 @@ fn collects_shared<S: Items<Counted> + Guards<Counted> + Cells<Counted> + Collec
     requires collector { cells_home collector.now ≡ (S.caller s.old).home.cells }
     ensures { S.caller s.new ≡ S.caller s.old }
 {
-    let next = new_shared(rt, s, counts, 0);
+    let next = new_owner(rt, s, counts, 0);
     let (old, _tag) = cell.swap((next, Tag::None), s);
     let Some(owner) = old else {
         return;
@@ -71,14 +70,12 @@ fn collects_shared<S: Items<Counted> + Guards<Counted> + Cells<Counted> + Collec
 }
 
 /// The same by an owner that is had of what a cell holds still, or held. The guard shows it whatever becomes of it.
-fn collects_beside<
-    S: Look<Counted>
-        + Guards<Counted>
-        + Items<Counted>
-        + SharedItems<Counted>
-        + Cells<Counted>
-        + Collectors<Counted>,
->(rt: &impl Abort, s: &mut S, cell: &AtomicShared<Counted>, collector: &PrivateCollector<Counted>)
+fn collects_beside<S: Space<Counted>>(
+    rt: &impl Abort,
+    s: &mut S,
+    cell: &AtomicShared<Counted>,
+    collector: &PrivateCollector<Counted>,
+)
     requires seated { IsSeated (S.caller s.old) }
     requires cell { shared.cells_home cell.now ≡ (S.caller s.old).home.cells }
     requires collector { cells_home collector.now ≡ (S.caller s.old).home.cells }
@@ -105,14 +102,7 @@ fn turns<S: Guards<Counted>>(rt: &impl Abort, s: &mut S)
 }
 
 /// An item waits for a collector, or what is due goes.
-fn collects_one<
-    S: Look<Counted>
-        + Guards<Counted>
-        + Items<Counted>
-        + SharedItems<Counted>
-        + Cells<Counted>
-        + Collectors<Counted>,
->(
+fn collects_one<S: Space<Counted>>(
     rt: &impl Abort,
     s: &mut S,
     counts: &Counts,
@@ -134,25 +124,27 @@ fn collects_one<
 }
 
 /// Looks at what a cell holds, or has something else in its place.
-fn looks_on<
-    S: Look<Counted> + Guards<Counted> + Items<Counted> + InPlaceItems<Counted> + Cells<Counted>,
->(rt: &impl Abort, s: &mut S, counts: &Counts, cells: &FewCells<Counted>, drawn: u64)
+fn looks_on<S: Space<Counted>>(
+    rt: &impl Abort,
+    s: &mut S,
+    counts: &Counts,
+    cells: &FewCells<Counted>,
+    drawn: u64,
+)
     requires seated { IsSeated (S.caller s.old) }
     requires cells { AreFewOf (S.caller s.old).home.cells cells.now }
     ensures { S.caller s.new ≡ S.caller s.old }
 {
     match drawn {
-        0 => swaps_alone(rt, s, counts, &cells.third, drawn),
-        1 => swaps_shared(rt, s, counts, &cells.first, drawn),
-        2 => looks_alone(rt, s, &cells.third),
-        _ => looks_shared(rt, s, &cells.first),
+        0 => swaps(rt, s, counts, &cells.third, drawn),
+        1 => swaps(rt, s, counts, &cells.first, drawn),
+        2 => cell_crowd_calls::looks(rt, s, &cells.third),
+        _ => cell_crowd_calls::looks(rt, s, &cells.first),
     }
 }
 
 /// So many looks that are drawn.
-pub fn looks<
-    S: Look<Counted> + Guards<Counted> + Items<Counted> + InPlaceItems<Counted> + Cells<Counted>,
->(
+pub fn looks<S: Space<Counted>>(
     rt: &impl Abort,
     s: &mut S,
     counts: &Counts,
@@ -170,14 +162,7 @@ pub fn looks<
 }
 
 /// So many calls with collectors that are drawn.
-pub fn collects<
-    S: Look<Counted>
-        + Guards<Counted>
-        + Items<Counted>
-        + SharedItems<Counted>
-        + Cells<Counted>
-        + Collectors<Counted>,
->(
+pub fn collects<S: Space<Counted>>(
     rt: &impl Abort,
     s: &mut S,
     counts: &Counts,
@@ -241,15 +226,7 @@ fn renewed<S: RawCells<Counted> + Collectors<Counted>>(
 }
 
 /// Collects for a collector of its own, and tries so often to close it. One that isn't closed comes back, if there is one.
-pub fn closes<
-    S: Look<Counted>
-        + Guards<Counted>
-        + Items<Counted>
-        + SharedItems<Counted>
-        + Cells<Counted>
-        + RawCells<Counted>
-        + Collectors<Counted>,
->(
+pub fn closes<S: Space<Counted>>(
     rt: &impl Abort,
     s: &mut S,
     counts: &Counts,

@@ -12,7 +12,7 @@ use crate::few::Four;
 use crate::owners::counted::Counted;
 use crate::owners::steps::{copied, owned_item, shared_item};
 use crate::steps::{ONE_SLOT, new_domain};
-use crate::threads::crowd_calls::{Counts, draws, is_let_go};
+use crate::threads::crowd_calls::{Counts, draws, is_let_go, is_taken};
 use crate::with_jobs::{Adds, closed, ended, keep, keep_all, registered};
 use sdd_core::Limits;
 use sdd_domain::{Domain, Local, Receipt};
@@ -128,13 +128,6 @@ fn four_work(
     vec![in rt.alloc(); one, other, another, last].expect(rt, "there is memory")
 }
 
-/// The owner was given to a thread.
-fn is_taken(rt: &impl Abort, given: Option<Shared<Counted>>) {
-    if let Some(_owner) = given {
-        panic!(rt; "a thread has it")
-    }
-}
-
 /// What four threads leave, each of which was given an owner.
 fn four_given(
     rt: &(impl Abort + AllocGlobal + Threads + Sync),
@@ -172,13 +165,6 @@ fn four_given(
     receipts
 }
 
-/// The owners were given to threads.
-fn are_taken(rt: &impl Abort, given: Option<Four<Counted>>) {
-    if let Some(_four) = given {
-        panic!(rt; "threads have them")
-    }
-}
-
 /// What eight threads leave, each of which was given an owner.
 fn eight(
     rt: &(impl Abort + AllocGlobal + Threads + Sync),
@@ -203,8 +189,8 @@ fn eight(
             requires { IfSome other (IsFourOf (slots_in domain.now)) }
         { four_given(rt, domain, counts, out, &mut other) },
     );
-    are_taken(rt, one);
-    are_taken(rt, other);
+    is_taken(rt, one);
+    is_taken(rt, other);
     keep_all(rt, domain, &mut receipts, others);
     receipts
 }

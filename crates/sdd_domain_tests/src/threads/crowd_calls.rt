@@ -10,7 +10,7 @@ use crate::with_jobs::{Adds, Total, adding, number};
 use sdd_core::Refused;
 use sdd_space::{
     Deferrals, Guard, Guards, InPlaceItems, Items, Look, Owned, RawItems, RawPtr, Shared,
-    SharedOwners,
+    SharedOwners, Space,
 };
 use std::process::Abort;
 use std::sync::atomic::Ordering;
@@ -46,6 +46,13 @@ impl Counts {
         };
         counts.seeds.store(seed, Ordering::SeqCst);
         counts
+    }
+}
+
+/// What was given to a thread is with it, or was taken out of its place.
+pub fn is_taken<X>(rt: &impl Abort, given: Option<X>) {
+    if let Some(_given) = given {
+        panic!(rt; "it was taken")
     }
 }
 
@@ -230,15 +237,7 @@ fn defers<S: Guards<Counted> + Deferrals<Counted, Job = Adds>>(
 }
 
 /// One call, drawn.
-fn draw<
-    S: Look<Counted>
-        + Items<Counted>
-        + SharedOwners<Counted>
-        + InPlaceItems<Counted>
-        + RawItems<Counted>
-        + Guards<Counted>
-        + Deferrals<Counted, Job = Adds>,
->(
+fn draw<S: Space<Counted> + Deferrals<Counted, Job = Adds>>(
     rt: &impl Abort,
     s: &mut S,
     counts: &Counts,
@@ -266,15 +265,7 @@ fn draw<
 }
 
 /// So many calls, drawn.
-pub fn draws<
-    S: Look<Counted>
-        + Items<Counted>
-        + SharedOwners<Counted>
-        + InPlaceItems<Counted>
-        + RawItems<Counted>
-        + Guards<Counted>
-        + Deferrals<Counted, Job = Adds>,
->(
+pub fn draws<S: Space<Counted> + Deferrals<Counted, Job = Adds>>(
     rt: &impl Abort,
     s: &mut S,
     counts: &Counts,

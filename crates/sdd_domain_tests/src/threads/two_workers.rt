@@ -2,8 +2,7 @@
 ghost use Rattle.std.specs.Prelude.{◌≡◌};
 ghost use Rattle.sdd_space.specs.CallerId.{IsSeated};
 ghost use Rattle.sdd_space.specs.Guard.{reader_of};
-ghost use Rattle.sdd_space.specs.Owned as owned;
-ghost use Rattle.sdd_space.specs.Shared as shared;
+ghost use Rattle.sdd_space.specs.Owner.{slots_home};
 ghost use Rattle.sdd_domain.specs.Domain.{slots_in};
 ghost use Rattle.sdd_domain_tests.specs.Slots.{IsReceiptIn};
 
@@ -13,7 +12,7 @@ use crate::with_jobs::{Adds, Total, adding, closed, ended, is_total, number, reg
 use crate::worked::in_place::counts;
 use sdd_core::{Limits, Refused};
 use sdd_domain::{Domain, Receipt};
-use sdd_space::{Deferrals, Guard, Guards, Items, Owned, Shared, SharedOwners};
+use sdd_space::{Deferrals, Guard, Guards, Items, Owned, Owner, Ownership, Shared, SharedOwners};
 use std::process::Abort;
 use std::thread::join;
 
@@ -28,27 +27,17 @@ const MANY: Limits = Limits {
 /// How often a call is made again that lost an exchange to the other thread.
 const AGAIN: u64 = 1000;
 
-fn owned_at_last<S: Items<u64>>(rt: &impl Abort, s: &mut S, value: u64) -> Owned<u64>
+fn owner_at_last<K: Ownership, S: Items<u64>>(
+    rt: &impl Abort,
+    s: &mut S,
+    value: u64,
+) -> Owner<K, u64>
     requires { IsSeated (S.caller s.old) }
     ensures caller { S.caller s.new ≡ S.caller s.old }
-    ensures home { owned.slots_home result ≡ (S.caller s.old).home.slots }
+    ensures home { slots_home result ≡ (S.caller s.old).home.slots }
 {
     for _ in 0..AGAIN {
-        match Owned::new(value, s) {
-            Ok(owner) => return owner,
-            Err((_value, refused)) => assert_eq!(rt; refused, Refused::Contended),
-        }
-    }
-    panic!(rt; "each try was lost")
-}
-
-fn shared_at_last<S: Items<u64>>(rt: &impl Abort, s: &mut S, value: u64) -> Shared<u64>
-    requires { IsSeated (S.caller s.old) }
-    ensures caller { S.caller s.new ≡ S.caller s.old }
-    ensures home { shared.slots_home result ≡ (S.caller s.old).home.slots }
-{
-    for _ in 0..AGAIN {
-        match Shared::new(value, s) {
+        match Owner::new(value, s) {
             Ok(owner) => return owner,
             Err((_value, refused)) => assert_eq!(rt; refused, Refused::Contended),
         }
@@ -85,7 +74,7 @@ fn shares<S: Items<u64> + SharedOwners<u64>>(rt: &impl Abort, s: &mut S, value: 
     requires { IsSeated (S.caller s.old) }
     ensures { S.caller s.new ≡ S.caller s.old }
 {
-    let owner = shared_at_last(rt, s, value);
+    let owner: Shared<u64> = owner_at_last(rt, s, value);
     let other = copied(rt, s, &owner);
     assert!(rt; !released(s, owner));
     assert!(rt; released(s, other));
@@ -113,7 +102,8 @@ fn makes_a_thousand<S: Items<u64> + SharedOwners<u64> + Guards<u64> + Deferrals<
 {
     for value in 0u64..1000 {
         if value % 2 == 0 {
-            owned_at_last(rt, s, value).retire(s);
+            let owner: Owned<u64> = owner_at_last(rt, s, value);
+            owner.retire(s);
         } else {
             shares(rt, s, value);
         }

@@ -13,7 +13,7 @@ use sdd_interpreter::commands::guards::GuardUse;
 use sdd_script_model::{LinkChange, OwnerKind};
 use sdd_script_text::{
     Action, Answer, BagAction, Call, CellAction, CollectorAction, ContainerAction, EntryAction,
-    GuardAction, HeldAction, ItemAction, LinkAction, ListName, PlaceName, RawAction, Reply,
+    GuardAction, HeldAction, ItemAction, LinkAction, PlaceName, RawAction, Reply,
 };
 
 /// An action on an open guard.
@@ -178,12 +178,7 @@ pub fn act_on_container(
         ContainerAction::Queue => queues::make_queue(interpreter, name)?,
         ContainerAction::Stack => stacks::make_stack(interpreter, name)?,
         ContainerAction::All(stack, guard) => stacks::pour(interpreter, name, stack, guard)?,
-        ContainerAction::Clone(ListName::Queue(queue), guard) => {
-            copies::copy_queue(interpreter, name, queue, guard)?
-        }
-        ContainerAction::Clone(ListName::Stack(stack), guard) => {
-            copies::copy_stack(interpreter, name, stack, guard)?
-        }
+        ContainerAction::Clone(list, guard) => copies::copy_list(interpreter, name, list, guard)?,
         ContainerAction::CloseQueue(queue) => queues::close_queue(interpreter, name, queue)?,
         ContainerAction::CloseStack(stack) => stacks::close_stack(interpreter, name, stack)?,
     })

@@ -81,7 +81,7 @@ impl<T: Item<T>, J: Job> Giver<T> for Retirement<'_, T, J> {
     {
         let _ = self.core.release(
             self.place,
-            inner::right_of_shared(owner),
+            inner::right_of_owner(owner),
             StandingKind::Shared,
         );
     }
@@ -111,11 +111,7 @@ impl<T: Item<T>, J: Job> Giver<T> for Retirement<'_, T, J> {
         ensures exact { IsExact (caller_for self.old.core.now.world self.old.place self.old.core.ghost_name) →
             self.new.core.now.world ≡ given self.old.core.now.world self.old.place (shared.cell_holding cell) }
     {
-        self.core.close_cell(
-            self.place,
-            inner::right_of_shared_cell(cell),
-            StandingKind::Shared,
-        );
+        self.core.close_cell(self.place, inner::right_of_cell(cell), StandingKind::Shared);
     }
 
     fn atomic_raw(&mut self, cell: AtomicRaw<T>)

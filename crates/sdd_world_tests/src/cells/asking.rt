@@ -1,6 +1,6 @@
 //! A condition and a closure are asked once in a world, whatever they answer.
 use crate::cells::example::{AMPLE, Example, in_each_space};
-use crate::cells::steps::{owned, raw, shared};
+use crate::cells::steps::{owned, owners, raw, shared};
 use sdd_core::Tag;
 use sdd_participants::Idle;
 use sdd_space::{Deferrals, RawPtr, Space};
@@ -12,17 +12,17 @@ struct AskOfOwners;
 impl Example for AskOfOwners {
     fn run<R: Abort, S: Space<u64> + Deferrals<u64, Job = Idle>>(rt: &R, s: &mut S) {
         let cell = owned::cell(rt, s, 14);
-        assert!(rt; owned::asked(rt, s, &cell, Tag::First, false).0 == 1);
+        assert!(rt; owners::asked(rt, s, &cell, Tag::First, false).0 == 1);
         assert!(rt; cell.tag(s) == Tag::None);
-        assert!(rt; owned::asked(rt, s, &cell, Tag::First, true).0 == 1);
+        assert!(rt; owners::asked(rt, s, &cell, Tag::First, true).0 == 1);
         assert!(rt; cell.tag(s) == Tag::First);
-        owned::close_cell(s, cell);
+        owners::close_cell(s, cell);
         let cell = shared::cell(rt, s, 15);
-        assert!(rt; shared::asked(rt, s, &cell, Tag::Both, false) == 1);
+        assert!(rt; owners::asked(rt, s, &cell, Tag::Both, false).0 == 1);
         assert!(rt; cell.tag(s) == Tag::None);
-        assert!(rt; shared::asked(rt, s, &cell, Tag::Both, true) == 1);
+        assert!(rt; owners::asked(rt, s, &cell, Tag::Both, true).0 == 1);
         assert!(rt; cell.tag(s) == Tag::Both);
-        shared::close_cell(s, cell);
+        owners::close_cell(s, cell);
     }
 }
 

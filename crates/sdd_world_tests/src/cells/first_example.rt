@@ -12,7 +12,7 @@ use crate::cells::example::{
     AMPLE, Example, Setting, Shown, all_went, closed, ended, in_each_space, local_shows,
     new_domain, registered,
 };
-use crate::cells::steps::{close, collectors, opened, owned, raw, seen, shared};
+use crate::cells::steps::{close, collectors, opened, owned, owners, raw, seen, shared};
 use sdd_core::{Limits, Tag};
 use sdd_participants::Idle;
 use sdd_space::{
@@ -37,10 +37,10 @@ fn tags<'g, S: Look<u64> + Cells<u64> + RawCells<u64>>(
     requires reader { reader_of guard.now ≡ (S.caller s.old).reader }
     ensures caller { S.caller s.new ≡ S.caller s.old }
 {
-    let ptr = owned::load(s, cell, guard);
+    let ptr = owners::load(s, cell, guard);
     assert!(rt; seen(s, ptr) == Some(19));
-    assert!(rt; owned::tagged(rt, s, cell, Tag::First));
-    assert!(rt; shared::tagged(rt, s, shared_cell, Tag::Second));
+    assert!(rt; owners::tagged(rt, s, cell, Tag::First));
+    assert!(rt; owners::tagged(rt, s, shared_cell, Tag::Second));
     let null = RawPtr::null();
     let tagged = null.with_tag(Tag::Both);
     assert!(rt; raw_cell.compare_exchange(null, tagged, guard, s) == Ok(null));
@@ -62,7 +62,7 @@ fn expects_no_tag<'g, S: Look<u64> + Items<u64> + Cells<u64>>(
 {
     let mut ptr = ptr;
     assert!(rt;
-        owned::exchanged(rt, s, cell, ptr, 18, Tag::First, guard)
+        owners::exchanged(rt, s, cell, ptr, 18, Tag::First, guard)
             == Err((Some(18), Some(19), Tag::First))
     );
     assert!(rt; ptr.set_tag(Tag::First) == Tag::None);
@@ -80,7 +80,7 @@ fn replaced<S: Look<u64> + Items<u64> + Cells<u64>>(
     ensures caller { S.caller s.new ≡ S.caller s.old }
     ensures home { common.slots_home result ≡ (S.caller s.new).home.slots }
 {
-    assert!(rt; shared::swapped(rt, s, &cell, 19, Tag::None) == (Some(17), Tag::Second));
+    assert!(rt; owners::swapped(rt, s, &cell, Some(19), Tag::None) == (Some(17), Tag::Second));
     let owner = shared::into_shared(s, cell).expect(rt, "the cell holds an owner");
     assert!(rt; *owner.get(s) == 19);
     owner
@@ -116,7 +116,7 @@ fn takes_back<S: Look<u64> + Items<u64> + RawItems<u64> + RawCells<u64>>(
     let named = cell.load(guard, s);
     let shown = owned::see(s, named, guard);
     let back = owned::unraw(s, named);
-    (shown, owned::spent(s, back))
+    (shown, owners::spent(s, back))
 }
 
 /// A job waits until no guard of now is open.
@@ -160,7 +160,7 @@ impl Example for Manages {
         let owner = replaced(rt, s, shared_cell);
         puts_out(rt, s, &raw_cell, 7);
         assert!(rt; shared::release(s, owner));
-        owned::close_cell(s, cell);
+        owners::close_cell(s, cell);
         assert!(rt; (seen(s, ptr), ptr.tag()) == (Some(19), Tag::First));
         assert!(rt; takes_back(s, &raw_cell, &guard) == (Some(7), Some(7)));
         defers(rt, s, &guard);

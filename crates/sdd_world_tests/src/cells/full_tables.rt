@@ -3,7 +3,7 @@ ghost use Rattle.std.specs.Prelude.{◌≡◌};
 ghost use Rattle.sdd_space.specs.CallerId.{IsSeated};
 
 use crate::cells::example::{AMPLE, Example, in_each_space};
-use crate::cells::steps::{close, opened, owned, shared};
+use crate::cells::steps::{close, opened, owned, owners, shared};
 use sdd_core::{Limits, Refused};
 use sdd_participants::Idle;
 use sdd_space::{
@@ -85,7 +85,7 @@ impl Example for OneCell {
         values_come_back(rt, s);
         owners_come_back(rt, s);
         none_is_made(rt, s);
-        owned::close_cell(s, cell);
+        owners::close_cell(s, cell);
         let cell = shared::cell(rt, s, 19);
         let guard = opened(rt, s);
         assert_eq!(rt;
@@ -93,7 +93,7 @@ impl Example for OneCell {
             Some(Refused::NoCell)
         );
         close(s, guard);
-        shared::close_cell(s, cell);
+        owners::close_cell(s, cell);
     }
 }
 
@@ -104,7 +104,7 @@ impl Example for OneRawCell {
     fn run<R: Abort, S: Space<u64> + Deferrals<u64, Job = Idle>>(rt: &R, s: &mut S) {
         let cell = owned::cell(rt, s, 14);
         none_is_bare(rt, s);
-        owned::close_cell(s, cell);
+        owners::close_cell(s, cell);
     }
 }
 
@@ -118,7 +118,7 @@ impl Example for NoCollector {
             Ok(_collector) => panic!(rt; "no cell is free"),
             Err(refused) => assert_eq!(rt; refused, Refused::NoCell),
         }
-        owned::close_cell(s, cell);
+        owners::close_cell(s, cell);
     }
 }
 
@@ -174,9 +174,9 @@ impl Example for NoSlots {
             Ok(_cell) => panic!(rt; "no slot is free, and no cell"),
             Err(back) => assert_eq!(rt; back, (16, Refused::NoSlot)),
         }
-        owned::close_cell(s, cell);
+        owners::close_cell(s, cell);
         let cell = owned::cell_from(rt, s, owner);
-        owned::close_cell(s, cell);
+        owners::close_cell(s, cell);
     }
 }
 

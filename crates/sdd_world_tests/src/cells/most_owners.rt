@@ -6,7 +6,7 @@ ghost use Rattle.sdd_world.specs.Place.{index_of};
 ghost use Rattle.sdd_space.specs.Shared.{slots_home, cells_home};
 
 use crate::cells::example::AMPLE;
-use crate::cells::steps::{close, opened, seen, shared};
+use crate::cells::steps::{close, opened, owners, seen, shared};
 use sdd_core::{Limits, Refused};
 use sdd_participants::Standing;
 use sdd_rights::SharedRights;
@@ -90,7 +90,7 @@ impl Crowd {
 
     /// How the item stands.
     fn standing(&self) -> Option<Standing> {
-        standing_of(&self.world, inner::slot_of_shared(&self.owner).number())
+        standing_of(&self.world, inner::slot_of_owner(&self.owner).number())
     }
 
     /// What one owner more is refused with, and beside it yet another. Who is had is given up again.
@@ -173,7 +173,7 @@ fn all_go<S: Items<u64> + Cells<u64>>(
     ensures caller { S.caller s.new ≡ S.caller s.old }
 {
     assert!(rt; !shared::release(s, owner));
-    shared::close_cell(s, cell);
+    owners::close_cell(s, cell);
     assert!(rt; shared::release(s, last));
 }
 

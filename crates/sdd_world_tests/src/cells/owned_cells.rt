@@ -1,9 +1,9 @@
 //! Cells of owners that are alone, in each space.
 use crate::cells::example::{AMPLE, Example, in_each_space};
-use crate::cells::steps::{close, opened, owned, seen};
+use crate::cells::steps::{close, opened, owned, owners, seen};
 use sdd_core::Tag;
 use sdd_participants::Idle;
-use sdd_space::{Cells, Deferrals, Space};
+use sdd_space::{Deferrals, Space};
 use std::process::Abort;
 
 /// A swap answers what the cell held and its tag. It is left with nothing, which the weak exchange gives back.
@@ -12,14 +12,14 @@ struct Swaps;
 impl Example for Swaps {
     fn run<R: Abort, S: Space<u64> + Deferrals<u64, Job = Idle>>(rt: &R, s: &mut S) {
         let cell = owned::cell(rt, s, 14);
-        assert!(rt; owned::swapped(rt, s, &cell, Some(15), Tag::Second) == (Some(14), Tag::None));
-        assert!(rt; owned::read(rt, s, &cell) == (Some(15), Tag::Second));
-        assert!(rt; owned::swapped(rt, s, &cell, None, Tag::First) == (Some(15), Tag::Second));
-        assert!(rt; owned::read(rt, s, &cell) == (None, Tag::First));
-        assert!(rt; owned::swapped(rt, s, &cell, None, Tag::None) == (None, Tag::First));
-        assert!(rt; owned::emptied_weakly(rt, s, &cell, Tag::Both) == None);
+        assert!(rt; owners::swapped(rt, s, &cell, Some(15), Tag::Second) == (Some(14), Tag::None));
+        assert!(rt; owners::read(rt, s, &cell) == (Some(15), Tag::Second));
+        assert!(rt; owners::swapped(rt, s, &cell, None, Tag::First) == (Some(15), Tag::Second));
+        assert!(rt; owners::read(rt, s, &cell) == (None, Tag::First));
+        assert!(rt; owners::swapped(rt, s, &cell, None, Tag::None) == (None, Tag::First));
+        assert!(rt; owners::emptied_weakly(rt, s, &cell, Tag::Both) == None);
         assert!(rt; (cell.is_null(s), cell.tag(s)) == (true, Tag::Both));
-        owned::close_cell(s, cell);
+        owners::close_cell(s, cell);
     }
 }
 
@@ -30,25 +30,25 @@ impl Example for Exchanges {
     fn run<R: Abort, S: Space<u64> + Deferrals<u64, Job = Idle>>(rt: &R, s: &mut S) {
         let cell = owned::cell(rt, s, 17);
         let guard = opened(rt, s);
-        let mut ptr = owned::load(s, &cell, &guard);
-        let (times, shown) = owned::asked(rt, s, &cell, Tag::Both, true);
+        let mut ptr = owners::load(s, &cell, &guard);
+        let (times, shown) = owners::asked(rt, s, &cell, Tag::Both, true);
         assert!(rt; (times, shown.is_null(), shown.tag()) == (1, false, Tag::None));
         assert!(rt;
-            owned::exchanged(rt, s, &cell, ptr, 18, Tag::First, &guard)
+            owners::exchanged(rt, s, &cell, ptr, 18, Tag::First, &guard)
                 == Err((Some(18), Some(17), Tag::Both))
         );
         assert!(rt; ptr.set_tag(Tag::Both) == Tag::None);
         assert!(rt;
-            owned::exchanged(rt, s, &cell, ptr, 18, Tag::First, &guard)
+            owners::exchanged(rt, s, &cell, ptr, 18, Tag::First, &guard)
                 == Ok((Some(17), Some(18), Tag::First))
         );
         assert!(rt;
-            owned::exchanged(rt, s, &cell, ptr, 19, Tag::None, &guard)
+            owners::exchanged(rt, s, &cell, ptr, 19, Tag::None, &guard)
                 == Err((Some(19), Some(18), Tag::First))
         );
         assert!(rt; seen(s, ptr) == Some(17));
         close(s, guard);
-        owned::close_cell(s, cell);
+        owners::close_cell(s, cell);
     }
 }
 
@@ -58,12 +58,12 @@ struct KeepsTag;
 impl Example for KeepsTag {
     fn run<R: Abort, S: Space<u64> + Deferrals<u64, Job = Idle>>(rt: &R, s: &mut S) {
         let cell = owned::cell(rt, s, 7);
-        let (times, shown) = owned::asked(rt, s, &cell, Tag::First, true);
+        let (times, shown) = owners::asked(rt, s, &cell, Tag::First, true);
         assert!(rt; (times, shown.is_null(), shown.tag()) == (1, false, Tag::None));
-        let (times, shown) = owned::asked(rt, s, &cell, Tag::Second, false);
+        let (times, shown) = owners::asked(rt, s, &cell, Tag::Second, false);
         assert!(rt; (times, shown.is_null(), shown.tag()) == (1, false, Tag::First));
-        assert!(rt; owned::read(rt, s, &cell) == (Some(7), Tag::First));
-        owned::close_cell(s, cell);
+        assert!(rt; owners::read(rt, s, &cell) == (Some(7), Tag::First));
+        owners::close_cell(s, cell);
     }
 }
 
@@ -77,8 +77,8 @@ impl Example for ComesOut {
         let owner = out.expect(rt, "the cell held one");
         assert!(rt; *owner.get(s) == 7);
         let cell = owned::cell_from(rt, s, owner);
-        assert!(rt; owned::read(rt, s, &cell) == (Some(7), Tag::None));
-        assert!(rt; owned::swapped(rt, s, &cell, None, Tag::Both) == (Some(7), Tag::None));
+        assert!(rt; owners::read(rt, s, &cell) == (Some(7), Tag::None));
+        assert!(rt; owners::swapped(rt, s, &cell, None, Tag::Both) == (Some(7), Tag::None));
         let out = owned::into_owned(s, cell);
         assert!(rt; out.is_none());
         owned::none(rt, out);

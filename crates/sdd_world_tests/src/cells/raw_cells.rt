@@ -4,7 +4,7 @@ ghost use Rattle.sdd_space.specs.RawCell.{cells_home};
 ghost use Rattle.sdd_space.specs.CallerId.{IsSeated};
 
 use crate::cells::example::{AMPLE, Example, in_each_space};
-use crate::cells::steps::{owned, raw};
+use crate::cells::steps::{owned, owners, raw};
 use sdd_core::Tag;
 use sdd_participants::Idle;
 use sdd_space::{AtomicRaw, Deferrals, Guards, RawCells, RawPtr, Space};
@@ -70,7 +70,7 @@ impl Example for HasPointers {
         cell.close(s);
         has_none(rt, s);
         let owner = owned::unraw(s, ptr);
-        assert!(rt; owned::spent(s, owner) == Some(17));
+        assert!(rt; owners::spent(s, owner) == Some(17));
     }
 }
 

@@ -1,6 +1,6 @@
 //! Owners that may have others beside them, pointers to their items, and cells that hold such owners.
 use crate::cells::example::{AMPLE, Example, in_each_space};
-use crate::cells::steps::{close, opened, seen, shared};
+use crate::cells::steps::{close, opened, owners, seen, shared};
 use sdd_core::Tag;
 use sdd_participants::Idle;
 use sdd_space::{Deferrals, Space};
@@ -49,17 +49,17 @@ struct Copies;
 impl Example for Copies {
     fn run<R: Abort, S: Space<u64> + Deferrals<u64, Job = Idle>>(rt: &R, s: &mut S) {
         let cell = shared::cell(rt, s, 7);
-        assert!(rt; shared::swapped(rt, s, &cell, 8, Tag::Second) == (Some(7), Tag::None));
+        assert!(rt; owners::swapped(rt, s, &cell, Some(8), Tag::Second) == (Some(7), Tag::None));
         assert!(rt; shared::had_of(rt, s, &cell) == Some(8));
         let copy = shared::copied_cell(rt, s, &cell);
-        assert!(rt; shared::read(rt, s, &copy) == (Some(8), Tag::Second));
-        assert!(rt; shared::emptied_weakly(rt, s, &cell, Tag::First) == Some(8));
-        assert!(rt; shared::read(rt, s, &copy) == (Some(8), Tag::Second));
+        assert!(rt; owners::read(rt, s, &copy) == (Some(8), Tag::Second));
+        assert!(rt; owners::emptied_weakly(rt, s, &cell, Tag::First) == Some(8));
+        assert!(rt; owners::read(rt, s, &copy) == (Some(8), Tag::Second));
         assert!(rt; shared::had_of(rt, s, &cell) == None);
         let empty = shared::copied_cell(rt, s, &cell);
         assert!(rt; (empty.is_null(s), empty.tag(s)) == (true, Tag::First));
-        shared::close_cell(s, cell);
-        shared::close_cell(s, empty);
+        owners::close_cell(s, cell);
+        owners::close_cell(s, empty);
         let owner = shared::into_shared(s, copy).expect(rt, "the copy holds one");
         assert!(rt; *owner.get(s) == 8);
         assert!(rt; shared::release(s, owner));
@@ -73,20 +73,20 @@ impl Example for Exchanges {
     fn run<R: Abort, S: Space<u64> + Deferrals<u64, Job = Idle>>(rt: &R, s: &mut S) {
         let cell = shared::cell(rt, s, 17);
         let guard = opened(rt, s);
-        let mut ptr = shared::load(s, &cell, &guard);
-        assert!(rt; shared::tagged(rt, s, &cell, Tag::Both));
+        let mut ptr = owners::load(s, &cell, &guard);
+        assert!(rt; owners::tagged(rt, s, &cell, Tag::Both));
         assert!(rt;
-            shared::exchanged(rt, s, &cell, ptr, 18, Tag::First, &guard)
+            owners::exchanged(rt, s, &cell, ptr, 18, Tag::First, &guard)
                 == Err((Some(18), Some(17), Tag::Both))
         );
         assert!(rt; ptr.set_tag(Tag::Both) == Tag::None);
         assert!(rt;
-            shared::exchanged(rt, s, &cell, ptr, 18, Tag::First, &guard)
+            owners::exchanged(rt, s, &cell, ptr, 18, Tag::First, &guard)
                 == Ok((Some(17), Some(18), Tag::First))
         );
         assert!(rt; seen(s, ptr) == Some(17));
         close(s, guard);
-        shared::close_cell(s, cell);
+        owners::close_cell(s, cell);
     }
 }
 

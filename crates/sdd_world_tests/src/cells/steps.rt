@@ -5,6 +5,7 @@ ghost use Rattle.sdd_space.specs.CallerId.{IsSeated};
 
 pub mod collectors;
 pub mod owned;
+pub mod owners;
 pub mod raw;
 pub mod shared;
 

@@ -5,11 +5,10 @@ ghost use Rattle.sdd_world_model.specs.OwnerOrCell.{AreOf};
 ghost use Rattle.sdd_space.specs.Owned.{slot_of, slots_home, cells_home, IsOfSlots};
 ghost use Rattle.sdd_space.specs.CallerId.{IsSeated};
 
-use crate::cells::steps::{Read, close, opened, seen};
-use sdd_core::{Refused, Tag};
+use crate::cells::steps::{owners, seen};
+use sdd_core::Refused;
 use sdd_space::{
-    AtomicOwned, Cells, Guard, Guards, InPlaceItems, Item, Items, Look, Owned, Ptr, RawItems,
-    RawPtr,
+    AtomicOwned, Cells, Guard, InPlaceItems, Item, Items, Look, Owned, RawItems, RawPtr,
 };
 use std::process::Abort;
 
@@ -20,22 +19,7 @@ pub fn made<T: Item<T>, S: Items<T>>(rt: &impl Abort, s: &mut S, value: T) -> Ow
     ensures caller { S.caller s.new ≡ S.caller s.old }
     ensures home { slots_home result ≡ (S.caller s.new).home.slots }
 {
-    match Owned::new(value, s) {
-        Ok(owner) => owner,
-        Err((_value, refused)) => panic!(rt; "{refused:?}"),
-    }
-}
-
-/// The owner of a new item, or of none.
-fn made_if<S: Items<u64>>(rt: &impl Abort, s: &mut S, value: Option<u64>) -> Option<Owned<u64>>
-    requires seated { IsSeated (S.caller s.old) }
-    ensures caller { S.caller s.new ≡ S.caller s.old }
-    ensures home { IsOfSlots (S.caller s.new).home.slots result }
-{
-    match value {
-        Some(value) => Some(made(rt, s, value)),
-        None => None,
-    }
+    owners::made(rt, s, value)
 }
 
 /// The item waits from now on.
@@ -45,18 +29,6 @@ pub fn retire<T: Item<T>, S: Items<T>>(s: &mut S, owner: Owned<T>)
     ensures caller { S.caller s.new ≡ S.caller s.old }
 {
     owner.retire(s);
-}
-
-/// The number of the owner's item, which waits from now on.
-pub fn spent<S: Look<u64> + Items<u64>>(s: &mut S, owner: Option<Owned<u64>>) -> Option<u64>
-    requires seated { IsSeated (S.caller s.old) }
-    requires home { IsOfSlots (S.caller s.old).home.slots owner }
-    ensures caller { S.caller s.new ≡ S.caller s.old }
-{
-    let owner = owner?;
-    let value = *owner.get(s);
-    owner.retire(s);
-    Some(value)
 }
 
 /// A cell that holds the owner of a new item.
@@ -70,137 +42,6 @@ pub fn cell<T: Item<T>, S: Cells<T>>(rt: &impl Abort, s: &mut S, value: T) -> At
         Ok(cell) => cell,
         Err((_value, refused)) => panic!(rt; "{refused:?}"),
     }
-}
-
-/// The cell is free again, and what it held waits.
-pub fn close_cell<S: Items<u64> + Cells<u64>>(s: &mut S, cell: AtomicOwned<u64>)
-    requires seated { IsSeated (S.caller s.old) }
-    requires home { cells_home cell ≡ (S.caller s.old).home.cells }
-    ensures caller { S.caller s.new ≡ S.caller s.old }
-{
-    cell.close(s);
-}
-
-/// A pointer to what the cell holds.
-pub fn load<'g, S: Cells<u64>>(s: &mut S, cell: &AtomicOwned<u64>, guard: &'g Guard) -> Ptr<'g, u64>
-    requires seated { IsSeated (S.caller s.old) }
-    requires home { cells_home cell.now ≡ (S.caller s.old).home.cells }
-    requires reader { reader_of guard.now ≡ (S.caller s.old).reader }
-    ensures caller { S.caller s.new ≡ S.caller s.old }
-{
-    cell.load(guard, s)
-}
-
-/// The cell holds a new item, or nothing, with this tag. The number that it held, whose item waits from now on, and the tag before.
-pub fn swapped<S: Look<u64> + Items<u64> + Cells<u64>>(
-    rt: &impl Abort,
-    s: &mut S,
-    cell: &AtomicOwned<u64>,
-    next: Option<u64>,
-    tag: Tag,
-) -> (Option<u64>, Tag)
-    requires seated { IsSeated (S.caller s.old) }
-    requires home { cells_home cell.now ≡ (S.caller s.old).home.cells }
-    ensures caller { S.caller s.new ≡ S.caller s.old }
-{
-    let owner = made_if(rt, s, next);
-    let (old, old_tag) = cell.swap((owner, tag), s);
-    (spent(s, old), old_tag)
-}
-
-/// The cell holds a new item with this tag, if it held what the pointer names.
-pub fn exchanged<'g, S: Look<u64> + Items<u64> + Cells<u64>>(
-    rt: &impl Abort,
-    s: &mut S,
-    cell: &AtomicOwned<u64>,
-    current: Ptr<'g, u64>,
-    next: u64,
-    tag: Tag,
-    guard: &'g Guard,
-) -> Result<Read, Read>
-    requires seated { IsSeated (S.caller s.old) }
-    requires home { cells_home cell.now ≡ (S.caller s.old).home.cells }
-    requires reader { reader_of guard.now ≡ (S.caller s.old).reader }
-    ensures caller { S.caller s.new ≡ S.caller s.old }
-{
-    let owner = made(rt, s, next);
-    match cell.compare_exchange(current, (Some(owner), tag), guard, s) {
-        Ok((old, now)) => Ok((spent(s, old), seen(s, now), now.tag())),
-        Err((back, now)) => Err((spent(s, back), seen(s, now), now.tag())),
-    }
-}
-
-/// What the cell holds, and its tag, under a guard of its own.
-pub fn read<S: Look<u64> + Guards<u64> + Cells<u64>>(
-    rt: &impl Abort,
-    s: &mut S,
-    cell: &AtomicOwned<u64>,
-) -> (Option<u64>, Tag)
-    requires seated { IsSeated (S.caller s.old) }
-    requires home { cells_home cell.now ≡ (S.caller s.old).home.cells }
-    ensures caller { S.caller s.new ≡ S.caller s.old }
-{
-    let guard = opened(rt, s);
-    let ptr = load(s, cell, &guard);
-    let found = (seen(s, ptr), ptr.tag());
-    close(s, guard);
-    found
-}
-
-/// The cell holds nothing, with this tag. The number that it held, whose item waits from now on.
-pub fn emptied_weakly<S: Look<u64> + Guards<u64> + Items<u64> + Cells<u64>>(
-    rt: &impl Abort,
-    s: &mut S,
-    cell: &AtomicOwned<u64>,
-    tag: Tag,
-) -> Option<u64>
-    requires seated { IsSeated (S.caller s.old) }
-    requires home { cells_home cell.now ≡ (S.caller s.old).home.cells }
-    ensures caller { S.caller s.new ≡ S.caller s.old }
-{
-    let guard = opened(rt, s);
-    let ptr = load(s, cell, &guard);
-    let old = match cell.compare_exchange_weak(ptr, (None, tag), &guard, s) {
-        Ok((old, _now)) => old,
-        Err((_back, _now)) => panic!(rt; "nobody comes between"),
-    };
-    close(s, guard);
-    spent(s, old)
-}
-
-/// Sets the tag by a condition that holds, or doesn't. How often that was asked, and what it was shown last.
-pub fn asked<S: Cells<u64>>(
-    rt: &impl Abort,
-    s: &mut S,
-    cell: &AtomicOwned<u64>,
-    tag: Tag,
-    holds: bool,
-) -> (u8, RawPtr<u64>)
-    requires seated { IsSeated (S.caller s.old) }
-    requires home { cells_home cell.now ≡ (S.caller s.old).home.cells }
-    ensures caller { S.caller s.new ≡ S.caller s.old }
-{
-    let mut times = 0u8;
-    let mut last = RawPtr::null();
-    let condition = |ptr: RawPtr<u64>| {
-        times = times.wrapping_add(1);
-        last = ptr;
-        holds
-    };
-    let was_set = cell.update_tag_if(tag, condition, s);
-    assert!(rt; was_set == Ok(holds));
-    (times, last)
-}
-
-/// Sets the tag where the cell has none, and tells whether it did.
-pub fn tagged<S: Cells<u64>>(rt: &impl Abort, s: &mut S, cell: &AtomicOwned<u64>, tag: Tag) -> bool
-    requires seated { IsSeated (S.caller s.old) }
-    requires home { cells_home cell.now ≡ (S.caller s.old).home.cells }
-    ensures caller { S.caller s.new ≡ S.caller s.old }
-{
-    let condition = |ptr: RawPtr<u64>| ptr.tag() == Tag::None;
-    cell.update_tag_if(tag, condition, s)
-        .expect(rt, "nobody comes between")
 }
 
 /// A cell that holds nothing.

@@ -6,11 +6,11 @@ ghost use Rattle.sdd_space.specs.Shared.{slot_of, slots_home, cells_home, IsOfSl
 ghost use Rattle.sdd_space.specs.CallerId.{IsSeated};
 ghost use Rattle.sdd_space.specs.Ptr.{KeepsShown, PtrIsShown};
 
-use crate::cells::steps::{Read, close, opened, seen};
-use sdd_core::{Refused, Tag};
+use crate::cells::steps::{close, opened, owners};
+use sdd_core::Refused;
 use sdd_space::{
-    AtomicShared, Cells, Guard, Guards, InPlaceItems, Item, Items, Look, Ptr, RawPtr, Shared,
-    SharedItems, SharedOwners, Space,
+    AtomicShared, Cells, Guard, Guards, InPlaceItems, Item, Items, Look, Ptr, Shared, SharedItems,
+    SharedOwners, Space,
 };
 use std::process::Abort;
 
@@ -21,10 +21,7 @@ pub fn made<T: Item<T>, S: Items<T>>(rt: &impl Abort, s: &mut S, value: T) -> Sh
     ensures caller { S.caller s.new ≡ S.caller s.old }
     ensures home { slots_home result ≡ (S.caller s.new).home.slots }
 {
-    match Shared::new(value, s) {
-        Ok(owner) => owner,
-        Err((_value, refused)) => panic!(rt; "{refused:?}"),
-    }
+    owners::made(rt, s, value)
 }
 
 /// The owner of an item that a closure makes.
@@ -148,7 +145,7 @@ pub fn refused_upgrade<S: Look<u64> + Items<u64> + SharedItems<u64>>(
 {
     match ptr.get_shared(s) {
         Ok(owner) => {
-            let _ = spent(s, owner);
+            let _ = owners::spent(s, owner);
             None
         }
         Err(refused) => Some(refused),
@@ -168,7 +165,7 @@ pub fn refused_owner<S: Space<u64>>(
 {
     match cell.get_shared(guard, s) {
         Ok(owner) => {
-            let _ = spent(s, owner);
+            let _ = owners::spent(s, owner);
             None
         }
         Err(refused) => Some(refused),
@@ -195,18 +192,6 @@ pub fn refused_cell<S: Items<u64> + Cells<u64>>(
     }
 }
 
-/// The number of the owner's item. The owner is given up.
-pub fn spent<S: Look<u64> + Items<u64>>(s: &mut S, owner: Option<Shared<u64>>) -> Option<u64>
-    requires seated { IsSeated (S.caller s.old) }
-    requires home { IsOfSlots (S.caller s.old).home.slots owner }
-    ensures caller { S.caller s.new ≡ S.caller s.old }
-{
-    let owner = owner?;
-    let value = *owner.get(s);
-    let _ = owner.release(s);
-    Some(value)
-}
-
 /// A cell that holds the owner of a new item.
 pub fn cell<T: Item<T>, S: Cells<T>>(rt: &impl Abort, s: &mut S, value: T) -> AtomicShared<T>
     requires seated { IsSeated (S.caller s.old) }
@@ -220,31 +205,6 @@ pub fn cell<T: Item<T>, S: Cells<T>>(rt: &impl Abort, s: &mut S, value: T) -> At
     }
 }
 
-/// A pointer to what the cell holds.
-pub fn load<'g, S: Cells<u64>>(
-    s: &mut S,
-    cell: &AtomicShared<u64>,
-    guard: &'g Guard,
-) -> Ptr<'g, u64>
-    requires seated { IsSeated (S.caller s.old) }
-    requires home { cells_home cell.now ≡ (S.caller s.old).home.cells }
-    requires reader { reader_of guard.now ≡ (S.caller s.old).reader }
-    ensures caller { S.caller s.new ≡ S.caller s.old }
-{
-    cell.load(guard, s)
-}
-
-/// Sets the tag where the cell has none, and tells whether it did.
-pub fn tagged<S: Cells<u64>>(rt: &impl Abort, s: &mut S, cell: &AtomicShared<u64>, tag: Tag) -> bool
-    requires seated { IsSeated (S.caller s.old) }
-    requires home { cells_home cell.now ≡ (S.caller s.old).home.cells }
-    ensures caller { S.caller s.new ≡ S.caller s.old }
-{
-    let condition = |ptr: RawPtr<u64>| ptr.tag() == Tag::None;
-    cell.update_tag_if(tag, condition, s)
-        .expect(rt, "nobody comes between")
-}
-
 /// The cell is free again, and what it held comes back.
 pub fn into_shared<S: Cells<u64>>(s: &mut S, cell: AtomicShared<u64>) -> Option<Shared<u64>>
     requires seated { IsSeated (S.caller s.old) }
@@ -253,92 +213,6 @@ pub fn into_shared<S: Cells<u64>>(s: &mut S, cell: AtomicShared<u64>) -> Option<
     ensures home { IsOfSlots (S.caller s.new).home.slots result }
 {
     cell.into_shared(s)
-}
-
-/// The cell is free again, and what it held is given up.
-pub fn close_cell<S: Items<u64> + Cells<u64>>(s: &mut S, cell: AtomicShared<u64>)
-    requires seated { IsSeated (S.caller s.old) }
-    requires home { cells_home cell ≡ (S.caller s.old).home.cells }
-    ensures caller { S.caller s.new ≡ S.caller s.old }
-{
-    cell.close(s);
-}
-
-/// The cell holds the owner of a new item with this tag, and what it held is given up. The number that it held, and the tag before.
-pub fn swapped<S: Look<u64> + Items<u64> + Cells<u64>>(
-    rt: &impl Abort,
-    s: &mut S,
-    cell: &AtomicShared<u64>,
-    next: u64,
-    tag: Tag,
-) -> (Option<u64>, Tag)
-    requires seated { IsSeated (S.caller s.old) }
-    requires home { cells_home cell.now ≡ (S.caller s.old).home.cells }
-    ensures caller { S.caller s.new ≡ S.caller s.old }
-{
-    let owner = made(rt, s, next);
-    let (old, old_tag) = cell.swap((Some(owner), tag), s);
-    (spent(s, old), old_tag)
-}
-
-/// The cell holds the owner of a new item with this tag, if it held what the pointer names.
-pub fn exchanged<'g, S: Look<u64> + Items<u64> + Cells<u64>>(
-    rt: &impl Abort,
-    s: &mut S,
-    cell: &AtomicShared<u64>,
-    current: Ptr<'g, u64>,
-    next: u64,
-    tag: Tag,
-    guard: &'g Guard,
-) -> Result<Read, Read>
-    requires seated { IsSeated (S.caller s.old) }
-    requires home { cells_home cell.now ≡ (S.caller s.old).home.cells }
-    requires reader { reader_of guard.now ≡ (S.caller s.old).reader }
-    ensures caller { S.caller s.new ≡ S.caller s.old }
-{
-    let owner = made(rt, s, next);
-    match cell.compare_exchange(current, (Some(owner), tag), guard, s) {
-        Ok((old, now)) => Ok((spent(s, old), seen(s, now), now.tag())),
-        Err((back, now)) => Err((spent(s, back), seen(s, now), now.tag())),
-    }
-}
-
-/// What the cell holds, and its tag, under a guard of its own.
-pub fn read<S: Look<u64> + Guards<u64> + Cells<u64>>(
-    rt: &impl Abort,
-    s: &mut S,
-    cell: &AtomicShared<u64>,
-) -> (Option<u64>, Tag)
-    requires seated { IsSeated (S.caller s.old) }
-    requires home { cells_home cell.now ≡ (S.caller s.old).home.cells }
-    ensures caller { S.caller s.new ≡ S.caller s.old }
-{
-    let guard = opened(rt, s);
-    let ptr = cell.load(&guard, s);
-    let found = (seen(s, ptr), ptr.tag());
-    close(s, guard);
-    found
-}
-
-/// The cell holds nothing, with this tag. The number that it held, whose owner is given up.
-pub fn emptied_weakly<S: Look<u64> + Guards<u64> + Items<u64> + Cells<u64>>(
-    rt: &impl Abort,
-    s: &mut S,
-    cell: &AtomicShared<u64>,
-    tag: Tag,
-) -> Option<u64>
-    requires seated { IsSeated (S.caller s.old) }
-    requires home { cells_home cell.now ≡ (S.caller s.old).home.cells }
-    ensures caller { S.caller s.new ≡ S.caller s.old }
-{
-    let guard = opened(rt, s);
-    let ptr = cell.load(&guard, s);
-    let old = match cell.compare_exchange_weak(ptr, (None, tag), &guard, s) {
-        Ok((old, _now)) => old,
-        Err((_back, _now)) => panic!(rt; "nobody comes between"),
-    };
-    close(s, guard);
-    spent(s, old)
 }
 
 /// Another cell that holds one owner more of the same item, or nothing.
@@ -391,26 +265,4 @@ pub fn dropped_in_place<S: InPlaceItems<u64>>(
         Ok(last) => last,
         Err((_owner, refused)) => panic!(rt; "{refused:?}"),
     }
-}
-
-/// Sets the tag by a condition that holds, or doesn't. How often that was asked.
-pub fn asked<S: Cells<u64>>(
-    rt: &impl Abort,
-    s: &mut S,
-    cell: &AtomicShared<u64>,
-    tag: Tag,
-    holds: bool,
-) -> u8
-    requires seated { IsSeated (S.caller s.old) }
-    requires home { cells_home cell.now ≡ (S.caller s.old).home.cells }
-    ensures caller { S.caller s.new ≡ S.caller s.old }
-{
-    let mut times = 0u8;
-    let condition = |_ptr: RawPtr<u64>| {
-        times = times.wrapping_add(1);
-        holds
-    };
-    let was_set = cell.update_tag_if(tag, condition, s);
-    assert!(rt; was_set == Ok(holds));
-    times
 }

@@ -1,20 +1,24 @@
-use Rattle.std.proofs.Common.{arith, sym, ap, ◌∙◌}
-use Rattle.sdd_rights.specs.declared.views.Sizes.{Sizes}
-use Rattle.sdd_domain_invariant.specs.Words.{cell_word}
+use Rattle.std.proofs.Common.{rules, arith}
 use Rattle.sdd_atomics.proofs.Cells.{may_free_bare}
+use Rattle.sdd_atomics.proofs.Sitting.{numbers, sits, stays}
 use Rattle.sdd_atomics.proofs.steps.cells.free_bare_cell.Goals as goal
 
 pub swap-requires : goal.swap-requires
-swap-requires c = let r = c.requires in (
-  r.home,
-  omega arith,
-  may_free_bare _ _ _ _ _ r.knows.0 r.knows.1 r.place r.rests c.args.cell r.inside _ c.cell_word.ensures r.own.0 r.own.1 r.own.2 r.own.3
-      r.right.0 r.right.1 r.right.2,
-)
+swap-requires c = let k = sits _ _ _ c.seat.view_is c.seat.invariant in let n = numbers k in
+    rw c.seat.view_is (let r = c.requires in (
+      k.home,
+      omega arith,
+      may_free_bare _ _ _ _ _ k.sizes k.gamma r.ready.place r.ready.rests c.args.cell (omega arith) _ c.cell_word.ensures r.own.0 r.own.1 r.own.2 r.own.3
+          r.right.0 r.right.1 r.right.2,
+    ))
 
 pub returns : goal.returns
-returns c = let e = c.swap.ensures in (
-  e.0,
-  e.1,
-  e.2 c.args.cell (c.cell_word.ensures),
-)
+returns c =
+    rw (← c.seat.view_is) (let e = c.swap.ensures in (
+      e.0,
+      e.1,
+      e.2 c.args.cell (c.cell_word.ensures),
+    ))
+
+pub invariant_of-seat : goal.invariant_of-seat
+invariant_of-seat c = let e = c.swap.ensures in stays _ _ _ c.seat.invariant e.0 (let h = e.2 c.args.cell (c.cell_word.ensures) in search rules)

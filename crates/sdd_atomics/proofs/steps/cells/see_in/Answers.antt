@@ -1,15 +1,23 @@
 use Rattle.std.proofs.Common.{arith}
 use Rattle.sdd_domain_invariant.specs.Cells.CellSteps.{SeesInCell}
 use Rattle.sdd_atomics.proofs.Cells.{cell_moved, may_see_in}
+use Rattle.sdd_atomics.proofs.Sitting.{cell_seen_keep, numbers, sits, stays}
 use Rattle.sdd_atomics.proofs.steps.cells.see_in.Goals as goal
 
 pub load-requires : goal.load-requires
-load-requires c = let r = c.requires in (
-  r.home,
-  omega arith,
-  may_see_in _ _ _ _ _ r.knows.0 r.knows.1 (omega (arith, r.open)) r.rests c.args.cell r.inside _ c.cell_word.ensures r.open r.near,
-)
+load-requires c = let k = sits _ _ _ c.seat.view_is c.seat.invariant in let n = numbers k in
+    rw c.seat.view_is (let r = c.requires in (
+      k.home,
+      omega arith,
+      may_see_in _ _ _ _ _ k.sizes k.gamma (omega (arith, r.open)) r.rests c.args.cell (omega arith) _ c.cell_word.ensures r.open (omega arith),
+    ))
 
 pub returns : goal.returns
-returns c = let e = c.load.ensures in
-    cell_moved c.args.seat.now _ c.load.result e.0 e.1 SeesInCell _ c.args.cell _ c.cell_word.ensures c.requires.knows.0 e.2
+returns c =
+    rw (← c.seat.view_is) (let e = c.load.ensures in
+    cell_moved c.seat.inside.seat _ c.load.result e.0 e.1 SeesInCell _ c.args.cell _ c.cell_word.ensures c.seat.invariant.sizes e.2)
+
+pub invariant_of-seat : goal.invariant_of-seat
+invariant_of-seat c = let m = (let e = c.load.ensures in
+    cell_moved c.seat.inside.seat _ c.load.result e.0 e.1 SeesInCell _ c.args.cell _ c.cell_word.ensures c.seat.invariant.sizes e.2) in
+    stays _ _ _ c.seat.invariant m.0 (cell_seen_keep _ _ _ _ m.2)

@@ -1,25 +1,26 @@
-use Rattle.std.proofs.Common.{ℕ, refl, sym, ap, ◌∙◌, arith}
+use Rattle.std.proofs.Common.{rules, ℕ, refl, ◌∙◌, arith}
 use base.Fml.{Share}
 use Rattle.sdd_witness.specs.Ledger.{Pledge}
 use Rattle.sdd_rights.specs.declared.views.Sizes.{Sizes}
 use Rattle.sdd_rights.specs.contracts.views.View.{the_row}
 use Rattle.sdd_rights.specs.Views.{right_to}
-use Rattle.sdd_domain_invariant.specs.Words.{cell_word}
 use Rattle.sdd_domain_invariant.proofs.Slots.ClonedOwners as cloning
 use Rattle.sdd_atomics.specs.DomainTable.{gamma_of, sizes_of}
 use Rattle.sdd_atomics.proofs.Cells.{may_swap_bare, bare_stays, bare_swapped}
+use Rattle.sdd_atomics.proofs.Sitting.{numbers, sits, stays}
 use Rattle.sdd_atomics.proofs.steps.cells.swap_bare_cell.Goals as goal
 
 pub beside-requires : goal.beside-requires
-beside-requires c = let r = c.requires in let b = c.args.table.now in let cell : ℕ = c.args.cell in let me = c.args.seat.now.me in
+beside-requires c = let k = sits _ _ _ c.seat.view_is c.seat.invariant in let n = numbers k in
+    rw c.seat.view_is (let r = c.requires in let b = c.seat.inside.table.now in let cell : ℕ = c.args.cell in let me = c.args.seat.now.me in
     let kind = r.right.1.0 in let γ : ℕ = gamma_of b in let z : Sizes = sizes_of b in let i : ℕ = c.cell_word.result in
     let known = c.cell_word.ensures in
     let pledge : Share → Pledge
     = λ q. record { who = c.args.seat.now.id; seat = c.args.right.now.id; view = the_row.coded.code (right_to cell kind); share = q } in (
-      r.home,
+      k.home,
       b.ledgered.0,
       b.ledgered.1,
-      r.right.0,
+      (r.right.0 ∙ k.home),
       (
         right_to cell kind,
         r.right.1.2,
@@ -27,18 +28,26 @@ beside-requires c = let r = c.requires in let b = c.args.table.now in let cell :
           goes_in = λ q. cloning.enters_right γ z _ _ cell kind (pledge q) refl;
           acts = λ q. (
             (omega arith),
-            may_swap_bare γ z _ _ _ r.knows.0 r.knows.1 r.place r.rests cell r.inside i c.cell_word.ensures c.args.word r.word.1 r.word.0 r.own.0 r.own.1 kind
+            may_swap_bare γ z _ _ _ k.sizes k.gamma r.ready.place r.ready.rests cell (omega arith) i c.cell_word.ensures c.args.word r.word.1 r.word.0
+                r.own.0 r.own.1 kind
                 r.right.1.1 (pledge q) refl refl,
           );
           comes_out = λ q n u done. cloning.leaves γ z _ _ (pledge q) (bare_stays me (pledge q) c.args.word cell i known n u done);
         },
       ),
-    )
+    ))
 
 pub returns : goal.returns
-returns c = let r = c.requires in let e = c.beside.ensures in let cell : ℕ = c.args.cell in
+returns c =
+    rw (← c.seat.view_is) (let r = c.requires in let e = c.beside.ensures in let cell : ℕ = c.args.cell in
     let known = c.cell_word.ensures in let s = e.2.2 in (
       e.0,
       e.1,
-      bare_swapped c.args.seat.now.me _ c.args.word cell c.cell_word.result known r.free c.beside.result s.1 _ s.2 s.3,
-    )
+      bare_swapped c.seat.inside.seat.me _ c.args.word cell c.cell_word.result known (rw c.seat.view_is r.free) c.beside.result s.1 _ s.2 s.3,
+    ))
+
+pub invariant_of-seat : goal.invariant_of-seat
+invariant_of-seat c = let r = c.requires in let e = c.beside.ensures in let cell : ℕ = c.args.cell in
+    let known = c.cell_word.ensures in let s = e.2.2 in
+    stays _ _ _ c.seat.invariant e.0 (let h = bare_swapped c.seat.inside.seat.me _ c.args.word cell c.cell_word.result known (rw c.seat.view_is r.free)
+    c.beside.result s.1 _ s.2 s.3 in search rules)

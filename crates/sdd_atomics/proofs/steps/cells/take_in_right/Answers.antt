@@ -5,21 +5,28 @@ use Rattle.sdd_domain_invariant.specs.Fractions.FractionSteps.{SeatState}
 use Rattle.sdd_domain_invariant.specs.Cells.CellSteps.{righted}
 use Rattle.sdd_domain_invariant.proofs.Cells.RightSeats.{joins_right}
 use Rattle.sdd_atomics.proofs.ViewCodes.{view_is}
+use Rattle.sdd_atomics.proofs.Sitting.{numbers, sits, stays}
 use Rattle.sdd_atomics.proofs.steps.cells.take_in_right.Goals as goal
 
 pub rejoin-requires : goal.rejoin-requires
-rejoin-requires c = let r = c.requires in let o = r.right in (
-  r.home,
-  c.args.table.now.ledgered.0,
-  c.args.table.now.ledgered.1,
-  o.0,
-  (right_to o.1.0 o.1.1, o.1.2, joins_right _ _ _ _ _ _ o.1.0 o.1.1 r.place r.knows.0),
-)
+rejoin-requires c = let k = sits _ _ _ c.seat.view_is c.seat.invariant in let n = numbers k in
+    rw c.seat.view_is (let r = c.requires in let o = r.right in (
+      k.home,
+      c.seat.inside.table.now.ledgered.0,
+      c.seat.inside.table.now.ledgered.1,
+      (o.0 ∙ k.home),
+      (right_to o.1.0 o.1.1, o.1.2, joins_right _ _ _ _ _ _ o.1.0 o.1.1 r.place k.sizes),
+    ))
 
 pub returns : goal.returns
-returns c = λ cell kind views. let e = c.rejoin.ensures in let is = view_is e.2.0 (right_to cell kind) (sym e.2.1 ∙ views) in (
-  e.0,
-  e.1,
-  ap (λ (m : SeatState). m.1) e.2.2,
-  ap (λ (m : SeatState). m.0) e.2.2 ∙ ap (λ (w : View). righted c.args.seat.now.me.0 w) is,
-)
+returns c =
+    rw (← c.seat.view_is) (λ cell kind views. let e = c.rejoin.ensures in let is = view_is e.2.0 (right_to cell kind) (sym e.2.1 ∙ views) in (
+      e.0,
+      e.1,
+      ap (λ (m : SeatState). m.1) e.2.2,
+      ap (λ (m : SeatState). m.0) e.2.2 ∙ ap (λ (w : View). righted c.seat.inside.seat.me.0 w) is,
+    ))
+
+pub invariant_of-seat : goal.invariant_of-seat
+invariant_of-seat c = let e = c.rejoin.ensures in
+    stays _ _ _ c.seat.invariant e.0 (ap (λ (m : SeatState). m.0.sizes) e.2.2, ap (λ (m : SeatState). m.0.fractions.gamma) e.2.2)

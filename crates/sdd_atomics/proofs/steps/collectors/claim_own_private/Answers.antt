@@ -1,16 +1,26 @@
-use Rattle.std.proofs.Common.{arith}
+use Rattle.std.proofs.Common.{rules, arith}
 use Rattle.sdd_atomics.proofs.CollectorsAllowed.{own_claimed_at, may_claim_own_private}
+use Rattle.sdd_atomics.proofs.Sitting.{numbers, sits, stays}
 use Rattle.sdd_atomics.proofs.steps.collectors.claim_own_private.Goals as goal
 
 pub compare_exchange-requires : goal.compare_exchange-requires
-compare_exchange-requires c = let r = c.requires in (
-  r.home,
-  omega arith,
-  may_claim_own_private _ _ _ _ _ r.knows.0 r.knows.1 r.place _ c.args.slot c.slot_word.ensures r.inside r.rests c.args.collector r.waits (omega arith)
-      r.closes r.looked r.idle.0 r.idle.1 _ c.private_word-word.ensures,
-)
+compare_exchange-requires c = let k = sits _ _ _ c.seat.view_is c.seat.invariant in let n = numbers k in
+    rw c.seat.view_is (let r = c.requires in (
+      k.home,
+      omega arith,
+      may_claim_own_private _ _ _ _ _ k.sizes k.gamma r.ready.place _ c.args.slot c.slot_word.ensures (omega arith) r.ready.rests c.args.collector r.waits
+          (omega arith)
+          r.closes (omega arith) r.idle.0 r.idle.1 _ c.private_word-word.ensures,
+    ))
 
 pub returns : goal.returns
-returns c = let e = c.compare_exchange.ensures in
-    own_claimed_at c.args.seat.now _ c.compare_exchange.result e.0 e.1 c.args.collector _ c.private_word-word.ensures _ c.args.slot _ c.slot_word.ensures
-    c.requires.knows.0 e.2
+returns c =
+    rw (← c.seat.view_is) (let e = c.compare_exchange.ensures in
+    own_claimed_at c.seat.inside.seat _ c.compare_exchange.result e.0 e.1 c.args.collector _ c.private_word-word.ensures _ c.args.slot _ c.slot_word.ensures
+    c.seat.invariant.sizes e.2)
+
+pub invariant_of-seat : goal.invariant_of-seat
+invariant_of-seat c = let m = (let e = c.compare_exchange.ensures in
+    own_claimed_at c.seat.inside.seat _ c.compare_exchange.result e.0 e.1 c.args.collector _ c.private_word-word.ensures _ c.args.slot _ c.slot_word.ensures
+    c.seat.invariant.sizes e.2) in
+    stays _ _ _ c.seat.invariant m.0 (let h = m in search rules)

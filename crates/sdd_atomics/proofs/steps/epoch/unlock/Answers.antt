@@ -1,10 +1,17 @@
-use Rattle.std.proofs.Common.{arith}
+use Rattle.std.proofs.Common.{rules, arith}
 use Rattle.sdd_domain_invariant.specs.Epoch.EpochSteps.{Unlocks}
 use Rattle.sdd_atomics.proofs.Allowed.{told, may_unlock}
+use Rattle.sdd_atomics.proofs.Sitting.{numbers, sits, stays}
 use Rattle.sdd_atomics.proofs.steps.epoch.unlock.Goals as goal
 
 pub store-requires : goal.store-requires
-store-requires c = let sized = c.args.table.now.sized in let r = c.requires in (r.home, omega arith, may_unlock _ _ _ _ _ r.scans)
+store-requires c = let k = sits _ _ _ c.seat.view_is c.seat.invariant in let n = numbers k in
+    rw c.seat.view_is (let sized = c.seat.inside.table.now.sized in let r = c.requires in (k.home, omega arith, may_unlock _ _ _ _ _ r.scans))
 
 pub returns : goal.returns
-returns c = let e = c.store.ensures in told c.args.seat.now _ 0 e.0 e.1 Unlocks e.2
+returns c =
+    rw (← c.seat.view_is) (let e = c.store.ensures in told c.seat.inside.seat _ 0 e.0 e.1 Unlocks e.2)
+
+pub invariant_of-seat : goal.invariant_of-seat
+invariant_of-seat c = let m = (let e = c.store.ensures in told c.seat.inside.seat _ 0 e.0 e.1 Unlocks e.2) in
+    stays _ _ _ c.seat.invariant m.0.0.0 (m.0.0.3, (let h = m in search rules))

@@ -1,14 +1,28 @@
-use Rattle.std.proofs.Common.{arith}
+use Rattle.std.proofs.Common.{rules, arith}
 use Rattle.sdd_domain_invariant.specs.Codes.{free_word}
 use Rattle.sdd_domain_invariant.specs.Fractions.FractionSteps.{GivesPlace}
 use Rattle.sdd_atomics.proofs.Allowed.{moved_at}
 use Rattle.sdd_atomics.proofs.JobsAllowed.{may_give_place}
+use Rattle.sdd_atomics.proofs.Sitting.{numbers, sits, stays}
 use Rattle.sdd_atomics.proofs.steps.jobs.give_place_back.Goals as goal
 
 pub store-requires : goal.store-requires
-store-requires c = let r = c.requires in
-    (r.home, omega arith, may_give_place _ _ _ _ _ r.knows.0 r.knows.1 r.place _ c.args.place c.slot_word.ensures r.inside r.rests r.due)
+store-requires c = let k = sits _ _ _ c.seat.view_is c.seat.invariant in let n = numbers k in
+    rw c.seat.view_is (let r = c.requires in (
+      k.home,
+      omega arith,
+      may_give_place _ _ _ _ _ k.sizes k.gamma r.ready.place _ c.args.place c.slot_word.ensures (
+        omega arith,
+        omega arith,
+      ) r.ready.rests r.due,
+    ))
 
 pub returns : goal.returns
-returns c = let e = c.store.ensures in
-    moved_at c.args.seat.now _ (free_word 0) e.0 e.1 GivesPlace _ c.args.place _ c.slot_word.ensures c.requires.knows.0 e.2
+returns c =
+    rw (← c.seat.view_is) (let e = c.store.ensures in
+    moved_at c.seat.inside.seat _ (free_word 0) e.0 e.1 GivesPlace _ c.args.place _ c.slot_word.ensures c.seat.invariant.sizes e.2)
+
+pub invariant_of-seat : goal.invariant_of-seat
+invariant_of-seat c = let m = (let e = c.store.ensures in
+    moved_at c.seat.inside.seat _ (free_word 0) e.0 e.1 GivesPlace _ c.args.place _ c.slot_word.ensures c.seat.invariant.sizes e.2) in
+    stays _ _ _ c.seat.invariant m.0 (let h = m in search rules)

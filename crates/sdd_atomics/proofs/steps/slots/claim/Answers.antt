@@ -1,14 +1,23 @@
-use Rattle.std.proofs.Common.{arith}
+use Rattle.std.proofs.Common.{rules, arith}
 use Rattle.sdd_domain_invariant.specs.Codes.{free_word}
 use Rattle.sdd_domain_invariant.specs.Fractions.FractionSteps.{ClaimsAll}
 use Rattle.sdd_atomics.proofs.Allowed.{moved_at, may_claim}
+use Rattle.sdd_atomics.proofs.Sitting.{numbers, sits, stays}
 use Rattle.sdd_atomics.proofs.steps.slots.claim.Goals as goal
 
 pub compare_exchange-requires : goal.compare_exchange-requires
-compare_exchange-requires c = let r = c.requires in
-    (r.home, omega arith, may_claim _ _ _ _ _ r.knows.0 r.knows.1 r.place _ c.args.slot c.slot_word.ensures r.inside c.args.word r.one r.rests)
+compare_exchange-requires c = let k = sits _ _ _ c.seat.view_is c.seat.invariant in let n = numbers k in
+    rw c.seat.view_is (let r = c.requires in
+    (k.home, omega arith, may_claim _ _ _ _ _ k.sizes k.gamma r.ready.place _ c.args.slot c.slot_word.ensures (omega arith) c.args.word r.one r.ready.rests))
 
 pub returns : goal.returns
-returns c = let e = c.compare_exchange.ensures in
-    moved_at c.args.seat.now _ c.compare_exchange.result e.0 e.1 (λ slot. ClaimsAll slot (free_word 0) c.args.word) _ c.args.slot _
-    c.slot_word.ensures c.requires.knows.0 e.2
+returns c =
+    rw (← c.seat.view_is) (let e = c.compare_exchange.ensures in
+    moved_at c.seat.inside.seat _ c.compare_exchange.result e.0 e.1 (λ slot. ClaimsAll slot (free_word 0) c.args.word) _ c.args.slot _
+    c.slot_word.ensures c.seat.invariant.sizes e.2)
+
+pub invariant_of-seat : goal.invariant_of-seat
+invariant_of-seat c = let m = (let e = c.compare_exchange.ensures in
+    moved_at c.seat.inside.seat _ c.compare_exchange.result e.0 e.1 (λ slot. ClaimsAll slot (free_word 0) c.args.word) _ c.args.slot _
+    c.slot_word.ensures c.seat.invariant.sizes e.2) in
+    stays _ _ _ c.seat.invariant m.0 (let h = m in search rules)

@@ -1,12 +1,20 @@
-use Rattle.std.proofs.Common.{arith}
+use Rattle.std.proofs.Common.{rules, arith}
 use Rattle.sdd_domain_invariant.specs.Slots.SlotSteps.{TakesHold}
 use Rattle.sdd_atomics.proofs.Allowed.{taught_at, may_hold}
+use Rattle.sdd_atomics.proofs.Sitting.{numbers, sits, stays}
 use Rattle.sdd_atomics.proofs.steps.slots.hold.Goals as goal
 
 pub load-requires : goal.load-requires
-load-requires c = let r = c.requires in
-    (r.home, omega arith, may_hold _ _ _ _ _ r.knows.0 r.knows.1 r.place _ c.args.slot c.slot_word.ensures r.inside r.told.0 r.told.1 r.free)
+load-requires c = let k = sits _ _ _ c.seat.view_is c.seat.invariant in let n = numbers k in
+    rw c.seat.view_is (let r = c.requires in
+    (k.home, omega arith, may_hold _ _ _ _ _ k.sizes k.gamma r.place _ c.args.slot c.slot_word.ensures (omega arith) r.told.0 r.told.1 r.free))
 
 pub returns : goal.returns
-returns c = let e = c.load.ensures in
-    taught_at c.args.seat.now _ c.load.result e.0 e.1 TakesHold _ c.args.slot _ c.slot_word.ensures c.requires.knows.0 e.2
+returns c =
+    rw (← c.seat.view_is) (let e = c.load.ensures in
+    taught_at c.seat.inside.seat _ c.load.result e.0 e.1 TakesHold _ c.args.slot _ c.slot_word.ensures c.seat.invariant.sizes e.2)
+
+pub invariant_of-seat : goal.invariant_of-seat
+invariant_of-seat c = let m = (let e = c.load.ensures in
+    taught_at c.seat.inside.seat _ c.load.result e.0 e.1 TakesHold _ c.args.slot _ c.slot_word.ensures c.seat.invariant.sizes e.2) in
+    stays _ _ _ c.seat.invariant m.0 (let h = m in search rules)

@@ -1,10 +1,17 @@
-use Rattle.std.proofs.Common.{arith}
+use Rattle.std.proofs.Common.{rules, arith}
 use Rattle.sdd_domain_invariant.specs.Epoch.Barred.{LooksForValue}
 use Rattle.sdd_atomics.proofs.Allowed.{taught, may_look_for_value}
+use Rattle.sdd_atomics.proofs.Sitting.{numbers, sits, stays}
 use Rattle.sdd_atomics.proofs.steps.slots.look_for_value.Goals as goal
 
 pub load-requires : goal.load-requires
-load-requires c = let r = c.requires in (r.home, omega arith, may_look_for_value _ _ _ _ _ _ c.args.slot c.slot_word.ensures r.next r.ended)
+load-requires c = let k = sits _ _ _ c.seat.view_is c.seat.invariant in let n = numbers k in
+    rw c.seat.view_is (let r = c.requires in (k.home, omega arith, may_look_for_value _ _ _ _ _ _ c.args.slot c.slot_word.ensures r.next (omega arith)))
 
 pub returns : goal.returns
-returns c = let e = c.load.ensures in taught c.args.seat.now _ c.load.result e.0 e.1 LooksForValue e.2
+returns c =
+    rw (← c.seat.view_is) (let e = c.load.ensures in taught c.seat.inside.seat _ c.load.result e.0 e.1 LooksForValue e.2)
+
+pub invariant_of-seat : goal.invariant_of-seat
+invariant_of-seat c = let m = (let e = c.load.ensures in taught c.seat.inside.seat _ c.load.result e.0 e.1 LooksForValue e.2) in
+    stays _ _ _ c.seat.invariant m.0 (let h = m in search rules)

@@ -37,7 +37,7 @@ returns-in-Ok-new-clause-world g c = λ e.
     let made = c.in-Ok.ensures.exact e in
     let more = c.in-Ok-new.ensures.world ex1 in
     let free : IsEmptyAt (nulled w a).cells b = subst (λ (x : World _). IsEmptyAt x.cells b) made.1 more.0 in
-    let is : c.new-in-Ok-new.result.storage.cell ≡ a = c.new-in-Ok-new.ensures.cell ∙ ap (λ (r : Right). number_of r) c.right_of_shared_cell.ensures.right in (
+    let is : c.new-in-Ok-new.result.storage.cell ≡ a = c.new-in-Ok-new.ensures.cell ∙ ap (λ (r : Right). number_of r) c.right_of_cell.ensures.right in (
       subst (λ (k : ℕ). IsEmptyAt w.cells k) (sym is) made.0,
       free-before w a b made.0 free,
       (λ same. apart w a b made.0 free (sym is ∙ same)),

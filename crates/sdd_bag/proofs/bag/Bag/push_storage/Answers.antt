@@ -33,7 +33,7 @@ pub push-requires-clause-value : goal.push-requires-clause-value
 push-requires-clause-value g c =
     let home : SpaceId = (g.S.Caller.caller c.args.s.now).home in
     let of : c.new-storage.result.home ≡ home.cells =
-    ap (λ (s : StorageName). s.home) c.new-storage.ensures ∙ ap (λ (r : Right). home_of r) c.right_of_shared_cell.ensures.right ∙ c.requires.cell in
+    ap (λ (s : StorageName). s.home) c.new-storage.ensures ∙ ap (λ (r : Right). home_of r) c.right_of_cell.ensures.right ∙ c.requires.cell in
     c.with_storage.ensures.held home (of, tt)
 
 pub remove_places-requires : goal.remove_places-requires
@@ -73,7 +73,7 @@ returns-in-Ok-clause-list g c = λ es lies.
     let add = added w between new p (cell_in c.self.inside.stack) es shelf owner pushes is in
     let names : List PlaceName = c.add_places-places.result in
     let on : places_shown (shown shelf) ≡ names = ap places_shown c.with_storage.ensures.shown ∙ ap (λ (s : StorageName). s.places) c.new-storage.ensures in
-    let right = c.right_of_shared_cell.ensures.right in (
+    let right = c.right_of_cell.ensures.right in (
       shelf,
       c.new-storage.result,
       c.with_storage.ensures.shown,

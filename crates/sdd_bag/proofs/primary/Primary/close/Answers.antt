@@ -60,13 +60,13 @@ returns-clause-world g c =
     let inv = c.loop-value.invariant in let at = inv.unmoved.caller in let u = g.S.Caller.world c.loop-value.s in
     let p = (g.S.Caller.caller c.args.s.now).place in
     let got = inv.given [] c.in_default.ensures.popped.0 in
-    let cell : cell_of c.shared_cell_with-cell.result ≡ c.args.self.storage.cell =
-    ap number_of c.shared_cell_with-cell.ensures ∙ c.into_cell.ensures.number
+    let cell : cell_of c.cell_with-cell.result ≡ c.args.self.storage.cell =
+    ap number_of c.cell_with-cell.ensures ∙ c.into_cell.ensures.number
     ∙ ap (λ (s : StorageName). s.cell) (c.in_default.ensures.storage ∙ inv.storage) in (
       got.0,
       got.1,
       c.close.ensures.exact (subst (λ (s : CallerId). IsExact s) (sym at) c.requires.exact)
-          ∙ ap (λ (s : CallerId). cell_closed u s.place (cell_of c.shared_cell_with-cell.result)) at
+          ∙ ap (λ (s : CallerId). cell_closed u s.place (cell_of c.cell_with-cell.result)) at
           ∙ ap (λ (k : ℕ). cell_closed u p k) cell
           ∙ ap (λ (x : World _). cell_closed x p c.args.self.storage.cell) got.2,
     )

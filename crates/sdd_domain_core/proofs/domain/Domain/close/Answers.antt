@@ -1,4 +1,5 @@
-use Rattle.std.proofs.Common.{rules, ◌≡◌, ℕ, ◌+◌, ◌-◌, ◌≤◌, List, length, sym, ap, ◌∙◌, subst, arith}
+use Rattle.atomic_table.specs.Seated.{TableId}
+use Rattle.std.proofs.Common.{rules, ◌≡◌, ℕ, ◌+◌, ◌-◌, ◌≤◌, List, length, sym, ap, ◌∙◌, subst, arith, [], ◌∷◌}
 use Rattle.core.specs.Mem.Slots.{slots_items}
 use Rattle.sdd_rights.specs.Units as units
 use Rattle.sdd_rights.specs.declared.views.EndedView.{EndedView}
@@ -24,7 +25,7 @@ returns-in_default-clause-again g c = home_again (λ (h : units.GhostName). h �
 pub take_all_counts-requires-clause-homes : goal.take_all_counts-requires-clause-homes
 take_all_counts-requires-clause-homes g c k d low = ap (λ (h : units.GhostName). h.tables)
     (home_again (λ (h : units.GhostName). h ≡ slots_in c.args.self) _ c.args.receipts.items c.settle_all.new.receipts.items c.settle_all.ensures.settled
-    c.requires.homes k d low)
+    c.requires.homes k d low) ∙ ap (λ (t : TableId). t ∷ []) (sym c.in-Ok.ensures.home)
 
 pub returns-clause-settled : goal.returns-clause-settled
 returns-clause-settled g c = let ended : List Receipt = c.settle_all.new.receipts.items in (
@@ -42,7 +43,7 @@ returns-clause-settled g c = let ended : List Receipt = c.settle_all.new.receipt
 pub returns-clause-whole : goal.returns-clause-whole
 returns-clause-whole g c = let z = sizes_of c.args.self.table in let ended : List Receipt = c.settle_all.new.receipts.items in
     let many = as_many _ c.args.receipts.items ended c.settle_all.ensures.settled in let taken = c.take_all_counts.ensures.counts in
-    let closed = c.close-closed.ensures in
+    let closed = rw c.into_seat-seat.ensures at c.close-closed.ensures in
     let places : z.participants ≡ c.args.self.limits.participants = ap (λ (z : Sizes). z.participants) c.args.self.limited.1 in
     let slots : z.slots ≡ c.args.self.limits.slots = ap (λ (z : Sizes). z.slots) c.args.self.limited.1 in
     let few : length ended ≤ z.participants = subst (λ (n : ℕ). n ≤ z.participants) taken.over closed.places in

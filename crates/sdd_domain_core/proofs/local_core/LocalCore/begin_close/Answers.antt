@@ -1,6 +1,6 @@
 use Rattle.std.proofs.Common.{◌≡◌, ℕ, ◌≤◌, List, [], Some, refl, sym, ap, ◌∙◌, subst, arith}
 use Rattle.std.specs.Prelude.{Bool}
-use Rattle.sdd_atomics.specs.DomainTable.{places_of, slots_of, most_waiting_of}
+use Rattle.sdd_atomics.specs.TableFacts.{facts_of, places_of, slots_of, most_waiting_of}
 use Rattle.sdd_participants.specs.Collecting.{is_kept_for, rest_of}
 use Rattle.sdd_participants.specs.Waiting.{Waiting}
 use Rattle.sdd_participants.specs.declared.participant.Participant.{Participant}
@@ -24,13 +24,13 @@ use Rattle.sdd_domain_steps.proofs.PrivateTables.{choice_plain, choice_private}
 use Rattle.sdd_domain_core.proofs.local_core.LocalCore.begin_close.Goals as goal
 
 pub take_for-requires-clause-room : goal.take_for-requires-clause-room
-take_for-requires-clause-room g c = let l = c.self.inside in let b = l.domain.now.table in let i = c.self.invariant in
+take_for-requires-clause-room g c = let l = c.self.inside in let b = (facts_of l.domain.now.table) in let i = c.self.invariant in
     let many = room_enough (slots_of b) (known_waiting l.seat.me.0.slots) l.own.bags.waiting l.due.items i.4.bags (most_waiting_of b)
     (omega arith) i.0.waiting in
     let room = i.0.room in let large = i.4.large in omega arith
 
 pub invariant_of-self : goal.invariant_of-self
-invariant_of-self g c = let l = c.self.inside in let b = l.domain.now.table in let i = c.self.invariant in let r = i.4 in let n : ℕ = slots_of b in
+invariant_of-self g c = let l = c.self.inside in let b = (facts_of l.domain.now.table) in let i = c.self.invariant in let r = i.4 in let n : ℕ = slots_of b in
     let k : ℕ = c.number-cell.result in let v : View = l.seat.me.0 in let u = c.begin_where_shut.new.seat in let begun = c.in-Ok.ensures.begun.0.seat in
     let chosen : LimboEntry → Bool = is_kept_for k (standings_of l.privates.entries) in
     let due : l.due.items ≡ [] = ap (λ (m : LocalState _). m.due) c.self.view_is ∙ c.requires.settled in
@@ -38,7 +38,7 @@ invariant_of-self g c = let l = c.self.inside in let b = l.domain.now.table in l
     let own : record l.own { bags = record l.own.bags { waiting = left } } ≡ record l.own { bags = c.take_for.new.bags }
     = (λ d. record l.own { bags = sym c.take_for.ensures.kept d }) in
     let between_calls = between_calls_lighter b l.place l.own left u
-    (between_calls_closing b l.place l.own l.seat u (Some k) (places_of b) i.0 begun.table begun.others begun.view (λ none. absurd cc))
+    (between_calls_closing b l.place l.own l.seat u (Some k) l.seat.me.0.sizes.participants i.0 begun.table begun.others begun.view (λ none. absurd cc))
     (λ none. ap (rest_of chosen) none) in
     let bags = begins_close n (known_waiting v.slots) l.own.bags.waiting l.due.items r.bags chosen k due
     (λ j x at. let once = known_once n (known_waiting v.slots) l.own.bags.waiting l.due.items r.bags x.slot in
@@ -64,15 +64,17 @@ invariant_of-self g c = let l = c.self.inside in let b = l.domain.now.table in l
     )
 
 pub returns-in-Ok-clause-begun : goal.returns-in-Ok-clause-begun
-returns-in-Ok-clause-begun g c = let l = c.self.inside in let b = l.domain.now.table in let i = c.self.invariant in let k : ℕ = c.number-cell.result in
+returns-in-Ok-clause-begun g c = let l = c.self.inside in let b = (facts_of l.domain.now.table) in let i = c.self.invariant in
+    let k : ℕ = c.number-cell.result in
     let v : View = l.seat.me.0 in let u = c.begin_where_shut.new.seat in let ok = c.in-Ok.ensures.begun in let begun = ok.0.seat in
     let number : k ≡ raw_number_of c.args.collector = c.number-cell.ensures in let kept = c.take_for.ensures.kept in
     let taken = c.take_for.ensures.taken in let shut = ok.0.shut in
-    let looked : u.me.0.slots.looked ≡ places_of b = ap (λ (w : View). w.slots.looked) begun.view in
+    let looked_there = ap (λ (w : View). w.slots.looked) begun.view in
+    let looked : u.me.0.slots.looked ≡ places_of b = looked_there ∙ ap (λ (z : Sizes). z.participants) i.0.knows.0 in
     let all = ap (λ (z : Sizes). z.participants) l.domain.now.limited.1 in
     let wide : l.domain.now.limits.participants ≤ u.me.0.slots.looked = omega arith in
     let slots : u.me.0.slots ≡ record v.slots { closes = Some k; looked = u.me.0.slots.looked }
-    = ap (λ (w : View). w.slots) begun.view ∙ (λ d. record v.slots { closes = Some k; looked = sym looked d }) in
+    = ap (λ (w : View). w.slots) begun.view ∙ (λ d. record v.slots { closes = Some k; looked = sym looked_there d }) in
     let old : LocalState g.row.J.Denot = c.self.view_is 0 in let new : LocalState g.row.J.Denot = record old {
       home = u.table_id;
       own = record l.own { bags = c.take_for.new.bags };
@@ -104,6 +106,6 @@ returns-in-Ok-clause-begun g c = let l = c.self.inside in let b = l.domain.now.t
           shut = λ some_open. shut (i.0.opened some_open);
         };
       },
-      ok.1 ∙ (sym i.0.home ∙ ap (λ (m : LocalState _). m.home) c.self.view_is),
+      ok.1 ∙ ap (λ (m : LocalState _). m.home) c.self.view_is,
       ok.2 ∙ ap (λ (j : ℕ). witness_of_cell j of_closed) number,
     )

@@ -6,7 +6,7 @@ use Rattle.sdd_rights.specs.declared.views.Sizes.{Sizes}
 use Rattle.sdd_domain_invariant.specs.Collectors.{private_in}
 use Rattle.sdd_domain_invariant.specs.Sums.{total}
 use Rattle.sdd_domain_invariant.specs.Slots.{waits_in}
-use Rattle.sdd_atomics.specs.DomainTable.{sizes_of, slots_of}
+use Rattle.sdd_atomics.specs.TableFacts.{facts_of, sizes_of, slots_of}
 use Rattle.sdd_domain_steps.specs.LocalState.{LocalState}
 use Rattle.sdd_domain_steps.specs.BetweenCalls.{AreLentTo}
 use Rattle.sdd_domain_core.specs.Collectors.{ClaimsFirst, LosesItem}
@@ -21,12 +21,14 @@ use Rattle.sdd_domain_core.proofs.local_core.LocalCore.claim_first.Goals as goal
 
 pub take-requires : goal.take-requires
 take-requires g c = let l = c.self.inside in let r = c.self.invariant.4 in
-    let low = first_slot (slots_of l.domain.now.table) (known_waiting l.seat.me.0.slots) l.own.bags.waiting l.due.items r.bags c.args.slot c.requires.first.0
+    let low = first_slot (slots_of (facts_of l.domain.now.table)) (known_waiting l.seat.me.0.slots) l.own.bags.waiting l.due.items r.bags c.args.slot
+    c.requires.first.0
     (ap (λ (m : LocalState _). m.due) c.self.view_is ∙ c.requires.first.1) in let long = r.told.long in omega arith
 
 -- the item waits for no collector
 pub returns-in_default : goal.returns-in_default
-returns-in_default g c = let l = c.self.inside in let r = c.self.invariant.4 in let n : ℕ = slots_of l.domain.now.table in let slot : ℕ = c.args.slot in
+returns-in_default g c = let l = c.self.inside in let r = c.self.invariant.4 in let n : ℕ = slots_of (facts_of l.domain.now.table) in
+    let slot : ℕ = c.args.slot in
     let ps : List PrivateItem = l.seat.me.0.slots.privates in let known = known_waiting l.seat.me.0.slots in
     let due = ap (λ (m : LocalState _). m.due) c.self.view_is ∙ c.requires.first.1 in
     let none : total (private_in slot) ps ≡ 0 = told_none n l.privates.entries ps r.told slot (sym c.take.ensures.collector ∙ c.in_default.is) in
@@ -43,12 +45,12 @@ returns-in_default g c = let l = c.self.inside in let r = c.self.invariant.4 in 
 
 pub claim_back-requires-clause-waits : goal.claim_back-requires-clause-waits
 claim_back-requires-clause-waits g c = let l = c.self.inside in let r = c.self.invariant.4 in
-    let one = told_some (slots_of l.domain.now.table) l.privates.entries l.seat.me.0.slots.privates r.told c.args.slot c.in-Some.collector
+    let one = told_some (slots_of (facts_of l.domain.now.table)) l.privates.entries l.seat.me.0.slots.privates r.told c.args.slot c.in-Some.collector
     (sym c.take.ensures.collector ∙ c.in-Some.is) in (one.1, (one.0, one.2), one.3, one.4)
 
 -- it waits as any other from now on
 pub invariant_of-self-then-claim_back : goal.invariant_of-self-then-claim_back
-invariant_of-self-then-claim_back g c = let l = c.self.inside in let b = l.domain.now.table in let i = c.self.invariant in let r = i.4 in
+invariant_of-self-then-claim_back g c = let l = c.self.inside in let b = (facts_of l.domain.now.table) in let i = c.self.invariant in let r = i.4 in
     let n : ℕ = slots_of b in let slot : ℕ = c.args.slot in let s = l.seat in let u = c.claim_back.new.seat in let claims = c.if-claim_back.ensures.claimed in
     let due = ap (λ (m : LocalState _). m.due) c.self.view_is ∙ c.requires.first.1 in
     let low = first_slot n (known_waiting s.me.0.slots) l.own.bags.waiting l.due.items r.bags slot c.requires.first.0 due in (
@@ -72,7 +74,7 @@ invariant_of-self-then-claim_back g c = let l = c.self.inside in let b = l.domai
     )
 
 pub returns-then-claim_back : goal.returns-then-claim_back
-returns-then-claim_back g c = let l = c.self.inside in let b = l.domain.now.table in let i = c.self.invariant in let r = i.4 in
+returns-then-claim_back g c = let l = c.self.inside in let b = (facts_of l.domain.now.table) in let i = c.self.invariant in let r = i.4 in
     let n : ℕ = slots_of b in let slot : ℕ = c.args.slot in let s = l.seat in let u = c.claim_back.new.seat in let claims = c.if-claim_back.ensures.claimed in
     let known = known_waiting s.me.0.slots in let due = ap (λ (m : LocalState _). m.due) c.self.view_is ∙ c.requires.first.1 in
     let once = first_once n known l.own.bags.waiting l.due.items r.bags (Item slot) c.requires.first.0 due in
@@ -92,7 +94,7 @@ returns-then-claim_back g c = let l = c.self.inside in let b = l.domain.now.tabl
 
 -- a close came first
 pub invariant_of-self-2 : goal.invariant_of-self-2
-invariant_of-self-2 g c = let l = c.self.inside in let b = l.domain.now.table in let i = c.self.invariant in let r = i.4 in
+invariant_of-self-2 g c = let l = c.self.inside in let b = (facts_of l.domain.now.table) in let i = c.self.invariant in let r = i.4 in
     let n : ℕ = slots_of b in let slot : ℕ = c.args.slot in let s = l.seat in let u = c.claim_back.new.seat in let lets = c.if-claim_back.ensures.claimed in
     let due = ap (λ (m : LocalState _). m.due) c.self.view_is ∙ c.requires.first.1 in
     let next = next_goes l.due c.next.new.self c.next.result (Item slot) c.requires.first.0 c.next.ensures.next due in
@@ -117,7 +119,7 @@ invariant_of-self-2 g c = let l = c.self.inside in let b = l.domain.now.table in
     )
 
 pub returns : goal.returns
-returns g c = let l = c.self.inside in let b = l.domain.now.table in let i = c.self.invariant in let r = i.4 in
+returns g c = let l = c.self.inside in let b = (facts_of l.domain.now.table) in let i = c.self.invariant in let r = i.4 in
     let slot : ℕ = c.args.slot in let u = c.claim_back.new.seat in let lets = c.if-claim_back.ensures.claimed in
     let due = ap (λ (m : LocalState _). m.due) c.self.view_is ∙ c.requires.first.1 in
     let next = next_goes l.due c.next.new.self c.next.result (Item slot) c.requires.first.0 c.next.ensures.next due in

@@ -6,7 +6,7 @@ use Rattle.sdd_rights.specs.declared.views.View.{View}
 use Rattle.sdd_rights.specs.declared.views.WaitingItem.{WaitingItem}
 use Rattle.sdd_domain_invariant.specs.Collectors.CollectorWordSteps.{HasWaiting}
 use Rattle.sdd_domain_invariant.specs.Slots.SlotSteps.{retired_now}
-use Rattle.sdd_atomics.specs.DomainTable.{sizes_of, slots_of}
+use Rattle.sdd_atomics.specs.TableFacts.{facts_of, sizes_of, slots_of}
 use Rattle.sdd_domain_steps.specs.BetweenCalls.{AreLentTo}
 use Rattle.sdd_domain_core.specs.Collectors.{CollectsAt}
 use Rattle.sdd_domain_steps.specs.InBags.{TellsCollectors}
@@ -26,7 +26,7 @@ collect-requires-clause-waits g c = let l = c.self.inside in let went = c.if-not
 
 -- its item waits for the collector from now on
 pub invariant_of-self : goal.invariant_of-self
-invariant_of-self g c = let l = c.self.inside in let b = l.domain.now.table in let i = c.self.invariant in let r = i.4 in let n : ℕ = slots_of b in
+invariant_of-self g c = let l = c.self.inside in let b = (facts_of l.domain.now.table) in let i = c.self.invariant in let r = i.4 in let n : ℕ = slots_of b in
     let slot : ℕ = c.number-slot.result in let s = l.seat in let u = c.collect.new.seat in let cell : ℕ = c.number-number.result in
     let moved = c.collect.ensures in let went = c.if-not-release.ensures.went in let low : slot < n = search rules in
     let is = c.self.view_is ∙ went.1.member in let none = ap (λ (m : LocalState _). m.slots.closes) is ∙ c.requires.closes in
@@ -52,7 +52,7 @@ invariant_of-self g c = let l = c.self.inside in let b = l.domain.now.table in l
     )
 
 pub returns-clause-went : goal.returns-clause-went
-returns-clause-went g c = let l = c.self.inside in let b = l.domain.now.table in let r = c.self.invariant.4 in
+returns-clause-went g c = let l = c.self.inside in let b = (facts_of l.domain.now.table) in let r = c.self.invariant.4 in
     let slot : ℕ = c.number-slot.result in let s = l.seat in let u = c.collect.new.seat in let cell : ℕ = c.number-number.result in
     let moved = c.collect.ensures in let went = c.if-not-release.ensures.went in let old : LocalState _ = c.args.self.now in
     let mid : LocalState _ = c.self.view_is 0 in let shared : Bool = is_shared (kind_of c.args.right) in

@@ -10,7 +10,7 @@ use Rattle.sdd_rights.specs.declared.views.Sizes.{Sizes}
 use Rattle.sdd_domain_invariant.specs.Sums.{total}
 use Rattle.sdd_domain_invariant.specs.Slots.{waits_in}
 use Rattle.sdd_domain_invariant.specs.Slots.SlotSteps.{retired_now, DefersAt}
-use Rattle.sdd_atomics.specs.DomainTable.{most_waiting_of, sizes_of, slots_of}
+use Rattle.sdd_atomics.specs.TableFacts.{facts_of, most_waiting_of, sizes_of, slots_of}
 use Rattle.sdd_domain_steps.specs.LocalState.{LocalState, DefersTo}
 use Rattle.sdd_domain_steps.specs.BetweenCalls.{IsBetweenCalls, AreLentTo, IsSectionOf, IsReady}
 use Rattle.sdd_domain_steps.specs.InBags.{AreInBags, KnownWaiting, TellsCollectors, known_waiting}
@@ -24,7 +24,7 @@ use Rattle.sdd_domain_core.specs.Noted.{HasNoted}
 use Rattle.sdd_domain_core.proofs.local_core.LocalCore.defer_execute.Goals as goal
 
 pub put-requires-clause-free : goal.put-requires-clause-free
-put-requires-clause-free g c = let l = c.self.inside in let b = l.domain.now.table in let n : ℕ = slots_of b in let place : ℕ = c.in-Ok.place in
+put-requires-clause-free g c = let l = c.self.inside in let b = (facts_of l.domain.now.table) in let n : ℕ = slots_of b in let place : ℕ = c.in-Ok.place in
     let did = c.in-Ok.ensures.tried.1 in
     let d = subst (λ (k : ℕ). DefersAt (k + place) 4 l.seat.me.0 c.claim_place.new.seat.me.0) (sym (ap (λ (z : Sizes). z.slots) l.domain.now.limited.1))
     did.view in
@@ -32,7 +32,8 @@ put-requires-clause-free g c = let l = c.self.inside in let b = l.domain.now.tab
     not-there (slice_index_or l.jobs place None) (λ some. let waits = (c.self.invariant.4.jobs place low).0 some in let none = d.6 in absurd (omega arith))
 
 pub push-requires : goal.push-requires
-push-requires g c = let l = c.self.inside in let q = c.self.invariant.0 in let r = c.self.invariant.4 in let b = l.domain.now.table in let n : ℕ = slots_of b in
+push-requires g c = let l = c.self.inside in let q = c.self.invariant.0 in let r = c.self.invariant.4 in let b = (facts_of l.domain.now.table) in
+    let n : ℕ = slots_of b in
     let place : ℕ = c.in-Ok.place in
     let d = subst (λ (k : ℕ). DefersAt (k + place) 4 l.seat.me.0 c.claim_place.new.seat.me.0) (sym (ap (λ (z : Sizes). z.slots) l.domain.now.limited.1))
     c.in-Ok.ensures.tried.1.view in
@@ -42,7 +43,7 @@ push-requires g c = let l = c.self.inside in let q = c.self.invariant.0 in let r
     let most = q.room in record { room = omega arith }
 
 pub invariant_of-self : goal.invariant_of-self
-invariant_of-self g c = let l = c.self.inside in let b = l.domain.now.table in let i = c.self.invariant in let r = i.4 in let n : ℕ = slots_of b in
+invariant_of-self g c = let l = c.self.inside in let b = (facts_of l.domain.now.table) in let i = c.self.invariant in let r = i.4 in let n : ℕ = slots_of b in
     let place : ℕ = c.in-Ok.place in let seat = c.claim_place.new.seat in let waits : List WaitingItem = l.seat.me.0.slots.waits in
     let did = c.in-Ok.ensures.tried.1 in
     let own_is : c.set_has_garbage.new.self ≡ awaiting (Job place) l.own

@@ -1,3 +1,4 @@
+use Rattle.sdd_domain_core.proofs.AtTable.{placed_at, fits_from}
 use Rattle.std.proofs.Common.{◌≡◌, inl, inr, ℕ, ◌-◌, ◌<◌, List, refl, sym, ap, ◌∙◌, subst, ⊎_elim, rules}
 use Rattle.std.specs.Prelude.{Bool, true, Option, IfSome}
 use base.Stored.{Gv}
@@ -14,7 +15,7 @@ use Rattle.sdd_world_model.specs.OwnerOrCell.{AreOf}
 use Rattle.sdd_rights.specs.declared.views.View.{View}
 use Rattle.sdd_domain_invariant.specs.Epoch.{IsLone as IsLoneAt}
 use Rattle.sdd_domain_invariant.specs.Slots.SlotSteps.{noted}
-use Rattle.sdd_atomics.specs.DomainTable.{id_of, gamma_of, slots_of}
+use Rattle.sdd_atomics.specs.TableFacts.{facts_of, slots_of}
 use Rattle.sdd_atomics.specs.DomainSeat.{epoch}
 use Rattle.sdd_domain_steps.specs.BetweenCalls.{AreLentTo, IsReady}
 use Rattle.sdd_domain_steps.specs.InBags.{KnownWaiting, known_waiting}
@@ -26,7 +27,7 @@ use Rattle.sdd_domain_steps.specs.LocalState.{DropsAt, GoesBeside, IsLone, Knows
 use Rattle.sdd_domain_steps.specs.Receipt.{IsTallied}
 use Rattle.sdd_domain_steps.specs.SpaceIds.{home_in, home_of_slots}
 use Rattle.sdd_domain_steps.proofs.SameHome.{from_table}
-use Rattle.sdd_domain_steps.proofs.InPlace.{back_view, bare, gone_beside, guard_of, guarded_at, knew_unique, owner_inside, placed, right_back, unmoved_at}
+use Rattle.sdd_domain_steps.proofs.InPlace.{back_view, bare, gone_beside, guard_of, guarded_at, knew_unique, owner_inside, right_back, unmoved_at}
 use Rattle.sdd_domain_steps.proofs.LocalLooks.{with_seat, with_view}
 use Rattle.sdd_domain_steps.proofs.BetweenCalls.{between_calls_with}
 use Rattle.sdd_domain_core.proofs.Tallies.{tallied_in_place}
@@ -37,24 +38,22 @@ use Rattle.sdd_domain_core.proofs.local_core.LocalCore.drop_in_place.Goals.{Afte
 use Rattle.sdd_domain_core.proofs.local_core.LocalCore.drop_in_place.Goals as goal
 
 -- the owner was recalled
-recalled : (g : Over) (c : After-recall g) → IsRecalled c.self.inside.domain.now.table c.self.inside.place c.self.inside.own (c.self.view_is 0)
+recalled : (g : Over) (c : After-recall g) → IsRecalled (facts_of c.self.inside.domain.now.table) c.self.inside.place c.self.inside.own (c.self.view_is 0)
     c.args.right c.args.kind c.into_owner-owner.result.0 c.into_owner-owner.result.1 c.number-slot.result c.self.inside.seat c.recall.new.seat
 recalled g c = let l = c.self.inside in
-    is_recalled l.domain.now.limits l.domain.now.table l.place l.own (c.self.view_is 0) c.args.right c.args.kind c.into_owner-owner.result.0
+    is_recalled l.domain.now.limits (facts_of l.domain.now.table) l.place l.own (c.self.view_is 0) c.args.right c.args.kind c.into_owner-owner.result.0
     c.into_owner-owner.result.1 c.number-slot.result l.seat c.recall.new.seat l.domain.now.limited.1 refl refl refl
     (c.requires.home ∙ sym (ap slots_home c.self.view_is)) c.requires.kind c.into_owner-owner.ensures.owner c.number-slot.ensures c.recall.ensures
     c.self.invariant.0
 
 pub go_in_place-requires : goal.go_in_place-requires
 go_in_place-requires g c =
-    let l = c.self.inside in let b = l.domain.now.table in let m : LocalState _ = c.self.view_is 0 in
+    let l = c.self.inside in let b = (facts_of l.domain.now.table) in let m : LocalState _ = c.self.view_is 0 in
     let known = recalled g (goal.at.go_in_place-requires g c).After-recall in let same = known.same in let q = known.between in let t = c.recall.new.seat in
     record {
-      home = q.home;
       values = search rules;
-      knows = q.knows;
       inside = search rules;
-      place = placed b l.place l.own t q;
+      place = placed_at q;
       bare = bare b l.place l.own t q;
       closes = ap (λ (x : Seat ValueFraction View). x.me.0.slots.closes) same ∙ (ap (λ (m : LocalState _). m.slots.closes) c.self.view_is ∙ c.requires.closes);
       owner = search rules;
@@ -63,7 +62,8 @@ go_in_place-requires g c =
 
 pub invariant_of-self : goal.invariant_of-self
 invariant_of-self g c =
-    let l = c.self.inside in let b = l.domain.now.table in let known = recalled g (goal.at.invariant_of-self g c).After-recall in let same = known.same in
+    let l = c.self.inside in let b = (facts_of l.domain.now.table) in let known = recalled g (goal.at.invariant_of-self g c).After-recall in
+    let same = known.same in
     let q = known.between in let w = c.into_owner-owner.result.0 in let slot : ℕ = c.number-slot.result in let is = c.number-slot.ensures in
     let t = c.recall.new.seat in let u = c.go_in_place.new.seat in
     let gone = subst (λ (o : Option g.row.T.Denot). Goes g.row.T slot c.is_one_of_several-shared.result w.views o t u) c.in-Some.is c.in-Ok.ensures.0 in
@@ -82,12 +82,13 @@ invariant_of-self g c =
 
 pub invariant_of-self-in-None : goal.invariant_of-self-in-None
 invariant_of-self-in-None g c =
-    let l = c.self.inside in let b = l.domain.now.table in let known = recalled g (goal.at.invariant_of-self-in-None g c).After-recall in
+    let l = c.self.inside in let b = (facts_of l.domain.now.table) in let known = recalled g (goal.at.invariant_of-self-in-None g c).After-recall in
     let same = known.same in let w = c.into_owner-owner.result.0 in let slot : ℕ = c.number-slot.result in let is = c.number-slot.ensures in
     let t = c.recall.new.seat in let u = c.go_in_place.new.seat in
     let beside = subst (λ (o : Option g.row.T.Denot). Goes g.row.T slot c.is_one_of_several-shared.result w.views o t u) c.in-None.is c.in-Ok.ensures.0 in
     let gone = beside.gone in let words : List ℕ = noted slot (beside.word - 1) t.me.0 in
-    noted_on b l.place l.own l.section.lifetime l.due l.known.slots l.jobs l.privates.entries l.tally l.seat c.self.invariant t known.same u words gone.table gone.others
+    noted_on b l.place l.own l.section.lifetime l.due l.known.slots l.jobs l.privates.entries l.tally l.seat c.self.invariant t known.same u words
+    gone.table gone.others
     gone.view
 
 pub of_witness-requires : goal.of_witness-requires
@@ -105,14 +106,15 @@ of_witness-requires g c =
 
 pub invariant_of-self-in-Err : goal.invariant_of-self-in-Err
 invariant_of-self-in-Err g c =
-    let l = c.self.inside in let b = l.domain.now.table in let known = recalled g (goal.at.invariant_of-self-in-Err g c).After-recall in
+    let l = c.self.inside in let b = (facts_of l.domain.now.table) in let known = recalled g (goal.at.invariant_of-self-in-Err g c).After-recall in
     let same = known.same in let slot : ℕ = c.number-slot.result in let t = c.recall.new.seat in let shared : Bool = c.is_one_of_several-shared.result in
     let u = c.go_in_place.new.seat in let e = back_view slot shared c.in-Err.refused t u c.in-Err.ensures.3 in
     noted_on b l.place l.own l.section.lifetime l.due l.known.slots l.jobs l.privates.entries l.tally l.seat c.self.invariant t known.same u e.0 e.1 e.2 e.3
 
 pub returns-in-Some : goal.returns-in-Some
 returns-in-Some g c =
-    let l = c.self.inside in let b = l.domain.now.table in let m : LocalState _ = c.self.view_is 0 in let right = c.args.right in let kind = c.args.kind in
+    let l = c.self.inside in let b = (facts_of l.domain.now.table) in let m : LocalState _ = c.self.view_is 0 in let right = c.args.right in
+    let kind = c.args.kind in
     let known = recalled g (goal.at.returns-in-Some g c).After-recall in let same = known.same in let q = known.between in
     let w = c.into_owner-owner.result.0 in
     let read_fraction = c.into_owner-owner.result.1 in let slot : ℕ = c.number-slot.result in let is = c.number-slot.ensures in
@@ -123,8 +125,9 @@ returns-in-Some g c =
           let gone = subst (λ (o : Option g.row.T.Denot). Goes g.row.T slot c.is_one_of_several-shared.result w.views o t u) c.in-Some.is c.in-Ok.ensures.0 in
           let value : Gv = showing g.row.T c.in-Some.value in let here = gone.view ∙ ap (λ (x : Seat ValueFraction View). with_dropped slot x.me.0) same in
           let at = here ∙ ap (λ (j : ℕ). with_dropped j l.seat.me.0) is in let moved = gone.table ∙ ap (λ (x : Seat ValueFraction View). x.table_id) same in
-          let fits = subst (λ (o : Option g.row.T.Denot). IfSome o (λ v. AreOf (home_of_slots (id_of b) (gamma_of b) (slots_of b)) (g.T.Item.holds v)))
-          c.in-Some.is c.in-Ok.ensures.1 in
+          let fits = fits_from q (g.T.Item.holds c.in-Some.value)
+          (subst (λ (o : Option g.row.T.Denot). IfSome o (λ v. AreOf (home_of_slots t.table_id t.me.0.fractions.gamma t.me.0.sizes.slots) (g.T.Item.holds v)))
+          c.in-Some.is c.in-Ok.ensures.1) in
           let low = owner_inside b m known.on right kind known.home c.requires.kind w read_fraction
           (λ _. known.owner) slot is c.into_owner-owner.ensures.inside in
           let now : LocalState _ = record (with_view m u.table_id u.me.0) { tally = c.count_in_place.new.self } in (
@@ -162,7 +165,8 @@ returns-in-None g c =
 
 pub returns-in-Err : goal.returns-in-Err
 returns-in-Err g c =
-    let l = c.self.inside in let b = l.domain.now.table in let m : LocalState _ = c.self.view_is 0 in let right = c.args.right in let kind = c.args.kind in
+    let l = c.self.inside in let b = (facts_of l.domain.now.table) in let m : LocalState _ = c.self.view_is 0 in let right = c.args.right in
+    let kind = c.args.kind in
     let known = recalled g (goal.at.returns-in-Err g c).After-recall in let same = known.same in let q = known.between in let w = c.into_owner-owner.result.0 in
     let read_fraction = c.into_owner-owner.result.1 in let slot : ℕ = c.number-slot.result in let is = c.number-slot.ensures in
     let t = c.recall.new.seat in record {
@@ -175,7 +179,7 @@ returns-in-Err g c =
             right_back b m known.on right kind known.home c.requires.kind w read_fraction
                 (λ _. known.owner) slot is c.in-Err.owner c.in-Err.read_fraction l.domain.now.limits.slots
                 c.of_witness.result
-                back.0 (unit.unit.gamma_is) back.1 c.into_owner-owner.ensures.views refl made.number made.home made.kind made.views,
+                (back.0 ∙ q.home) (unit.unit.gamma_is ∙ q.knows.1) back.1 c.into_owner-owner.ensures.views refl made.number made.home made.kind made.views,
             ⊎_elim
                 (λ (x : (c.in-Err.refused ≡ Refused.GuardOpen) × IsLetGoOf slot shared t u). inl (
                   x.0,

@@ -1,3 +1,4 @@
+use Rattle.sdd_domain_core.proofs.AtTable.{fits_from}
 use Rattle.std.proofs.Common.{◌≡◌, ℕ, ◌+◌, ◌<◌, ◌≤◌, List, Option, refl, sym, ap, ◌∙◌, subst, arith}
 use Rattle.sdd_shared_values.specs.SharedValues.{showing}
 use Rattle.sdd_participants.specs.Slab.{entry_at}
@@ -9,7 +10,7 @@ use Rattle.sdd_rights.specs.declared.views.Sizes.{Sizes}
 use Rattle.sdd_rights.specs.declared.views.View.{View}
 use Rattle.sdd_domain_invariant.specs.Sums.{total}
 use Rattle.sdd_domain_invariant.specs.Slots.{waits_in}
-use Rattle.sdd_atomics.specs.DomainTable.{sizes_of, slots_of}
+use Rattle.sdd_atomics.specs.TableFacts.{facts_of, sizes_of, slots_of}
 use Rattle.sdd_world_model.specs.OwnerOrCell.{AreOf}
 use Rattle.sdd_domain_steps.specs.BetweenCalls.{AreLentTo}
 use Rattle.sdd_domain_steps.specs.InBags.{TellsCollectors, known_waiting}
@@ -27,12 +28,12 @@ use Rattle.sdd_domain_core.proofs.local_core.LocalCore.empty_first.Goals as goal
 
 pub empty_own-requires-clause-waits : goal.empty_own-requires-clause-waits
 empty_own-requires-clause-waits g c = let l = c.self.inside in let r = c.self.invariant.4 in
-    let one = told_some (slots_of l.domain.now.table) l.privates.entries l.seat.me.0.slots.privates r.told c.args.slot c.args.collector
+    let one = told_some (slots_of (facts_of l.domain.now.table)) l.privates.entries l.seat.me.0.slots.privates r.told c.args.slot c.args.collector
     (ap (λ (m : LocalState _). entry_at m.collectors c.args.slot) c.self.view_is ∙ c.requires.kept) in (one.1, (one.0, one.2), one.3, one.4)
 
 -- a close of another came first
 pub invariant_of-self : goal.invariant_of-self
-invariant_of-self g c = let l = c.self.inside in let b = l.domain.now.table in let i = c.self.invariant in let r = i.4 in
+invariant_of-self g c = let l = c.self.inside in let b = (facts_of l.domain.now.table) in let i = c.self.invariant in let r = i.4 in
     let n : ℕ = slots_of b in let slot : ℕ = c.args.slot in let s = l.seat in let u = c.empty_own.new.seat in let lets = c.in_err-value.ensures.emptied in
     let due = ap (λ (m : LocalState _). m.due) c.self.view_is ∙ c.requires.first.1 in
     let next = next_goes l.due c.next.new.self c.next.result (Item slot) c.requires.first.0 c.next.ensures.next due in
@@ -59,7 +60,7 @@ invariant_of-self g c = let l = c.self.inside in let b = l.domain.now.table in l
 
 -- it was emptied
 pub invariant_of-self-2 : goal.invariant_of-self-2
-invariant_of-self-2 g c = let l = c.self.inside in let b = l.domain.now.table in let i = c.self.invariant in let r = i.4 in
+invariant_of-self-2 g c = let l = c.self.inside in let b = (facts_of l.domain.now.table) in let i = c.self.invariant in let r = i.4 in
     let n : ℕ = slots_of b in let slot : ℕ = c.args.slot in let s = l.seat in let u = c.empty_own.new.seat in let empties = c.in_ok-value.ensures.emptied in
     let due = ap (λ (m : LocalState _). m.due) c.self.view_is ∙ c.requires.first.1 in
     let next = next_goes l.due c.next.new.self c.next.result (Item slot) c.requires.first.0 c.next.ensures.next due in
@@ -88,13 +89,13 @@ invariant_of-self-2 g c = let l = c.self.inside in let b = l.domain.now.table in
     )
 
 pub returns-clause-home : goal.returns-clause-home
-returns-clause-home g c = let l = c.self.inside in let b = l.domain.now.table in let inv = c.self.invariant in let value = c.in_ok-value.value in
+returns-clause-home g c = let l = c.self.inside in let b = (facts_of l.domain.now.table) in let inv = c.self.invariant in let value = c.in_ok-value.value in
     subst (λ (m : LocalState _). AreOf (home_in m) (g.T.Item.holds value)) c.self.view_is
     (from_table b (c.self.view_is 0) (on_table l.domain.now.limits b l.seat.table_id inv.0.home l.domain.now.limited.1 (c.self.view_is 0) refl refl refl)
-    (g.T.Item.holds value) c.in_ok-value.ensures.fits)
+    (g.T.Item.holds value) (fits_from inv.0 (g.T.Item.holds value) c.in_ok-value.ensures.fits))
 
 pub returns-clause-gone : goal.returns-clause-gone
-returns-clause-gone g c = let l = c.self.inside in let b = l.domain.now.table in let inv = c.self.invariant in let r = inv.4 in
+returns-clause-gone g c = let l = c.self.inside in let b = (facts_of l.domain.now.table) in let inv = c.self.invariant in let r = inv.4 in
     let n : ℕ = slots_of b in let slot : ℕ = c.args.slot in let rest = c.next.new.self.items in let u = c.empty_own.new.seat in
     let known = known_waiting l.seat.me.0.slots in let due = ap (λ (m : LocalState _). m.due) c.self.view_is ∙ c.requires.first.1 in
     let next = next_goes l.due c.next.new.self c.next.result (Item slot) c.requires.first.0 c.next.ensures.next due in
@@ -107,7 +108,11 @@ returns-clause-gone g c = let l = c.self.inside in let b = l.domain.now.table in
     let there = told_in n l.privates.entries l.seat.me.0.slots.privates r.told slot c.args.collector
     (ap (λ (m : LocalState _). entry_at m.collectors slot) c.self.view_is ∙ c.requires.kept) in
     let none : total (waits_in slot) l.seat.me.0.slots.waits ≡ 0 = (let most = known_once n known l.own.bags.waiting l.due.items r.bags slot in omega arith) in
-    let now : LocalState _ = record (with_view old u.table_id u.me.0) { tally = c.count_reclaimed.new.self; due = rest; collectors = c.take.new.self.entries } in
+    let now : LocalState _ = record (with_view old u.table_id u.me.0) {
+      tally = c.count_reclaimed.new.self;
+      due = rest;
+      collectors = c.take.new.self.entries;
+    } in
     subst (λ (m : LocalState _). Reclaims slot (showing g.row.T c.in_ok-value.value) m now) c.self.view_is record {
       inside = subst (λ (k : ℕ). slot < k) (sym on.slots) low;
       first = next;

@@ -1,5 +1,5 @@
 use Rattle.std.proofs.Common.{◌≡◌, None, refl, sym, ap, ◌∙◌, subst}
-use Rattle.sdd_atomics.specs.DomainTable.{slots_of}
+use Rattle.sdd_atomics.specs.TableFacts.{facts_of, slots_of}
 use Rattle.sdd_domain_invariant.specs.Cells.CellSteps.{rightless}
 use Rattle.sdd_domain_invariant.specs.Fractions.FractionSteps.{SeatState}
 use Rattle.sdd_rights.specs.declared.views.CellKind.TheVariants.{Collector as of_closed}
@@ -14,7 +14,8 @@ use Rattle.sdd_domain_steps.proofs.InBags.{ends_close}
 use Rattle.sdd_domain_core.proofs.local_core.LocalCore.end_close.Goals as goal
 
 pub invariant_of-self : goal.invariant_of-self
-invariant_of-self g c = let l = c.self.inside in let b = l.domain.now.table in let i = c.self.invariant in let r = i.4 in let v : View = l.seat.me.0 in
+invariant_of-self g c = let l = c.self.inside in let b = (facts_of l.domain.now.table) in let i = c.self.invariant in let r = i.4 in
+    let v : View = l.seat.me.0 in
     let u = c.cut_right-right.new.seat in let taken = c.take_in_right.ensures c.args.collector of_closed c.requires.right.1 in
     let ended = c.end_close.ensures in let cut = c.cut_right-right.ensures.participant in
     let others : u.me.1 ≡ l.seat.me.1 = cut.2 ∙ (ap (λ (m : SeatState). m.1) ended.2 ∙ taken.2) in

@@ -1,3 +1,4 @@
+use Rattle.sdd_domain_core.proofs.AtTable.{at_table}
 use Rattle.std.proofs.Common.{◌≡◌, ◌≢◌, ℕ, ◌+◌, ◌≤◌, List, [], rules, refl, sym, ap, ◌∙◌, subst, inl, inr, ⊎_elim, arith}
 use Rattle.sdd_participants.specs.EpochState.{nested, settled}
 use Rattle.sdd_participants.specs.declared.participant.Participant.{Participant}
@@ -5,7 +6,7 @@ use Rattle.sdd_participants.specs.declared.waiting.LimboEntry.{LimboEntry}
 use Rattle.sdd_rights.specs.declared.views.Sizes.{Sizes}
 use Rattle.sdd_domain_invariant.specs.Sums.{total}
 use Rattle.sdd_domain_invariant.specs.Slots.{waits_in}
-use Rattle.sdd_atomics.specs.DomainTable.{sizes_of, slots_of}
+use Rattle.sdd_atomics.specs.TableFacts.{facts_of, sizes_of, slots_of, TableFacts}
 use Rattle.sdd_domain_core.proofs.JobTables.{still_jobs}
 use Rattle.sdd_rights.specs.declared.views.SlotsView.{SlotsView}
 use Rattle.sdd_rights.specs.declared.views.FractionsView.{FractionsView}
@@ -27,13 +28,14 @@ Section = Fraction SectionState
 
 pub invariant_of-self : goal.invariant_of-self
 invariant_of-self g c =
-    let l = c.self.inside in let i = c.self.invariant in let b = l.domain.now.table in let own : Participant = c.arrive-goes_on.new.own in
+    let l = c.self.inside in let i = c.self.invariant in let b = (facts_of l.domain.now.table) in let own : Participant = c.arrive-goes_on.new.own in
     let a = c.arrive-goes_on.ensures.arrived in let count : ℕ = a.0 in let arrives = a.1 in
     let none = ap (λ (m : LocalState _). m.due) c.self.view_is ∙ c.requires.settled in let shut : l.own.guards ≡ 0 = search rules in
     let guards : own.guards ≡ 0 = has_open count l.own c.arrive-goes_on.result own a.2 ∙ shut in let one : own.guards + 1 ≡ 1 = omega arith in
     let opened : nested own ≡ record own { guards = 1 } = λ d. record own { guards = one d } in
     let large : own.bags.room ≡ l.own.bags.room = has_room count l.own c.arrive-goes_on.result own a.2 in (
-      subst (λ (o : Participant). IsBetweenCalls b l.place o c.arrive-goes_on.new.seat) opened c.arrive-goes_on.ensures.between_calls,
+      subst (λ (o : Participant). IsBetweenCalls b l.place o c.arrive-goes_on.new.seat) opened
+          (subst (λ (t : TableFacts). IsBetweenCalls t l.place (nested own) c.arrive-goes_on.new.seat) (at_table i.0) c.arrive-goes_on.ensures.between_calls),
       i.1,
       record {
         units = (let s = ap (λ (t : Section). t.units) c.split.ensures.rest in let t = ap (λ (t : Section). t.units) c.set.ensures in

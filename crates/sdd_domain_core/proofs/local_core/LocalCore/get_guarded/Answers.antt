@@ -10,7 +10,7 @@ use Rattle.sdd_shared_values.specs.CarriedFractions.{contents}
 use Rattle.sdd_shared_values.specs.SharedValues.{CanShow, HasFractionShowing, showing}
 use Rattle.sdd_domain_invariant.proofs.Slots.Records.{in_times}
 use Rattle.sdd_rights.specs.Units.{GhostName}
-use Rattle.sdd_atomics.specs.DomainTable.{id_of, gamma_of, places_of, slots_of}
+use Rattle.sdd_atomics.specs.TableFacts.{facts_of, id_of, gamma_of, places_of, slots_of}
 use Rattle.atomic_table.specs.declared.shared.Seat.{Seat}
 use Rattle.sdd_shared_values.specs.declared.value_fraction.ValueFraction.{ValueFraction}
 use Rattle.sdd_rights.specs.declared.views.View.{View}
@@ -29,13 +29,9 @@ use Rattle.sdd_domain_core.proofs.local_core.LocalCore.get_guarded.Goals as goal
 
 pub look-requires : goal.look-requires
 look-requires g c =
-    let l = c.self.inside in let b = l.domain.now.table in let slot : ℕ = number_of c.args.right.now in
+    let l = c.self.inside in let b = (facts_of l.domain.now.table) in let slot : ℕ = number_of c.args.right.now in
     let found = c.witness-owner.ensures.owner (has_tables c.args.self.now c.args.right.now c.requires.home) in let own = found.1 in
     let shared : Bool = is_shared (kind_of c.args.right.now) in let shown : Gv = found.0.shown in record {
-      table =
-          let q = c.self.invariant.0 in
-          let same = same_recalled b l.place slot shared shown l.seat c.recall.new.seat (c.recall.ensures slot shared shown own.owner) in
-          (c.watch.ensures slot shared shown own.owner).0 ∙ (ap (λ (x : Seat ValueFraction View). x.table_id) same ∙ q.home);
       inside = search rules;
       fraction =
           let t : ℕ = c.section_of-section.result.now.lifetime in let inv = c.self.invariant in let recalled = c.recall.ensures slot shared shown own.owner in
@@ -50,7 +46,7 @@ look-requires g c =
 
 pub invariant_of-self : goal.invariant_of-self
 invariant_of-self g c =
-    let l = c.self.inside in let b = l.domain.now.table in let t : ℕ = c.section_of-section.result.now.lifetime in let inv = c.self.invariant in
+    let l = c.self.inside in let b = (facts_of l.domain.now.table) in let t : ℕ = c.section_of-section.result.now.lifetime in let inv = c.self.invariant in
     let slot : ℕ = number_of c.args.right.now in let found = c.witness-owner.ensures.owner (has_tables c.args.self.now c.args.right.now c.requires.home) in
     let own = found.1 in let shared : Bool = is_shared (kind_of c.args.right.now) in let shown : Gv = found.0.shown in
     let recalled = c.recall.ensures slot shared shown own.owner in
@@ -64,7 +60,7 @@ invariant_of-self g c =
 
 pub returns : goal.returns
 returns g c =
-    let l = c.self.inside in let b = l.domain.now.table in let t : ℕ = c.section_of-section.result.now.lifetime in let inv = c.self.invariant in
+    let l = c.self.inside in let b = (facts_of l.domain.now.table) in let t : ℕ = c.section_of-section.result.now.lifetime in let inv = c.self.invariant in
     let slot : ℕ = number_of c.args.right.now in let found = c.witness-owner.ensures.owner (has_tables c.args.self.now c.args.right.now c.requires.home) in
     let own = found.1 in let shared : Bool = is_shared (kind_of c.args.right.now) in let shown : Gv = found.0.shown in
     let recalled = c.recall.ensures slot shared shown own.owner in
@@ -99,31 +95,28 @@ returns g c =
 -- what was known before the owner was recalled is known still
 pub watch-requires : goal.watch-requires
 watch-requires g c =
-    let q = c.self.invariant.0 in let l = c.self.inside in let b = l.domain.now.table in let slot : ℕ = number_of c.args.right.now in
+    let q = c.self.invariant.0 in let l = c.self.inside in let b = (facts_of l.domain.now.table) in let slot : ℕ = number_of c.args.right.now in
     let found = c.witness-owner.ensures.owner (has_tables c.args.self.now c.args.right.now c.requires.home) in let own = found.1 in
     let shared : Bool = is_shared (kind_of c.args.right.now) in let shown : Gv = found.0.shown in
     let same = same_recalled b l.place slot shared shown l.seat c.recall.new.seat (c.recall.ensures slot shared shown own.owner) in record {
-      home = ap (λ (x : Seat ValueFraction View). x.table_id) same ∙ q.home;
-      knows = (
-        ap (λ (x : Seat ValueFraction View). x.me.0.sizes) same ∙ q.knows.0,
-        ap (λ (x : Seat ValueFraction View). x.me.0.fractions.gamma) same
-            ∙ q.knows.1,
-      );
       «open» = let some_open : 0 < l.own.guards = search rules in ap (λ (x : Seat ValueFraction View). x.me.0.epoch.state) same ∙ q.opened some_open;
-      near = let place = ap (λ (x : Seat ValueFraction View). x.me.0.epoch.place) same in let at = q.place in let inside = q.inside in omega arith;
+      near = let place = ap (λ (x : Seat ValueFraction View). x.me.0.epoch.place) same in let at = q.place in let inside = q.inside in
+          let places = ap (λ (x : Seat ValueFraction View). x.me.0.sizes.participants) same ∙ ap (λ (z : Sizes). z.participants) q.knows.0 in omega arith;
       rests = ap (λ (x : Seat ValueFraction View). x.me.0.fractions.moves) same ∙ q.rests;
       owner =
           let tables = own.table in let mine = ap (λ (h : GhostName). h.tables) c.requires.home in
           let there = ap (λ (m : LocalState _). m.home) c.self.view_is in
           let table = q.home in let same_table : c.witness-owner.result.now.table_id ≡ id_of b = cc in let inside : slot < slots_of b = search rules in
-          (same_table, (slot, shared, shown, inside, own.owner));
+          let table_there = ap (λ (x : Seat ValueFraction View). x.table_id) same ∙ q.home in
+          let slots_there = ap (λ (x : Seat ValueFraction View). x.me.0.sizes.slots) same ∙ ap (λ (z : Sizes). z.slots) q.knows.0 in
+          (same_table ∙ sym table_there, (slot, shared, shown, subst (λ (j : ℕ). slot < j) (sym slots_there) inside, own.owner));
     }
 
 pub recall-requires-clause-owner : goal.recall-requires-clause-owner
 recall-requires-clause-owner g c =
-    let q = c.self.invariant.0 in let l = c.self.inside in let b = l.domain.now.table in let slot : ℕ = number_of c.args.right.now in
+    let q = c.self.invariant.0 in let l = c.self.inside in let b = (facts_of l.domain.now.table) in let slot : ℕ = number_of c.args.right.now in
     let found = c.witness-owner.ensures.owner (has_tables c.args.self.now c.args.right.now c.requires.home) in let own = found.1 in
     let shared : Bool = is_shared (kind_of c.args.right.now) in let shown : Gv = found.0.shown in let tables = own.table in
     let mine = ap (λ (h : GhostName). h.tables) c.requires.home in let there = ap (λ (m : LocalState _). m.home) c.self.view_is in let table = q.home in
     let same_table : c.witness-owner.result.now.table_id ≡ id_of b = cc in let inside : slot < slots_of b = search rules in
-    (same_table, (slot, shared, shown, inside, own.owner))
+    (same_table ∙ sym q.home, (slot, shared, shown, subst (λ (j : ℕ). slot < j) (sym (ap (λ (z : Sizes). z.slots) q.knows.0)) inside, own.owner))

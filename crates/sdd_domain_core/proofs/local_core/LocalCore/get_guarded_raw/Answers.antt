@@ -9,7 +9,7 @@ use Rattle.sdd_rights.specs.declared.views.View.{View}
 use Rattle.sdd_rights.specs.declared.views.Sizes.{Sizes}
 use Rattle.sdd_domain_invariant.specs.Fractions.FractionSteps.{SeesOwned}
 use Rattle.sdd_domain_invariant.proofs.Slots.Records.{in_times}
-use Rattle.sdd_atomics.specs.DomainTable.{gamma_of, places_of}
+use Rattle.sdd_atomics.specs.TableFacts.{facts_of, gamma_of, places_of}
 use Rattle.sdd_atomics.specs.DomainSeat.{MovedAlone}
 use Rattle.sdd_world_model.specs.OwnerOrCell.{AreOf}
 use Rattle.sdd_domain_steps.specs.SpaceIds.{home_in}
@@ -25,7 +25,7 @@ use Rattle.sdd_domain_steps.proofs.LocalLooks.{with_seat, looks_at}
 use Rattle.sdd_domain_core.proofs.local_core.LocalCore.get_guarded_raw.Goals as goal
 
 pub look-requires-clause-fraction : goal.look-requires-clause-fraction
-look-requires-clause-fraction g c = let l = c.self.inside in let b = l.domain.now.table in let t : ℕ = c.section_of-section.result.now.lifetime in
+look-requires-clause-fraction g c = let l = c.self.inside in let b = (facts_of l.domain.now.table) in let t : ℕ = c.section_of-section.result.now.lifetime in
     let inv = c.self.invariant in let slot : ℕ = c.args.slot in let look = c.look_for_raw.ensures in
     let hit = look.2.0 c.if-look_for_raw-ne-RAW.false in let shown : Gv = hit.0 in
     let watch : MovedAlone (SeesOwned slot false shown) l.seat c.look_for_raw.new.seat = (look.0, look.1, hit.1) in
@@ -36,7 +36,7 @@ look-requires-clause-fraction g c = let l = c.self.inside in let b = l.domain.no
     (in_times seen.records slot shown seen.there))
 
 pub invariant_of-self-2 : goal.invariant_of-self-2
-invariant_of-self-2 g c = let l = c.self.inside in let b = l.domain.now.table in let t : ℕ = c.section_of-section.result.now.lifetime in
+invariant_of-self-2 g c = let l = c.self.inside in let b = (facts_of l.domain.now.table) in let t : ℕ = c.section_of-section.result.now.lifetime in
     let inv = c.self.invariant in let slot : ℕ = c.args.slot in let look = c.look_for_raw.ensures in
     let hit = look.2.0 c.if-look_for_raw-ne-RAW.false in let shown : Gv = hit.0 in
     let watch : MovedAlone (SeesOwned slot false shown) l.seat c.look_for_raw.new.seat = (look.0, look.1, hit.1) in
@@ -47,7 +47,7 @@ invariant_of-self-2 g c = let l = c.self.inside in let b = l.domain.now.table in
     c.look_for_raw.new.seat c.look.new.seat some_open watch.0 seen c.look.ensures.seat c.look.ensures.lent
 
 pub returns : goal.returns
-returns g c = let l = c.self.inside in let b = l.domain.now.table in let t : ℕ = c.section_of-section.result.now.lifetime in
+returns g c = let l = c.self.inside in let b = (facts_of l.domain.now.table) in let t : ℕ = c.section_of-section.result.now.lifetime in
     let inv = c.self.invariant in let slot : ℕ = c.args.slot in let look = c.look_for_raw.ensures in
     let hit = look.2.0 c.if-look_for_raw-ne-RAW.false in let shown : Gv = hit.0 in
     let watch : MovedAlone (SeesOwned slot false shown) l.seat c.look_for_raw.new.seat = (look.0, look.1, hit.1) in

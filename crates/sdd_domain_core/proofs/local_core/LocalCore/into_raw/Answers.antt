@@ -1,8 +1,10 @@
 use lib.ListN.{get_elem?}
-use Rattle.std.proofs.Common.{◌≡◌, ℕ, ◌<◌, List, [], ◌∷◌, refl, sym, ap, ◌∙◌, subst, rules}
+use Rattle.sdd_rights.specs.Units.{GhostName}
+use Rattle.std.proofs.Common.{◌≡◌, ℕ, ◌<◌, List, [], ◌∷◌, refl, sym, ap, ◌∙◌, subst, rules, false}
 use Rattle.std.specs.Prelude.{Bool, false}
 use base.Stored.{Gv}
 use Rattle.atomic_table.specs.declared.shared.Seat.{Seat}
+use Rattle.sdd_atomics.specs.TableFacts.{facts_of}
 use Rattle.sdd_rights.specs.Owner.{witness_of_owner}
 use Rattle.sdd_rights.specs.StandingKind.{is_shared}
 use Rattle.sdd_rights.specs.Right.{number_of}
@@ -25,28 +27,32 @@ use Rattle.sdd_domain_core.proofs.local_core.LocalCore.into_raw.Goals as goal
 
 pub take_in-requires : goal.take_in-requires
 take_in-requires g c =
-    let l = c.self.inside in let table = l.domain.now.table in let q = c.self.invariant.0 in let slot : ℕ = number_of c.args.right in
+    let l = c.self.inside in let table = (facts_of l.domain.now.table) in let q = c.self.invariant.0 in let slot : ℕ = number_of c.args.right in
     let by = c.into_owner-owner.ensures.owner (has_tables c.args.self.now c.args.right c.requires.home) in let shown : Gv = c.into_owner-owner.result.1.shown in
     let views = by.owner ∙ ap (λ (b : Bool). witness_of_owner slot b shown) (ap is_shared c.requires.kind) in
     let recalled = c.recall.ensures slot false shown views in let same = same_recalled table l.place slot false shown l.seat c.recall.new.seat recalled in
     record {
-      home = ap (λ (x : Seat ValueFraction View). x.table_id) same ∙ q.home;
       rests = ap (λ (x : Seat ValueFraction View). x.me.0.fractions.moves) same ∙ q.rests;
-      owner = search rules;
+      owner =
+          let tables = by.table in let mine = ap (λ (h : GhostName). h.tables) c.requires.home in
+          let there = ap (λ (m : LocalState _). m.home) c.self.view_is in
+          let same_table : c.into_owner-owner.result.0.table_id ≡ l.seat.table_id = cc in
+          (same_table ∙ sym (ap (λ (x : Seat ValueFraction View). x.table_id) same), (slot, false, shown, views));
     }
 
 pub put_out-requires : goal.put_out-requires
 put_out-requires g c =
-    let l = c.self.inside in let table = l.domain.now.table in let q = c.self.invariant.0 in let slot : ℕ = number_of c.args.right in
+    let l = c.self.inside in let table = (facts_of l.domain.now.table) in let q = c.self.invariant.0 in let slot : ℕ = number_of c.args.right in
     let by = c.into_owner-owner.ensures.owner (has_tables c.args.self.now c.args.right c.requires.home) in let shown : Gv = c.into_owner-owner.result.1.shown in
     let views = by.owner ∙ ap (λ (b : Bool). witness_of_owner slot b shown) (ap is_shared c.requires.kind) in
     let recalled = c.recall.ensures slot false shown views in let same = same_recalled table l.place slot false shown l.seat c.recall.new.seat recalled in
     let took = subst (λ (x : Seat ValueFraction View). Taught (λ v _ w. w ≡ regained v (owner_of slot false shown)) x 0 c.take_in.new.seat) same
     (c.take_in.ensures slot false shown views) in record {
-      home = took.0 ∙ q.home;
-      knows = (ap (λ (v : View). v.sizes) took.3 ∙ q.knows.0, ap (λ (v : View). v.fractions.gamma) took.3 ∙ q.knows.1);
+      ready = record {
+        place = subst (λ (k : ℕ). 0 < k) (sym (ap (λ (v : View). v.epoch.state) took.3)) (has_place table l.place l.own l.seat q);
+        rests = ap (λ (v : View). v.fractions.moves) took.3 ∙ q.rests;
+      };
       inside = search rules;
-      place = subst (λ (k : ℕ). 0 < k) (sym (ap (λ (v : View). v.epoch.state) took.3)) (has_place table l.place l.own l.seat q);
       own =
           let none = ap (λ (v : View). v.slots.holds) took.3 ∙ q.quiet.holds in (
             ap (λ (v : View). v.slots.owns) took.3 ∙ (ap (λ (is : List ℕ). slot ∷ is) q.quiet.owns ∙ ap (λ (k : ℕ). k ∷ []) (sym c.number-slot.ensures)),
@@ -63,11 +69,11 @@ put_out-requires g c =
         sym c.number-slot.ensures,
         refl,
       );
-      rests = ap (λ (v : View). v.fractions.moves) took.3 ∙ q.rests;
     }
 
 pub invariant_of-self : goal.invariant_of-self
-invariant_of-self g c = let l = c.self.inside in let table = l.domain.now.table in let q = c.self.invariant.0 in let slot : ℕ = number_of c.args.right in
+invariant_of-self g c = let l = c.self.inside in let table = (facts_of l.domain.now.table) in let q = c.self.invariant.0 in
+    let slot : ℕ = number_of c.args.right in
     let by = c.into_owner-owner.ensures.owner (has_tables c.args.self.now c.args.right c.requires.home) in let shown : Gv = c.into_owner-owner.result.1.shown in
     let views = by.owner ∙ ap (λ (b : Bool). witness_of_owner slot b shown) (ap is_shared c.requires.kind) in
     let recalled = c.recall.ensures slot false shown views in
@@ -86,7 +92,7 @@ invariant_of-self g c = let l = c.self.inside in let table = l.domain.now.table 
 
 pub returns : goal.returns
 returns g c =
-    let l = c.self.inside in let table = l.domain.now.table in let q = c.self.invariant.0 in let slot : ℕ = number_of c.args.right in
+    let l = c.self.inside in let table = (facts_of l.domain.now.table) in let q = c.self.invariant.0 in let slot : ℕ = number_of c.args.right in
     let by = c.into_owner-owner.ensures.owner (has_tables c.args.self.now c.args.right c.requires.home) in let shown : Gv = c.into_owner-owner.result.1.shown in
     let views = by.owner ∙ ap (λ (b : Bool). witness_of_owner slot b shown) (ap is_shared c.requires.kind) in
     let recalled = c.recall.ensures slot false shown views in let same = same_recalled table l.place slot false shown l.seat c.recall.new.seat recalled in

@@ -13,7 +13,7 @@ use Rattle.sdd_domain_invariant.specs.Codes.{held_slots}
 use Rattle.sdd_domain_invariant.specs.Fractions.FractionSteps.{SeesOwned}
 use Rattle.sdd_domain_invariant.specs.Cells.CellSteps.{SeesInCell}
 use Rattle.sdd_domain_invariant.proofs.Slots.Records.{in_times}
-use Rattle.sdd_atomics.specs.DomainTable.{gamma_of, places_of}
+use Rattle.sdd_atomics.specs.TableFacts.{facts_of, gamma_of, places_of}
 use Rattle.sdd_atomics.specs.DomainSeat.{Moved, MovedAlone}
 use Rattle.sdd_world_model.specs.OwnerOrCell.{AreOf}
 use Rattle.sdd_domain_steps.specs.SpaceIds.{home_in}
@@ -45,7 +45,7 @@ looked g c = let cell = c.args.cell.now in
 
 pub invariant_of-self : goal.invariant_of-self
 invariant_of-self g c =
-    let l = c.self.inside in let b = l.domain.now.table in let inv = c.self.invariant in let word : ℕ = c.see_in-word.result in
+    let l = c.self.inside in let b = (facts_of l.domain.now.table) in let inv = c.self.invariant in let word : ℕ = c.see_in-word.result in
     let f = c.see_in-word.new.seat in let look = looked g (goal.at.invariant_of-self g c).After-see_in-word in
     let none = named_none word (sym c.in_default.ensures.held) in
     let still : f ≡ l.seat = λ d. record f { table_id = look.0 d; id = look.1 d; me = look.2.0 none d } in (
@@ -66,14 +66,13 @@ returns-in_default-clause-seen g c =
 
 pub look-value-requires : goal.look-value-requires
 look-value-requires g c =
-    let l = c.self.inside in let b = l.domain.now.table in let t : ℕ = c.section_of-section.result.now.lifetime in let inv = c.self.invariant in
+    let l = c.self.inside in let b = (facts_of l.domain.now.table) in let t : ℕ = c.section_of-section.result.now.lifetime in let inv = c.self.invariant in
     let cell = c.args.cell.now in let word : ℕ = c.see_in-word.result in let f = c.see_in-word.new.seat in
     let look = looked g (goal.at.look-value-requires g c).After-see_in-word in let slot : ℕ = c.in-Some.slot in
     let one = named word slot (sym c.value_held.ensures.held ∙ c.in-Some.is) in let hit = look.2.1 slot one in let shared : Bool = hit.0 in
     let shown : Gv = hit.1 in let watch : MovedAlone (SeesOwned slot shared shown) l.seat f = (look.0, look.1, hit.3) in
     let seen = watched b l.place l.own t slot shared shown l.seat f inv.0
     (subst (λ (t : ℕ). AreLentTo t l.seat.me.1) (sym c.agree.ensures.lifetime) inv.3) watch in record {
-      table = search rules;
       inside = let low = subst (λ (z : Sizes). slot < z.slots) inv.0.knows.0 hit.2 in let size = l.domain.now.shelved.0.size in omega (arith, low, size);
       fraction = subst (λ (k : ℕ). CanShow k slot t (contents f.me.1)) (sym l.domain.now.shelved.0.gamma)
           (can_show (gamma_of b) (places_of b) l.place t slot seen.records f.me.1 seen.carries seen.lent (in_times seen.records slot shown seen.there));
@@ -81,7 +80,7 @@ look-value-requires g c =
 
 pub invariant_of-self-2 : goal.invariant_of-self-2
 invariant_of-self-2 g c =
-    let l = c.self.inside in let b = l.domain.now.table in let t : ℕ = c.section_of-section.result.now.lifetime in let inv = c.self.invariant in
+    let l = c.self.inside in let b = (facts_of l.domain.now.table) in let t : ℕ = c.section_of-section.result.now.lifetime in let inv = c.self.invariant in
     let cell = c.args.cell.now in let word : ℕ = c.see_in-word.result in let f = c.see_in-word.new.seat in
     let look = looked g (goal.at.invariant_of-self-2 g c).After-see_in-word in let slot : ℕ = c.in-Some.slot in
     let one = named word slot (sym c.value_held.ensures.held ∙ c.in-Some.is) in let hit = look.2.1 slot one in let shared : Bool = hit.0 in
@@ -94,7 +93,7 @@ invariant_of-self-2 g c =
 
 pub returns : goal.returns
 returns g c =
-    let l = c.self.inside in let b = l.domain.now.table in let t : ℕ = c.section_of-section.result.now.lifetime in let inv = c.self.invariant in
+    let l = c.self.inside in let b = (facts_of l.domain.now.table) in let t : ℕ = c.section_of-section.result.now.lifetime in let inv = c.self.invariant in
     let cell = c.args.cell.now in let word : ℕ = c.see_in-word.result in let f = c.see_in-word.new.seat in
     let views = cell_views c.args.self.now.home cell (kind_of cell) c.witness.result.now (number_of cell) c.requires.home refl c.witness.ensures.cell refl in
     let known = c.recall_cell.ensures (number_of cell) (is_shared (kind_of cell)) views in let look = looked g (goal.at.returns g c).After-see_in-word in

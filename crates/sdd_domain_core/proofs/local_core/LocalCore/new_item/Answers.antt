@@ -1,14 +1,17 @@
-use Rattle.std.proofs.Common.{ap, sym, refl, ◌∙◌, subst}
+use Rattle.sdd_domain_invariant.specs.Fractions.FractionSteps.{CarriesAll}
+use Rattle.sdd_atomics.proofs.Sitting.{viewed_facts}
+use Rattle.sdd_domain_core.proofs.AtTable.{at_table}
+use Rattle.std.proofs.Common.{ap, sym, refl, ◌∙◌, subst, ℕ, drop, suc}
 use Rattle.sdd_world_model.specs.OwnerOrCell.{AreOf}
-use Rattle.sdd_domain_steps.specs.SpaceIds.{home_in}
+use Rattle.sdd_domain_steps.specs.SpaceIds.{home_in, home_of_slots}
 use Rattle.sdd_domain_steps.specs.LocalState.{LocalState}
 use Rattle.sdd_domain_steps.proofs.SameHome.{to_table, on_table}
 use Rattle.sdd_rights.specs.declared.views.Sizes.{Sizes}
 use Rattle.sdd_rights.specs.declared.views.View.{View}
 use Rattle.sdd_participants.specs.declared.tally.Tally.{Tally}
 use Rattle.sdd_participants.specs.Tally.{one_made}
-use Rattle.sdd_shared_values.specs.SharedValues.{showing}
-use Rattle.sdd_atomics.specs.DomainTable.{gamma_of, places_of}
+use Rattle.sdd_shared_values.specs.SharedValues.{showing, IsNoValueCode}
+use Rattle.sdd_atomics.specs.TableFacts.{facts_of, TableFacts}
 use Rattle.sdd_domain_steps.specs.BetweenCalls.{AreLentTo, IsReady}
 use Rattle.sdd_domain_steps.specs.InBags.{known_waiting}
 use Rattle.sdd_domain_steps.specs.Receipt.{IsTallied}
@@ -21,23 +24,28 @@ use Rattle.sdd_domain_core.proofs.Tallies.{tallied_made}
 use Rattle.sdd_domain_core.proofs.local_core.LocalCore.new_item.Goals as goal
 
 pub put_value-owner-requires-clause-row : goal.put_value-owner-requires-clause-row
-put_value-owner-requires-clause-row g c = let l = c.self.inside in let b = l.domain.now.table in let q = c.self.invariant.0 in (
+put_value-owner-requires-clause-row g c = let l = c.self.inside in let b = (facts_of l.domain.now.table) in let q = c.self.invariant.0 in (
   l.seat.me.1,
-  row_out (gamma_of b) (places_of b) c.in-Ok.slot l.seat.me c.claim_free.new.seat.me.1 q.knows.1 (ap (λ (z : Sizes). z.participants) q.knows.0)
-      c.in-Ok.ensures.tried.row,
+  subst (λ (v : View). CarriesAll v.fractions.gamma c.in-Ok.slot v.sizes.participants 0 IsNoValueCode l.seat.me.1 c.claim_free.new.seat.me.1)
+      (sym c.in-Ok.ensures.tried.view) (row_out l.seat.me.0.fractions.gamma l.seat.me.0.sizes.participants c.in-Ok.slot l.seat.me c.claim_free.new.seat.me.1
+      refl refl c.in-Ok.ensures.tried.row),
 )
 
 pub put_value-owner-requires-clause-fits : goal.put_value-owner-requires-clause-fits
-put_value-owner-requires-clause-fits g c = let l = c.self.inside in let b = l.domain.now.table in let q = c.self.invariant.0 in
-    to_table b (c.self.view_is 0) (on_table l.domain.now.limits b l.seat.table_id q.home l.domain.now.limited.1 (c.self.view_is 0) refl refl refl)
+put_value-owner-requires-clause-fits g c = let l = c.self.inside in let b = (facts_of l.domain.now.table) in let q = c.self.invariant.0 in
+    subst (λ (t : TableFacts). AreOf (home_of_slots t.id t.gamma t.sizes.slots) (g.T.Item.holds c.args.value))
+    (sym (viewed_facts l.seat c.claim_free.new.seat _ c.in-Ok.ensures.tried.table c.in-Ok.ensures.tried.view (refl, refl) ∙ at_table q))
+    (to_table b (c.self.view_is 0) (on_table l.domain.now.limits b l.seat.table_id q.home l.domain.now.limited.1 (c.self.view_is 0) refl refl refl)
     (g.T.Item.holds c.args.value)
-    (subst (λ (m : LocalState _). AreOf (home_in m) (g.T.Item.holds c.args.value)) (sym c.self.view_is) (c.requires.home))
+    (subst (λ (m : LocalState _). AreOf (home_in m) (g.T.Item.holds c.args.value)) (sym c.self.view_is) (c.requires.home)))
 
 pub invariant_of-self : goal.invariant_of-self
-invariant_of-self g c = let l = c.self.inside in let b = l.domain.now.table in let inv = c.self.invariant in let put = c.put_value-owner.ensures in
+invariant_of-self g c = let l = c.self.inside in let b = (facts_of l.domain.now.table) in let inv = c.self.invariant in let put = c.put_value-owner.ensures in
     let made = showing g.row.T c.args.value in let shared = c.is_one_of_several-shared.result in let slot = c.in-Ok.slot in let y = c.first_word-word.result in
     let claimed = c.claim_free.new.seat in let seat = c.put_value-owner.new.seat in
-    let between_calls = between_calls_makes b l.place l.own y slot shared made l.seat claimed seat inv.0 c.in-Ok.ensures.tried put.home.0 put.view put.given in (
+    let between_calls = between_calls_makes b l.place l.own y slot shared made l.seat claimed seat inv.0 c.in-Ok.ensures.tried put.home.0 put.view
+    (put.given ∙ ap (λ (k : ℕ). drop (suc k) claimed.me.1) (ap (λ (v : View). v.sizes.participants) c.in-Ok.ensures.tried.view
+    ∙ ap (λ (z : Sizes). z.participants) inv.0.knows.0)) in (
       between_calls.0,
       inv.1,
       inv.2,

@@ -1,7 +1,8 @@
-use Rattle.std.proofs.Common.{◌≡◌, ℕ, refl, sym, ap, ◌∙◌, subst}
+use Rattle.std.proofs.Common.{ℕ, refl, sym, ap, ◌∙◌, subst, ◌<◌}
 use Rattle.std.specs.Prelude.{Bool}
 use base.Stored.{Gv}
 use Rattle.atomic_table.specs.declared.shared.Seat.{Seat}
+use Rattle.sdd_atomics.specs.TableFacts.{facts_of}
 use Rattle.sdd_rights.specs.declared.views.Sizes.{Sizes}
 use Rattle.sdd_rights.specs.declared.views.View.{View}
 use Rattle.sdd_shared_values.specs.declared.value_fraction.ValueFraction.{ValueFraction}
@@ -21,23 +22,25 @@ use Rattle.sdd_domain_core.proofs.local_core.LocalCore.recall_owner.Goals as goa
 
 pub recall-requires-clause-owner : goal.recall-requires-clause-owner
 recall-requires-clause-owner g c =
-    let l = c.self.inside in let b = l.domain.now.table in let m : LocalState _ = c.self.view_is 0 in let right = c.args.right.now in
+    let l = c.self.inside in let b = (facts_of l.domain.now.table) in let m : LocalState _ = c.self.view_is 0 in let right = c.args.right.now in
     let on = on_table l.domain.now.limits b l.seat.table_id c.self.invariant.0.home l.domain.now.limited.1 m refl refl refl in
     let home = c.requires ∙ sym (ap slots_home c.self.view_is) in let found = c.witness.ensures.owner (has_tables m right home) in
     let by = λ (_ : AreSlotsOfTable (home_of right)). found.1 in (
-      owner_table b m on right (kind_of right) home refl c.witness.result.now found.0 by (number_of right) refl,
+      owner_table b m on right (kind_of right) home refl c.witness.result.now found.0 by (number_of right) refl
+          ∙ sym c.self.invariant.0.home,
       (
         number_of right,
         is_shared (kind_of right),
         found.0.shown,
-        owner_inside b m on right (kind_of right) home refl c.witness.result.now found.0 by (number_of right) refl c.witness.ensures.inside,
+        subst (λ (j : ℕ). number_of right < j) (sym (ap (λ (z : Sizes). z.slots) c.self.invariant.0.knows.0))
+            (owner_inside b m on right (kind_of right) home refl c.witness.result.now found.0 by (number_of right) refl c.witness.ensures.inside),
         found.1.owner,
       ),
     )
 
 pub invariant_of-self : goal.invariant_of-self
 invariant_of-self g c =
-    let l = c.self.inside in let table = l.domain.now.table in let slot : ℕ = number_of c.args.right.now in
+    let l = c.self.inside in let table = (facts_of l.domain.now.table) in let slot : ℕ = number_of c.args.right.now in
     let shared : Bool = is_shared (kind_of c.args.right.now) in
     let shown : Gv = (c.witness.ensures.owner (has_tables c.args.self.now c.args.right.now c.requires)).0.shown in
     let own = (c.witness.ensures.owner (has_tables c.args.self.now c.args.right.now c.requires)).1 in
@@ -53,7 +56,7 @@ returns-clause-same g c =
     let l = c.self.inside in let slot : ℕ = number_of c.args.right.now in let shared : Bool = is_shared (kind_of c.args.right.now) in
     let shown : Gv = (c.witness.ensures.owner (has_tables c.args.self.now c.args.right.now c.requires)).0.shown in
     let own = (c.witness.ensures.owner (has_tables c.args.self.now c.args.right.now c.requires)).1 in
-    let same = same_recalled l.domain.now.table l.place slot shared shown l.seat c.recall.new.seat (c.recall.ensures slot shared shown own.owner) in
+    let same = same_recalled (facts_of l.domain.now.table) l.place slot shared shown l.seat c.recall.new.seat (c.recall.ensures slot shared shown own.owner) in
     ap (λ (x : Seat ValueFraction View). with_seat (c.self.view_is 0) x) same ∙ c.self.view_is
 
 pub returns-clause-recalled : goal.returns-clause-recalled

@@ -1,3 +1,4 @@
+use Rattle.sdd_domain_core.proofs.AtTable.{fits_from}
 use Rattle.std.proofs.Common.{◌≡◌, ℕ, ◌+◌, ◌<◌, ◌≤◌, refl, sym, ap, ◌∙◌, subst, arith}
 use Rattle.sdd_shared_values.specs.SharedValues.{showing}
 use Rattle.sdd_participants.specs.declared.waiting.LimboEntry.TheVariants.{Item}
@@ -7,7 +8,7 @@ use Rattle.sdd_rights.specs.declared.views.Sizes.{Sizes}
 use Rattle.sdd_domain_invariant.specs.Sums.{total}
 use Rattle.sdd_domain_invariant.specs.Slots.{waits_in}
 use Rattle.sdd_domain_invariant.proofs.Slots.OwnerSteps.{item_kept}
-use Rattle.sdd_atomics.specs.DomainTable.{sizes_of, slots_of}
+use Rattle.sdd_atomics.specs.TableFacts.{facts_of, sizes_of, slots_of}
 use Rattle.sdd_rights.specs.declared.views.View.{View}
 use Rattle.sdd_world_model.specs.OwnerOrCell.{AreOf}
 use Rattle.sdd_domain_steps.specs.SpaceIds.{home_in}
@@ -32,12 +33,13 @@ use Rattle.sdd_domain_core.proofs.local_core.LocalCore.reclaim.Goals as goal
 
 pub take_value-value-requires-clause-inside : goal.take_value-value-requires-clause-inside
 take_value-value-requires-clause-inside g c = let l = c.self.inside in let r = c.self.invariant.4 in
-    first_slot (slots_of l.domain.now.table) (known_waiting l.seat.me.0.slots) l.own.bags.waiting l.due.items r.bags c.args.slot c.requires.first.0
+    subst (λ (k : ℕ). c.args.slot < k) (sym (ap (λ (z : Sizes). z.slots) c.self.invariant.0.knows.0))
+    (first_slot (slots_of (facts_of l.domain.now.table)) (known_waiting l.seat.me.0.slots) l.own.bags.waiting l.due.items r.bags c.args.slot c.requires.first.0
     (ap (λ (m : LocalState _). m.due) c.self.view_is
-    ∙ (ap (λ (m : LocalState _). m.due) c.if-not-claim_first.ensures.member ∙ c.requires.first.1))
+    ∙ (ap (λ (m : LocalState _). m.due) c.if-not-claim_first.ensures.member ∙ c.requires.first.1)))
 
 pub take_value-value-requires-clause-due : goal.take_value-value-requires-clause-due
-take_value-value-requires-clause-due g c = let l = c.self.inside in let r = c.self.invariant.4 in let n : ℕ = slots_of l.domain.now.table in
+take_value-value-requires-clause-due g c = let l = c.self.inside in let r = c.self.invariant.4 in let n : ℕ = slots_of (facts_of l.domain.now.table) in
     let known = known_waiting l.seat.me.0.slots in let both = known_once n known l.own.bags.waiting l.due.items r.bags c.args.slot in
     let once = ap (λ (m : LocalState _). total (waits_in c.args.slot) m.slots.waits) c.self.view_is ∙ c.if-not-claim_first.ensures.once in
     first_plain n known l.own.bags.waiting l.due.items r.bags (Item c.args.slot) c.requires.first.0
@@ -46,12 +48,13 @@ take_value-value-requires-clause-due g c = let l = c.self.inside in let r = c.se
 
 pub remember-requires : goal.remember-requires
 remember-requires g c = let l = c.self.inside in let r = c.self.invariant.4 in
-    let low = first_slot (slots_of l.domain.now.table) (known_waiting l.seat.me.0.slots) l.own.bags.waiting l.due.items r.bags c.args.slot c.requires.first.0
+    let low = first_slot (slots_of (facts_of l.domain.now.table)) (known_waiting l.seat.me.0.slots) l.own.bags.waiting l.due.items r.bags c.args.slot
+    c.requires.first.0
     (ap (λ (m : LocalState _). m.due) c.self.view_is
     ∙ (ap (λ (m : LocalState _). m.due) c.if-not-claim_first.ensures.member ∙ c.requires.first.1)) in subst (λ (n : ℕ). c.args.slot < n) (sym r.slots) low
 
 pub invariant_of-self : goal.invariant_of-self
-invariant_of-self g c = let l = c.self.inside in let b = l.domain.now.table in let i = c.self.invariant in let r = i.4 in let n : ℕ = slots_of b in
+invariant_of-self g c = let l = c.self.inside in let b = (facts_of l.domain.now.table) in let i = c.self.invariant in let r = i.4 in let n : ℕ = slots_of b in
     let slot : ℕ = c.args.slot in let seat = c.take_value-value.new.seat in
     let due = ap (λ (m : LocalState _). m.due) c.self.view_is
     ∙ (ap (λ (m : LocalState _). m.due) c.if-not-claim_first.ensures.member ∙ c.requires.first.1) in
@@ -79,10 +82,11 @@ invariant_of-self g c = let l = c.self.inside in let b = l.domain.now.table in l
     )
 
 pub returns-clause-home : goal.returns-clause-home
-returns-clause-home g c = let l = c.self.inside in let b = l.domain.now.table in let inv = c.self.invariant in let value = c.take_value-value.result in
+returns-clause-home g c = let l = c.self.inside in let b = (facts_of l.domain.now.table) in let inv = c.self.invariant in
+    let value = c.take_value-value.result in
     subst (λ (m : LocalState _). AreOf (home_in m) (g.T.Item.holds value)) (c.self.view_is ∙ c.if-not-claim_first.ensures.member)
     (from_table b (c.self.view_is 0) (on_table l.domain.now.limits b l.seat.table_id inv.0.home l.domain.now.limited.1 (c.self.view_is 0) refl refl refl)
-    (g.T.Item.holds value) c.take_value-value.ensures.fits)
+    (g.T.Item.holds value) (fits_from inv.0 (g.T.Item.holds value) c.take_value-value.ensures.fits))
 
 -- what it makes of a participant whose item waits for no collector
 abbrev goes : {J : Type 0} → ℕ → List LimboEntry → LocalState J → LocalState J
@@ -94,7 +98,7 @@ goes slot rest m = record m {
 }
 
 pub returns-clause-gone : goal.returns-clause-gone
-returns-clause-gone g c = let l = c.self.inside in let b = l.domain.now.table in let inv = c.self.invariant in let r = inv.4 in
+returns-clause-gone g c = let l = c.self.inside in let b = (facts_of l.domain.now.table) in let inv = c.self.invariant in let r = inv.4 in
     let slot : ℕ = c.args.slot in let rest = c.next.new.self.items in let seat = c.take_value-value.new.seat in let claims = c.if-not-claim_first.ensures in
     let due = ap (λ (m : LocalState _). m.due) c.self.view_is
     ∙ (ap (λ (m : LocalState _). m.due) c.if-not-claim_first.ensures.member ∙ c.requires.first.1) in

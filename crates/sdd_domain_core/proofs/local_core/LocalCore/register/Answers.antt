@@ -7,11 +7,10 @@ use Rattle.sdd_rights.specs.declared.views.Sizes.{Sizes}
 use Rattle.sdd_domain_invariant.specs.Sums.{total}
 use Rattle.sdd_domain_invariant.specs.Slots.{waits_in}
 use Rattle.sdd_world_model.proofs.OwnerCounts.{blank-at}
-use Rattle.sdd_atomics.specs.DomainTable.{slots_of}
+use Rattle.sdd_atomics.specs.TableFacts.{facts_of, slots_of}
 use Rattle.sdd_domain_steps.proofs.InBags.{nothing_there}
 use Rattle.sdd_domain_steps.proofs.MovedValues.{carries_nothing, none_lent}
 use Rattle.sdd_domain_steps.proofs.PrivateTables.{told_nothing}
-use Rattle.sdd_domain_core.proofs.local_core.LocalCore.register.Given.{Over}
 use Rattle.sdd_domain_core.proofs.local_core.LocalCore.register.Goals as goal
 
 pub invariant_of-result : goal.invariant_of-result
@@ -55,7 +54,7 @@ invariant_of-result g c = let jobs : ℕ = c.args.domain.now.limits.jobs in let 
         jobs = λ j low. (
           (λ there. absurd (true≢false (sym (subst (λ (o : Option g.row.J.Denot). IsSome o)
               (ap (λ (t : List (Option g.row.J.Denot)). slice_index_or t j None) (c.in-Ok.ensures.jobs) ∙ blank-at jobs j) there)))),
-          (λ waits. absurd (let e = ap (λ (xs : List WaitingItem). total (waits_in (slots_of c.args.domain.now.table + j)) xs) none in omega arith)),
+          (λ waits. absurd (let e = ap (λ (xs : List WaitingItem). total (waits_in (slots_of (facts_of c.args.domain.now.table) + j)) xs) none in omega arith)),
         );
       },
       search rules,

@@ -8,7 +8,7 @@ use Rattle.sdd_domain_invariant.specs.Slots.SlotSteps.{Knew, retired_now}
 use Rattle.sdd_domain_invariant.proofs.Sums.{is_other, total_snoc}
 use Rattle.sdd_domain_core.proofs.JobTables.{still_jobs}
 use Rattle.sdd_rights.specs.Owner.{witness_of_owner}
-use Rattle.sdd_atomics.specs.DomainTable.{id_of, most_waiting_of, sizes_of, slots_of}
+use Rattle.sdd_atomics.specs.TableFacts.{facts_of, id_of, most_waiting_of, sizes_of, slots_of}
 use Rattle.sdd_rights.specs.Units.{GhostName}
 use Rattle.sdd_participants.specs.declared.waiting.LimboEntry.TheVariants.{Item}
 use Rattle.sdd_participants.specs.declared.participant.Participant.{Participant}
@@ -46,7 +46,7 @@ taken : (g : Over) (c : After-take_in g) → Taught (λ v _ w. w ≡ regained v 
 taken g c =
     let l = c.self.inside in let slot : ℕ = number_of c.args.right in let shared : Bool = is_shared (kind_of c.args.right) in
     let by = c.into_owner-owner.ensures.owner (has_tables c.args.self.now c.args.right c.requires.home) in let shown : Gv = c.into_owner-owner.result.1.shown in
-    let same = same_recalled l.domain.now.table l.place slot shared shown l.seat c.recall.new.seat (c.recall.ensures slot shared shown by.owner) in
+    let same = same_recalled (facts_of l.domain.now.table) l.place slot shared shown l.seat c.recall.new.seat (c.recall.ensures slot shared shown by.owner) in
     subst (λ (x : Seat ValueFraction View). Taught (λ v _ w. w ≡ regained v (owner_of slot shared shown)) x 0 c.take_in.new.seat) same
     (c.take_in.ensures slot shared shown by.owner)
 
@@ -71,11 +71,11 @@ invariant_of-self-2 g c =
     let went = subst (λ (z : ℕ × Bool). MovedAlone (LetsOneGo z.0 z.1 true) c.take_in.new.seat c.let_one_go.new.seat)
     (λ d. (c.number-slot.ensures d, kind d)) c.if-not-let_one_go.ensures.went in
     let y : ℕ = retired_word shared in let waits : Moved (LetsWait slot) c.take_in.new.seat y c.let_one_go.new.seat = (went.0, went.1, went.2.0) in
-    let retired = retires_to l.domain.now.table l.place l.own y slot shared shown l.seat c.take_in.new.seat c.let_one_go.new.seat q took waits in
+    let retired = retires_to (facts_of l.domain.now.table) l.place l.own y slot shared shown l.seat c.take_in.new.seat c.let_one_go.new.seat q took waits in
     let own_is : c.set_has_garbage.new.self ≡ awaiting (Item slot) l.own
     = c.set_has_garbage.ensures ∙ (ap (λ (bags : Bags). with_garbage (record l.own { bags = bags })) c.push.ensures ∙ ap (λ (k : ℕ). awaiting
     (Item k) l.own) (c.of.ensures ∙ c.number-slot.ensures)) in
-    let table = l.domain.now.table in let i = c.self.invariant in let inside : slot < slots_of table = search rules in
+    let table = (facts_of l.domain.now.table) in let i = c.self.invariant in let inside : slot < slots_of table = search rules in
     subst (λ (o : Participant). IsBetweenCalls table l.place o c.let_one_go.new.seat
     × HasNoted table l.domain.now.limits l.place l.nesting l.state × IsSectionOf o l.section × AreLentTo l.section.lifetime c.let_one_go.new.seat.me.1
     × IsReady table o l.due l.known.slots l.jobs l.privates.entries (known_waiting c.let_one_go.new.seat.me.0.slots)
@@ -109,8 +109,8 @@ invariant_of-self g c =
     let shown : Gv = c.into_owner-owner.result.1.shown in let took = taken g (goal.at.invariant_of-self g c).After-take_in in
     let went = subst (λ (k : ℕ). MovedAlone (LeavesOthers k) c.take_in.new.seat c.let_one_go.new.seat) c.number-slot.ensures
     c.if-not-let_one_go.ensures.went in
-    let left = leaves_to l.domain.now.table l.place l.own slot shared shown l.seat c.take_in.new.seat c.let_one_go.new.seat q took went in
-    let table = l.domain.now.table in let i = c.self.invariant in (
+    let left = leaves_to (facts_of l.domain.now.table) l.place l.own slot shared shown l.seat c.take_in.new.seat c.let_one_go.new.seat q took went in
+    let table = (facts_of l.domain.now.table) in let i = c.self.invariant in (
       between_calls_leaves table l.place l.own slot shared shown l.seat c.take_in.new.seat c.let_one_go.new.seat i.0 took went,
       i.1,
       i.2,
@@ -130,10 +130,11 @@ let_one_go-requires g c =
     let q = c.self.invariant.0 in let l = c.self.inside in let slot : ℕ = number_of c.args.right in let shared : Bool = is_shared (kind_of c.args.right) in
     let shown : Gv = c.into_owner-owner.result.1.shown in let took = taken g (goal.at.let_one_go-requires g c).After-take_in in
     let kind : c.is_one_of_several-shared.result ≡ shared = c.is_one_of_several-shared.ensures ∙ ap is_shared (sym c.requires.kind) in record {
-      home = took.0 ∙ q.home;
-      knows = (ap (λ (v : View). v.sizes) took.3 ∙ q.knows.0, ap (λ (v : View). v.fractions.gamma) took.3 ∙ q.knows.1);
+      ready = record {
+        place = subst (λ (k : ℕ). 0 < k) (sym (ap (λ (v : View). v.epoch.state) took.3)) (has_place (facts_of l.domain.now.table) l.place l.own l.seat q);
+        rests = ap (λ (v : View). v.fractions.moves) took.3 ∙ q.rests;
+      };
       inside = search rules;
-      place = subst (λ (k : ℕ). 0 < k) (sym (ap (λ (v : View). v.epoch.state) took.3)) (has_place l.domain.now.table l.place l.own l.seat q);
       own =
           let none = ap (λ (v : View). v.slots.holds) took.3 ∙ q.quiet.holds in (
             ap (λ (v : View). v.slots.owns) took.3 ∙ (ap (λ (is : List ℕ). slot ∷ is) q.quiet.owns ∙ ap (λ (k : ℕ). k ∷ []) (sym c.number-slot.ensures)),
@@ -157,11 +158,10 @@ let_one_go-requires g c =
         refl,
         refl,
       );
-      rests = ap (λ (v : View). v.fractions.moves) took.3 ∙ q.rests;
     }
 
 pub push-requires : goal.push-requires
-push-requires g c = let l = c.self.inside in let table = l.domain.now.table in let q = c.self.invariant.0 in
+push-requires g c = let l = c.self.inside in let table = (facts_of l.domain.now.table) in let q = c.self.invariant.0 in
     let by = c.into_owner-owner.ensures.owner (has_tables c.args.self.now c.args.right c.requires.home) in let shown : Gv = c.into_owner-owner.result.1.shown in
     let slot : ℕ = c.number-slot.result in let shared : Bool = is_shared (kind_of c.args.right) in
     let took = c.take_in.ensures slot shared shown (by.owner ∙ ap (λ (k : ℕ). witness_of_owner k shared shown) (sym c.number-slot.ensures)) in
@@ -180,14 +180,21 @@ pub take_in-requires : goal.take_in-requires
 take_in-requires g c =
     let q = c.self.invariant.0 in let l = c.self.inside in let slot : ℕ = number_of c.args.right in let shared : Bool = is_shared (kind_of c.args.right) in
     let by = c.into_owner-owner.ensures.owner (has_tables c.args.self.now c.args.right c.requires.home) in let shown : Gv = c.into_owner-owner.result.1.shown in
-    let same = same_recalled l.domain.now.table l.place slot shared shown l.seat c.recall.new.seat (c.recall.ensures slot shared shown by.owner) in record {
-      home = ap (λ (x : Seat ValueFraction View). x.table_id) same ∙ q.home;
+    let same = same_recalled (facts_of l.domain.now.table) l.place slot shared shown l.seat c.recall.new.seat (c.recall.ensures slot shared shown by.owner)
+    in record {
       rests = ap (λ (x : Seat ValueFraction View). x.me.0.fractions.moves) same ∙ q.rests;
       owner =
-          let b = c.self.inside.domain.now.table in let tables = by.table in let mine = ap (λ (h : GhostName). h.tables) c.requires.home in
+          let b = (facts_of c.self.inside.domain.now.table) in let tables = by.table in let mine = ap (λ (h : GhostName). h.tables) c.requires.home in
           let there = ap (λ (m : LocalState _). m.home) c.self.view_is in let table = q.home in
-          let same_table : c.into_owner-owner.result.0.table_id ≡ id_of b = cc in
-          (same_table, (number_of c.args.right, is_shared (kind_of c.args.right), c.into_owner-owner.result.1.shown, by.owner));
+          let same_table : c.into_owner-owner.result.0.table_id ≡ id_of b = cc in (
+            same_table ∙ sym (ap (λ (x : Seat ValueFraction View). x.table_id) same ∙ q.home),
+            (
+              number_of c.args.right,
+              is_shared (kind_of c.args.right),
+              c.into_owner-owner.result.1.shown,
+              by.owner,
+            ),
+          );
     }
 
 pub returns-clause-went : goal.returns-clause-went
@@ -198,7 +205,7 @@ returns-clause-went g c =
     let went = subst (λ (z : ℕ × Bool). MovedAlone (LetsOneGo z.0 z.1 true) c.take_in.new.seat c.let_one_go.new.seat)
     (λ d. (c.number-slot.ensures d, kind d)) c.if-not-let_one_go.ensures.went in
     let y : ℕ = retired_word shared in let waits : Moved (LetsWait slot) c.take_in.new.seat y c.let_one_go.new.seat = (went.0, went.1, went.2.0) in
-    let retired = retires_to l.domain.now.table l.place l.own y slot shared shown l.seat c.take_in.new.seat c.let_one_go.new.seat q took waits in
+    let retired = retires_to (facts_of l.domain.now.table) l.place l.own y slot shared shown l.seat c.take_in.new.seat c.let_one_go.new.seat q took waits in
     let own_is : c.set_has_garbage.new.self ≡ awaiting (Item slot) l.own
     = c.set_has_garbage.ensures ∙ (ap (λ (bags : Bags). with_garbage (record l.own { bags = bags })) c.push.ensures ∙ ap (λ (k : ℕ). awaiting
     (Item k) l.own) (c.of.ensures ∙ c.number-slot.ensures)) in
@@ -220,7 +227,7 @@ returns-then-not-let_one_go-clause-went g c =
     let shown : Gv = c.into_owner-owner.result.1.shown in let took = taken g (goal.at.returns-then-not-let_one_go-clause-went g c).After-take_in in
     let went = subst (λ (k : ℕ). MovedAlone (LeavesOthers k) c.take_in.new.seat c.let_one_go.new.seat) c.number-slot.ensures
     c.if-not-let_one_go.ensures.went in
-    let left = leaves_to l.domain.now.table l.place l.own slot shared shown l.seat c.take_in.new.seat c.let_one_go.new.seat q took went in
+    let left = leaves_to (facts_of l.domain.now.table) l.place l.own slot shared shown l.seat c.take_in.new.seat c.let_one_go.new.seat q took went in
     let old : LocalState _ = c.self.view_is 0 in let home : c.let_one_go.new.seat.table_id ≡ l.seat.table_id = went.0 ∙ took.0 in
     let alone : IsLone old → l.seat.me.0.epoch.all ≡ 1 = λ one. (q.all ∙ ap (λ (z : Sizes). z.participants) l.domain.now.limited.1) ∙ one in (
       went.2.word,

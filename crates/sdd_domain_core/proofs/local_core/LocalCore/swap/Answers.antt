@@ -1,9 +1,10 @@
 use Rattle.std.proofs.Common.{rules, ℕ}
+use Rattle.sdd_atomics.specs.TableFacts.{facts_of}
 use Rattle.sdd_domain_steps.proofs.HeldOwners.{found_bound, word_bound}
 use Rattle.sdd_domain_core.proofs.local_core.LocalCore.swap.Goals as goal
 
 pub returns-clause-swapped : goal.returns-clause-swapped
-returns-clause-swapped g c = let new = c.loosen-new in let b = c.self.inside.domain.now.table in let found : ℕ = c.swap-out.result.1 in
+returns-clause-swapped g c = let new = c.loosen-new in let b = (facts_of c.self.inside.domain.now.table) in let found : ℕ = c.swap-out.result.1 in
     let word : ℕ = c.word_for-word.result in (
       found,
       word,

@@ -10,7 +10,7 @@ use Rattle.sdd_domain_invariant.specs.Slots.{waits_in}
 use Rattle.sdd_domain_invariant.specs.Slots.SlotSteps.{IsDue}
 use Rattle.sdd_domain_invariant.specs.Fractions.FractionSteps.{GivesPlace}
 use Rattle.sdd_atomics.specs.DomainSeat.{Moved}
-use Rattle.sdd_atomics.specs.DomainTable.{sizes_of, slots_of}
+use Rattle.sdd_atomics.specs.TableFacts.{facts_of, sizes_of, slots_of}
 use Rattle.sdd_domain_steps.specs.LocalState.{LocalState, TakesJob}
 use Rattle.sdd_domain_steps.specs.BetweenCalls.{AreLentTo}
 use Rattle.sdd_domain_steps.specs.Receipt.{IsTallied}
@@ -28,9 +28,9 @@ first_due : (g : Over) (c : After-next g) → c.self.inside.due.items ≡ Job c.
 first_due g c = next_goes c.self.inside.due c.next.new.self c.next.result (Job c.args.place) c.requires.first.0 c.next.ensures.next
     (ap (λ (m : LocalState _). m.due) c.self.view_is ∙ c.requires.first.1)
 
-is_low : (g : Over) (c : After-next g) → c.args.place < (sizes_of c.self.inside.domain.now.table).jobs
-is_low g c = let l = c.self.inside in place_low (slots_of l.domain.now.table) (known_waiting l.seat.me.0.slots) l.own.bags.waiting l.due.items
-    c.self.invariant.4.bags c.args.place c.next.new.self.items (first_due g c) (sizes_of l.domain.now.table).jobs c.self.invariant.0.waiting
+is_low : (g : Over) (c : After-next g) → c.args.place < (sizes_of (facts_of c.self.inside.domain.now.table)).jobs
+is_low g c = let l = c.self.inside in place_low (slots_of (facts_of l.domain.now.table)) (known_waiting l.seat.me.0.slots) l.own.bags.waiting l.due.items
+    c.self.invariant.4.bags c.args.place c.next.new.self.items (first_due g c) (sizes_of (facts_of l.domain.now.table)).jobs c.self.invariant.0.waiting
 
 pub take-job-requires : goal.take-job-requires
 take-job-requires g c = let low = is_low g (goal.at.take-job-requires g c).After-next in let long = c.self.invariant.4.places in omega arith
@@ -43,18 +43,21 @@ overflow_add-slots g c = let low = is_low g (goal.at.overflow_add-slots g c).Aft
 
 pub give_place_back-requires-clause-inside : goal.give_place_back-requires-clause-inside
 give_place_back-requires-clause-inside g c = let low = is_low g (goal.at.give_place_back-requires-clause-inside g c).After-next in
-    let slots = ap (λ (z : Sizes). z.slots) c.self.inside.domain.now.limited.1 in (omega arith, omega arith)
+    let slots = ap (λ (z : Sizes). z.slots) c.self.inside.domain.now.limited.1 in
+    let seat_slots = ap (λ (z : Sizes). z.slots) c.self.invariant.0.knows.0 in let seat_jobs = ap (λ (z : Sizes). z.jobs) c.self.invariant.0.knows.0 in
+    (omega arith, omega arith)
 
 pub give_place_back-requires-clause-due : goal.give_place_back-requires-clause-due
 give_place_back-requires-clause-due g c = let first = first_due g (goal.at.give_place_back-requires-clause-due g c).After-next in let l = c.self.inside in
-    let b = l.domain.now.table in
+    let b = (facts_of l.domain.now.table) in
     subst (λ (k : ℕ). IsDue l.seat.me.0 (k + c.args.place)) (ap (λ (z : Sizes). z.slots) l.domain.now.limited.1)
     (first_plain (slots_of b) (known_waiting l.seat.me.0.slots) l.own.bags.waiting l.due.items c.self.invariant.4.bags (Job c.args.place)
     c.next.new.self.items first (job_plain (slots_of b) (known_waiting l.seat.me.0.slots) l.own.bags.waiting l.due.items c.self.invariant.4.bags c.args.place))
 
 pub invariant_of-self : goal.invariant_of-self
 invariant_of-self g c = let first = first_due g (goal.at.invariant_of-self g c).After-next in
-    let low = is_low g (goal.at.invariant_of-self g c).After-next in let l = c.self.inside in let b = l.domain.now.table in let i = c.self.invariant in
+    let low = is_low g (goal.at.invariant_of-self g c).After-next in let l = c.self.inside in let b = (facts_of l.domain.now.table) in
+    let i = c.self.invariant in
     let r = i.4 in let n : ℕ = slots_of b in
     let place : ℕ = c.args.place in let seat = c.give_place_back.new.seat in let waits : List WaitingItem = l.seat.me.0.slots.waits in
     let gives = subst (λ (k : ℕ). Moved (GivesPlace (k + place)) l.seat 0 seat) (sym (ap (λ (z : Sizes). z.slots) l.domain.now.limited.1))
@@ -86,9 +89,9 @@ some_of None is = absurd (true≢false (sym is))
 pub returns : goal.returns
 returns g c =
     let first = first_due g (goal.at.returns g c).After-next in let low = is_low g (goal.at.returns g c).After-next in
-    let wait = waits_now (slots_of c.self.inside.domain.now.table) (known_waiting c.self.inside.seat.me.0.slots) c.self.inside.own.bags.waiting
+    let wait = waits_now (slots_of (facts_of c.self.inside.domain.now.table)) (known_waiting c.self.inside.seat.me.0.slots) c.self.inside.own.bags.waiting
     c.self.inside.due.items c.self.invariant.4.bags c.args.place c.next.new.self.items first in
-    let l = c.self.inside in let b = l.domain.now.table in let r = c.self.invariant.4 in let place : ℕ = c.args.place in
+    let l = c.self.inside in let b = (facts_of l.domain.now.table) in let r = c.self.invariant.4 in let place : ℕ = c.args.place in
     let there = some_of (slice_index_or l.jobs place None) ((r.jobs place low).1 (omega arith)) in let rest = c.next.new.self.items in
     let seat = c.give_place_back.new.seat in let old : LocalState _ = c.self.view_is 0 in let gives = c.give_place_back.ensures in
     let now : LocalState _ = record (with_view old seat.table_id seat.me.0) { due = rest; jobs = c.take-job.new.self } in (

@@ -1,4 +1,4 @@
-use Rattle.std.proofs.Common.{Bool, sym, ap, ◌∙◌, subst, rules}
+use Rattle.std.proofs.Common.{Bool, sym, ap, ◌∙◌, subst}
 use Rattle.sdd_rights.specs.declared.views.View.{View}
 use Rattle.sdd_domain_invariant.specs.Epoch.{HasPlace}
 use Rattle.sdd_rights.specs.declared.views.EpochView.{EpochView}
@@ -15,18 +15,13 @@ put_down-requires c =
     let freed = c.free_cell-word.ensures shared
     (rights_now c.args.cell shared s c.recall_cell.new.seat c.take_in_right.new.seat c.requires.rights a.2.0 took.3) in
     let out = brought 0 c.args.cell c.free_cell-word.result shared c.take_in_right.new.seat.me freed.2.0.0 freed.2.0.1 in record {
+      ready = record {
+        place = subst (λ (e : EpochView). HasPlace e) (sym (ap (λ (m : SeatState). m.0.epoch) freed.2.0.2 ∙ (ap (λ (m : SeatState). m.0.epoch) out.1
+            ∙ (ap (λ (v : View). v.epoch) took.3 ∙ ap (λ (m : SeatState). m.0.epoch) a.2.0)))) c.requires.place;
+        rests = ap (λ (m : SeatState). m.0.fractions.moves) freed.2.0.2 ∙ (ap (λ (m : SeatState). m.0.fractions.moves) out.1
+            ∙ (ap (λ (v : View). v.fractions.moves) took.3 ∙ ap (λ (m : SeatState). m.0.fractions.moves) a.2.0)) ∙ c.requires.bare.rests;
+      };
       named = c.held_slot.ensures.held;
-      home = search rules;
-      knows = (
-        ap (λ (m : SeatState). m.0.sizes) freed.2.0.2 ∙ (ap (λ (m : SeatState). m.0.sizes) out.1
-            ∙ (ap (λ (v : View). v.sizes) took.3 ∙ ap (λ (m : SeatState). m.0.sizes) a.2.0)) ∙ c.requires.knows.0,
-        ap (λ (m : SeatState). m.0.fractions.gamma) freed.2.0.2 ∙ (ap (λ (m : SeatState). m.0.fractions.gamma) out.1
-            ∙ (ap (λ (v : View). v.fractions.gamma) took.3 ∙ ap (λ (m : SeatState). m.0.fractions.gamma) a.2.0)) ∙ c.requires.knows.1,
-      );
-      place = subst (λ (e : EpochView). HasPlace e) (sym (ap (λ (m : SeatState). m.0.epoch) freed.2.0.2 ∙ (ap (λ (m : SeatState). m.0.epoch) out.1
-          ∙ (ap (λ (v : View). v.epoch) took.3 ∙ ap (λ (m : SeatState). m.0.epoch) a.2.0)))) c.requires.place;
-      rests = ap (λ (m : SeatState). m.0.fractions.moves) freed.2.0.2 ∙ (ap (λ (m : SeatState). m.0.fractions.moves) out.1
-          ∙ (ap (λ (v : View). v.fractions.moves) took.3 ∙ ap (λ (m : SeatState). m.0.fractions.moves) a.2.0)) ∙ c.requires.bare.rests;
       quiet = (
         ap (λ (m : SeatState). m.0.slots.drawn) freed.2.0.2 ∙ (ap (λ (m : SeatState). m.0.slots.drawn) out.1
             ∙ (ap (λ (v : View). v.slots.drawn) took.3 ∙ ap (λ (m : SeatState). m.0.slots.drawn) a.2.0)) ∙ c.requires.bare.quiet.drawn,

@@ -1,11 +1,10 @@
-use Rattle.std.proofs.Common.{ℕ, ◌<◌, [], ◌∷◌, sym, ap, ◌∙◌, subst}
-use Rattle.sdd_rights.specs.declared.views.Sizes.{Sizes}
+use Rattle.std.proofs.Common.{ℕ, [], ◌∷◌, sym, ap, ◌∙◌}
 use Rattle.sdd_domain_steps.proofs.CellWords.{named}
 use Rattle.sdd_domain_steps.proofs.cells.values.put_down.Goals as goal
 
 pub part_with-requires-clause-inside : goal.part_with-requires-clause-inside
 part_with-requires-clause-inside c = let slot : ℕ = c.in_ok-slot.slot in let one = named c.args.word slot (sym c.requires.named ∙ c.in_ok-slot.was) in
-    subst (λ (z : Sizes). slot < z.slots) c.requires.knows.0 (c.requires.held.1.one slot one).1
+    (c.requires.held.1.one slot one).1
 
 pub part_with-requires-clause-quiet : goal.part_with-requires-clause-quiet
 part_with-requires-clause-quiet c = let slot : ℕ = c.in_ok-slot.slot in let one = named c.args.word slot (sym c.requires.named ∙ c.in_ok-slot.was) in

@@ -1,4 +1,4 @@
-use Rattle.std.proofs.Common.{◌≡◌, ◌⊎◌, ℕ, ◌∙◌, sym, ap, inl, inr, refl, arith}
+use Rattle.std.proofs.Common.{◌≡◌, ◌⊎◌, ℕ, ◌∙◌, sym, ap, inl, inr, refl, arith, ◌<◌, subst}
 use Rattle.std.proofs.lemmas.Bool.Decides.{nat_tests}
 use Rattle.sdd_rights.specs.declared.views.View.{View}
 use Rattle.sdd_domain_invariant.specs.Epoch.Barred.{IsBarred, past}
@@ -14,13 +14,11 @@ returns-then-found-eq-FREE-clause-barred c = λ _. let x : ℕ = c.bar-found.res
 
 pub bar-found-requires-2-clause-next : goal.bar-found-requires-2-clause-next
 bar-found-requires-2-clause-next c = let ended = c.if-found-ne-ENDED.false in
-    let same = (c.bar-found.ensures.3 c.args.place refl).1 c.if-found-eq-FREE.false (λ b. omega arith) in
-    (c.requires.next.0, c.requires.next.1 ∙ ap (λ (v : View). v.places.ended) (sym same))
-
-pub bar-found-requires-2-clause-sizes : goal.bar-found-requires-2-clause-sizes
-bar-found-requires-2-clause-sizes c = let ended = c.if-found-ne-ENDED.false in
-    let same = (c.bar-found.ensures.3 c.args.place refl).1 c.if-found-eq-FREE.false (λ b. omega arith) in
-    ap (λ (v : View). v.sizes) same ∙ c.requires.sizes
+    let same = (c.bar-found.ensures.3 c.args.place refl).1 c.if-found-eq-FREE.false (λ b. omega arith) in (
+      subst (λ (k : ℕ). c.args.place < k) (ap (λ (v : View). v.sizes.participants) (sym same)) c.requires.next.0,
+      c.requires.next.1
+          ∙ ap (λ (v : View). v.places.ended) (sym same),
+    )
 
 pub returns-then-found-eq-ENDED-clause-barred : goal.returns-then-found-eq-ENDED-clause-barred
 returns-then-found-eq-ENDED-clause-barred c = λ _. let ended = c.if-found-ne-ENDED.false in

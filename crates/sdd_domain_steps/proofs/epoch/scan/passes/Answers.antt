@@ -1,4 +1,5 @@
-use Rattle.std.proofs.Common.{refl, sym, ap, ◌∙◌, subst}
+use Rattle.sdd_rights.specs.declared.views.Sizes.{Sizes}
+use Rattle.std.proofs.Common.{refl, sym, ap, ◌∙◌, subst, ℕ, ◌<◌}
 use borrow.Author.Tests.{eqb-true, eqb-false}
 use Rattle.sdd_rights.specs.declared.views.EpochView.{EpochView}
 use Rattle.sdd_domain_invariant.specs.Epoch.EpochSteps.{IsNext, passed_by}
@@ -8,8 +9,10 @@ pub returns-then-look_at_state-ne-OPEN-clause-passed : goal.returns-then-look_at
 returns-then-look_at_state-ne-OPEN-clause-passed c _ = (c.look_at_state.ensures.1 c.args.place refl).0 c.if-look_at_state-ne-OPEN.true
 
 pub look_at_count-requires-clause-next : goal.look_at_count-requires-clause-next
-look_at_count-requires-clause-next c = let same = (c.look_at_state.ensures.1 c.args.place refl).1 c.if-look_at_state-ne-OPEN.false in
-    (c.requires.next.0, subst (λ (v : EpochView). IsNext v c.args.place) (sym same) c.requires.next.1)
+look_at_count-requires-clause-next c = let same = (c.look_at_state.ensures.1 c.args.place refl).1 c.if-look_at_state-ne-OPEN.false in (
+  subst (λ (k : ℕ). c.args.place < k) (sym (ap (λ (z : Sizes). z.participants) c.look_at_state.ensures.0.0.3)) c.requires.next.0,
+  subst (λ (v : EpochView). IsNext v c.args.place) (sym same) c.requires.next.1,
+)
 
 pub returns-clause-passed : goal.returns-clause-passed
 returns-clause-passed c e = let same = (c.look_at_state.ensures.1 c.args.place refl).1 c.if-look_at_state-ne-OPEN.false in

@@ -1,3 +1,4 @@
+use Rattle.sdd_rights.specs.declared.views.Sizes.{Sizes}
 use Rattle.std.proofs.Common.{ℕ, sym, ap, ◌∙◌, subst, true≢false}
 use Rattle.atomic_table.specs.declared.shared.Seat.{Seat}
 use Rattle.sdd_rights.specs.declared.views.EpochView.{EpochView}
@@ -27,7 +28,8 @@ whole c =
           (c.unlock.ensures.1 ∙ ap (λ (z : Seat ValueFraction View). unlocked z.me.0.epoch) w.seat-is))
       | else-all_pass w ↦ subst told (sym w.end-is) (failed v a _ _ u _ reads locks c.all_pass.ensures.looked.1
           (c.unlock.ensures.1 ∙ ap (λ (z : Seat ValueFraction View). unlocked z.me.0.epoch) w.seat-is)
-          (λ one. true≢false (sym (c.all_pass.ensures.lone (sym c.requires.sized ∙ one)) ∙ w.if-all_pass.false)))
+          (λ one. true≢false (sym (c.all_pass.ensures.lone (ap (λ (z : Sizes). z.participants) (c.try_lock.ensures.0.0.3 ∙ c.read.ensures.0.0.3)
+          ∙ (sym c.requires.sized ∙ one))) ∙ w.if-all_pass.false)))
     ]
 
 pub returns-clause-scanned : goal.returns-clause-scanned

@@ -1,5 +1,4 @@
-use Rattle.std.proofs.Common.{true≢false, ap, arith}
-use Rattle.sdd_rights.specs.declared.views.Sizes.{Sizes}
+use Rattle.std.proofs.Common.{true≢false}
 use Rattle.sdd_domain_steps.proofs.MovedValues.{gains}
 use Rattle.sdd_domain_steps.proofs.search.Search.slot.Goals as goal
 
@@ -7,6 +6,6 @@ pub returns-then-claim-eq-FREE-clause-tried : goal.returns-then-claim-eq-FREE-cl
 returns-then-claim-eq-FREE-clause-tried c = (
   (λ _. gains c.args.word c.args.slot c.args.seat.now c.look.new.seat c.claim.new.seat c.look.result c.claim.result c.look.ensures c.claim.ensures
       c.if-claim-eq-FREE.true
-      (let e = ap (λ (z : Sizes). z.slots) c.requires.knows.0 in let h = c.requires.inside in omega arith)),
+      c.requires.inside),
   (λ e. absurd (true≢false e)),
 )

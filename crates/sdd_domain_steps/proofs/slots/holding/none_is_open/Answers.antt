@@ -17,7 +17,7 @@ returns-then-look_for_guard-eq-OPEN c =
       looked = (c.loop-place.place, found.1 (omega (arith, opens)) ∙ inv.view, λ e. absurd (true≢false (sym e)));
       quiet = λ e. absurd (true≢false (sym e));
       met = λ _ lone. let state = ap (λ (v : View). v.epoch.state) inv.view in let place = ap (λ (v : View). v.epoch.place) inv.view in
-          let inside = c.loop-place-test.true in let places = c.places-place-end.ensures in let end = c.loop-place.auto.place-end in
+          let inside = c.loop-place-test.true in let places = c.places-place-end.ensures.places in let end = c.loop-place.auto.place-end in
           let here : c.loop-place.place ≡ (epoch c.loop-place.seat).place = omega (arith, r.1, r.2, lone, place, inside, places, end) in
           let is = found.2 (omega (arith, r.0, state)) here in omega (arith, is, opens, state);
     }

@@ -1,3 +1,4 @@
+use Rattle.sdd_atomics.specs.SeatAtTable.{facts_at}
 use Rattle.std.proofs.Common.{◌≡◌, inl, refl, sym, subst}
 use Rattle.atomic_table.specs.declared.shared.Seat.{Seat}
 use Rattle.sdd_shared_values.specs.declared.value_fraction.ValueFraction.{ValueFraction}
@@ -17,17 +18,17 @@ try_seen-requires-clause-still c = subst (IsStill c.args.slot) (sym c.loop-attem
 
 pub returns-in-Came : goal.returns-in-Came
 returns-in-Came c = let same = same_seat c.args.seat.now c.loop-attempt.seat c.loop-attempt.invariant.same in
-    subst (λ (x : Seat ValueFraction View). Tries c.args.table.now c.args.slot (Came c.in-Came.owner) x c.try_seen.new.seat) same c.in-Came.ensures
+    subst (λ (x : Seat ValueFraction View). Tries (facts_at x) c.args.slot (Came c.in-Came.owner) x c.try_seen.new.seat) same c.in-Came.ensures
 
 pub returns-in-Gone : goal.returns-in-Gone
 returns-in-Gone c = let same = same_seat c.args.seat.now c.loop-attempt.seat c.loop-attempt.invariant.same in
-    subst (λ (x : Seat ValueFraction View). Tries c.args.table.now c.args.slot Gone x c.try_seen.new.seat) same c.in-Gone.ensures
+    subst (λ (x : Seat ValueFraction View). Tries (facts_at x) c.args.slot Gone x c.try_seen.new.seat) same c.in-Gone.ensures
 
 pub returns-in-Most : goal.returns-in-Most
 returns-in-Most c = let same = same_seat c.args.seat.now c.loop-attempt.seat c.loop-attempt.invariant.same in
-    inl (refl, subst (λ (x : Seat ValueFraction View). Tries c.args.table.now c.args.slot Most x c.try_seen.new.seat) same c.in-Most.ensures)
+    inl (refl, subst (λ (x : Seat ValueFraction View). Tries (facts_at x) c.args.slot Most x c.try_seen.new.seat) same c.in-Most.ensures)
 
 pub loop-attempt-preserved : goal.loop-attempt-preserved
 loop-attempt-preserved c = let same = same_seat c.args.seat.now c.loop-attempt.seat c.loop-attempt.invariant.same in
-    let lost = subst (λ (x : Seat ValueFraction View). Tries c.args.table.now c.args.slot Lost x c.try_seen.new.seat) same c.in-Lost.ensures in
+    let lost = subst (λ (x : Seat ValueFraction View). Tries (facts_at x) c.args.slot Lost x c.try_seen.new.seat) same c.in-Lost.ensures in
     record { same = lost.0; held = λ _ lone. lost.1 lone }

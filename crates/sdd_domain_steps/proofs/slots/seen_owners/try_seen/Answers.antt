@@ -1,4 +1,6 @@
-use Rattle.std.proofs.Common.{◌≡◌, ℕ, ◌∷◌, [], List, ◌⊎◌, ◌+◌, true, sym, ap, ◌∙◌, subst, arith, rules}
+use Rattle.sdd_atomics.specs.TableFacts.{TableFacts}
+use Rattle.sdd_atomics.proofs.Sitting.{viewed_facts}
+use Rattle.std.proofs.Common.{◌≡◌, ℕ, ◌∷◌, [], List, ◌⊎◌, ◌+◌, true, sym, ap, ◌∙◌, subst, arith, rules, refl}
 use base.Stored.{Gv}
 use Rattle.sdd_rights.specs.declared.views.View.{View}
 use Rattle.sdd_rights.specs.declared.views.EpochView.{EpochView}
@@ -8,7 +10,7 @@ use Rattle.std.specs.Prelude.{None, slice_index}
 use Rattle.sdd_domain_invariant.specs.Epoch.{HasPlace, IsLone}
 use Rattle.sdd_domain_invariant.specs.Slots.SlotSteps.{behind, noted, one_more}
 use Rattle.sdd_domain_invariant.specs.Fractions.FractionSteps.{SeatState, IsStill, ShowsSeen, owning_more}
-use Rattle.sdd_domain_steps.specs.Cells.{holding}
+use Rattle.sdd_domain_steps.specs.Cells.{holding, IsLoose}
 use Rattle.sdd_domain_steps.proofs.SeenOwners.{most_count, none_counts, some_count}
 use Rattle.sdd_domain_steps.proofs.slots.seen_owners.try_seen.Goals as goal
 
@@ -57,11 +59,11 @@ part_with-requires c =
     let hit = e.2.0 c.if-add_seen-word.false in let value : Gv = hit.0 in
     let is : c.add_seen.new.seat.me.0 ≡ owning_more slot value (one_more slot (word + 1) None s.me.0)
     = ap (λ (m : SeatState). m.0) hit.2 ∙ ap (λ (v : View). owning_more slot value (one_more slot (word + 1) None v)) k.3.0 in record {
-      home = e.0 ∙ (k.0 ∙ c.requires.home);
-      knows = (ap (λ (v : View). v.sizes) is ∙ c.requires.knows.0, ap (λ (v : View). v.fractions.gamma) is ∙ c.requires.knows.1);
+      ready = record {
+        place = subst (λ (x : EpochView). HasPlace x) (sym (ap (λ (v : View). v.epoch) is)) c.requires.place;
+        rests = ap (λ (v : View). v.fractions.moves) is ∙ c.requires.bare.rests;
+      };
       inside = search rules;
-      place = subst (λ (x : EpochView). HasPlace x) (sym (ap (λ (v : View). v.epoch) is)) c.requires.place;
-      rests = ap (λ (v : View). v.fractions.moves) is ∙ c.requires.bare.rests;
       quiet =
           let q = c.requires.bare.quiet in (
             ap (λ (v : View). v.slots.owns) is ∙ ap (λ (l : List ℕ). slot ∷ l) q.owns,
@@ -100,7 +102,7 @@ returns c = let s = c.args.seat.now in let k = c.look-word.ensures in let word :
         }));
       };
       knew = k.3.1;
-      loose = own.0;
+      loose = subst (λ (t : TableFacts). IsLoose t true c.part_with.result) (viewed_facts s c.add_seen.new.seat _ (e.0 ∙ k.0) is (refl, refl)) own.0;
       of_slot = c.part_with.ensures.slot;
       shows = subst (λ (t : Gv × View). ShowsSeen slot t.0 t.1) (λ d. (sym own.1 d, k.3.0 d)) hit.1;
     }

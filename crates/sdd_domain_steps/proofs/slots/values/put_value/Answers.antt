@@ -15,16 +15,16 @@ move_in-read_fraction-requires-clause-own g c = let r = c.requires in
 pub cut-requires : goal.cut-requires
 cut-requires g c =
     let f = c.move_in-read_fraction.ensures in let r = c.requires in record {
-      home = c.move_in-read_fraction.ensures.home.0 ∙ c.requires.home;
-      knows = (ap (λ (v : View). v.sizes) f.view ∙ r.knows.0, ap (λ (v : View). v.fractions.gamma) f.view ∙ r.knows.1);
-      place = subst (λ (k : ℕ). 0 < k) (sym (ap (λ (v : View). v.epoch.state) c.move_in-read_fraction.ensures.view)) c.requires.place;
+      ready = record {
+        place = subst (λ (k : ℕ). 0 < k) (sym (ap (λ (v : View). v.epoch.state) c.move_in-read_fraction.ensures.view)) c.requires.place;
+        rests = ap (λ (v : View). v.fractions.moves) c.move_in-read_fraction.ensures.view;
+      };
       one = (
         c.args.slot,
         ap (λ (v : View). v.slots.owns) f.view ∙ r.own.1,
         ap (λ (v : View). v.slots.drawn) f.view ∙ ap (λ (l : List ℕ). c.args.slot ∷ l) r.free.1,
       );
       free = ap (λ (v : View). v.slots.holds) c.move_in-read_fraction.ensures.view ∙ c.requires.free.0;
-      rests = ap (λ (v : View). v.fractions.moves) c.move_in-read_fraction.ensures.view;
     }
 
 pub returns : goal.returns
@@ -34,7 +34,7 @@ returns g c = let f = c.move_in-read_fraction.ensures in let r = c.requires in l
       view = part.3 ∙ (ap parting f.view ∙ parted_view c.args.slot c.args.shared shown c.args.seat.now.me.0 r.own.1 r.own.2);
       given = part.2 ∙ f.given;
       owner = (
-        c.cut.ensures.owner.0,
+        c.cut.ensures.owner.0 ∙ f.home.0,
         c.cut.ensures.owner.1 ∙ ap (λ (v : View). the_row.coded.code v ∷ [])
             (ap departing f.view ∙ departed_view c.args.slot c.args.shared shown c.args.seat.now.me.0 r.own.1 r.own.2),
       );

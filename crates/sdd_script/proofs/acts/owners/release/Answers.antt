@@ -1,5 +1,5 @@
 use Rattle.sdd_script.proofs.Words.{◌≡◌, ℕ, Bool, Option, None, Some, IsTrue, ◌↔◌, if◌then◌else◌, ap, is_some, refl, slice_index_or, slice_set, map-set, Vec, IsSharedBy, owner_given, World, standing_at, shared_slot, index_of, OwnerName, PlaceName, At, Val, AnyOwner, Share, NamedParticipant, Environment, state_of, owner_holding, Does, Here, attends, here, leaves, place-is, sits, named as named-as, released-leaves, nobody, with_dates}
-use Rattle.sdd_space.specs.declared.shared.Shared.{Shared}
+use Rattle.sdd_space.specs.Shared.{Shared}
 use Rattle.std.specs.Vec.{with_item}
 use Rattle.sdd_participants.specs.declared.standing.Standing.TheVariants as standing
 use Rattle.sdd_space.specs.Shared as shared

@@ -1,18 +1,27 @@
-use Rattle.std.proofs.Common.{arith}
+use Rattle.std.proofs.Common.{rules, arith}
 use Rattle.sdd_domain_invariant.specs.Codes.{free_word}
 use Rattle.sdd_domain_invariant.specs.Collectors.CollectorSteps.{GivesOneOwnBack}
 use Rattle.sdd_atomics.proofs.Allowed.{moved_at}
 use Rattle.sdd_atomics.proofs.PrivateItemsAllowed.{may_give_own_back}
+use Rattle.sdd_atomics.proofs.Sitting.{numbers, row_at, sits, stays}
 use Rattle.sdd_atomics.proofs.steps.collectors.emptying.give_own_back.Goals as goal
 
 pub store-requires : goal.store-requires
-store-requires c = let r = c.requires in (
-  r.home,
-  omega arith,
-  may_give_own_back _ _ _ _ _ r.knows.0 r.knows.1 r.place c.args.slot r.inside _ c.slot_word.ensures r.emptied.0 r.emptied.1 r.row.0 r.row.1 r.own.0 r.own.1
-      r.own.2,
-)
+store-requires c = let k = sits _ _ _ c.seat.view_is c.seat.invariant in let n = numbers k in
+    rw c.seat.view_is (let r = c.requires in (
+      k.home,
+      omega arith,
+      may_give_own_back _ _ _ _ _ k.sizes k.gamma r.place c.args.slot (omega arith) _ c.slot_word.ensures r.emptied.0 r.emptied.1 r.row.0 (row_at k _ _ _ _
+          _ r.row.1) r.own.0 r.own.1
+          r.own.2,
+    ))
 
 pub returns : goal.returns
-returns c = let e = c.store.ensures in
-    moved_at c.args.seat.now _ (free_word 0) e.0 e.1 GivesOneOwnBack _ c.args.slot _ c.slot_word.ensures c.requires.knows.0 e.2
+returns c =
+    rw (← c.seat.view_is) (let e = c.store.ensures in
+    moved_at c.seat.inside.seat _ (free_word 0) e.0 e.1 GivesOneOwnBack _ c.args.slot _ c.slot_word.ensures c.seat.invariant.sizes e.2)
+
+pub invariant_of-seat : goal.invariant_of-seat
+invariant_of-seat c = let m = (let e = c.store.ensures in
+    moved_at c.seat.inside.seat _ (free_word 0) e.0 e.1 GivesOneOwnBack _ c.args.slot _ c.slot_word.ensures c.seat.invariant.sizes e.2) in
+    stays _ _ _ c.seat.invariant m.0 (let h = m in search rules)

@@ -3,15 +3,22 @@ use Rattle.sdd_rights.specs.declared.views.View.{View}
 use Rattle.sdd_domain_invariant.specs.Fractions.FractionSteps.{SeatState, counts_seat, counting}
 use Rattle.sdd_domain_invariant.proofs.Seats.{joins_counts}
 use Rattle.sdd_atomics.proofs.ViewCodes.{view_is}
+use Rattle.sdd_atomics.proofs.Sitting.{numbers, sits, stays}
 use Rattle.sdd_atomics.proofs.steps.epoch.counts.take_counts.Goals as goal
 
 pub rejoin-requires : goal.rejoin-requires
-rejoin-requires c = let r = c.requires in let o = r.counts in (r.home, o.0, (counts_seat o.1.0, o.1.1, joins_counts _ _ _ _ _ o.1.0))
+rejoin-requires c = let k = sits _ _ _ c.seat.view_is c.seat.invariant in let n = numbers k in
+    rw c.seat.view_is (let r = c.requires in let o = r.counts in (k.home, (o.0 ∙ k.home), (counts_seat o.1.0, o.1.1, joins_counts _ _ _ _ _ o.1.0)))
 
 pub returns : goal.returns
-returns c = λ known views. let e = c.rejoin.ensures in let is = view_is e.2.0 (counts_seat known) (sym e.2.1 ∙ views) in (
-  e.0,
-  e.1,
-  ap (λ (m : SeatState). m.1) e.2.2,
-  ap (λ (m : SeatState). m.0) e.2.2 ∙ ap (λ (w : View). counting c.args.seat.now.me.0 w) is,
-)
+returns c =
+    rw (← c.seat.view_is) (λ known views. let e = c.rejoin.ensures in let is = view_is e.2.0 (counts_seat known) (sym e.2.1 ∙ views) in (
+      e.0,
+      e.1,
+      ap (λ (m : SeatState). m.1) e.2.2,
+      ap (λ (m : SeatState). m.0) e.2.2 ∙ ap (λ (w : View). counting c.seat.inside.seat.me.0 w) is,
+    ))
+
+pub invariant_of-seat : goal.invariant_of-seat
+invariant_of-seat c = let e = c.rejoin.ensures in
+    stays _ _ _ c.seat.invariant e.0 (ap (λ (m : SeatState). m.0.sizes) e.2.2, ap (λ (m : SeatState). m.0.fractions.gamma) e.2.2)

@@ -1,18 +1,27 @@
-use Rattle.std.proofs.Common.{arith}
+use Rattle.std.proofs.Common.{rules, arith}
 use Rattle.sdd_domain_invariant.specs.Cells.CellWordSteps.{ExchangesPointer}
 use Rattle.sdd_domain_invariant.specs.Cells.CellSteps.{FindsPointer}
 use Rattle.sdd_atomics.proofs.Pointers.{pointer_moved, may_exchange}
+use Rattle.sdd_atomics.proofs.Sitting.{numbers, sits, stays}
 use Rattle.sdd_atomics.proofs.steps.raw.pointers.exchange_pointer.Goals as goal
 
 pub compare_exchange-requires : goal.compare_exchange-requires
-compare_exchange-requires c = let r = c.requires in (
-  r.home,
-  omega arith,
-  may_exchange _ _ _ _ _ r.knows.0 r.knows.1 r.place r.rests c.args.cell r.inside _ c.pointer_word.ensures
-      c.args.word r.word c.args.old,
-)
+compare_exchange-requires c = let k = sits _ _ _ c.seat.view_is c.seat.invariant in let n = numbers k in
+    rw c.seat.view_is (let r = c.requires in (
+      k.home,
+      omega arith,
+      may_exchange _ _ _ _ _ k.sizes k.gamma r.ready.place r.ready.rests c.args.cell (omega arith) _ c.pointer_word.ensures
+          c.args.word r.word c.args.old,
+    ))
 
 pub returns : goal.returns
-returns c = let e = c.compare_exchange.ensures in
-    pointer_moved c.args.seat.now _ c.compare_exchange.result e.0 e.1 (FindsPointer (ExchangesPointer c.args.old c.args.word)) _ c.args.cell
-    _ c.pointer_word.ensures c.requires.knows.0 e.2
+returns c =
+    rw (← c.seat.view_is) (let e = c.compare_exchange.ensures in
+    pointer_moved c.seat.inside.seat _ c.compare_exchange.result e.0 e.1 (FindsPointer (ExchangesPointer c.args.old c.args.word)) _ c.args.cell
+    _ c.pointer_word.ensures c.seat.invariant.sizes e.2)
+
+pub invariant_of-seat : goal.invariant_of-seat
+invariant_of-seat c = let m = (let e = c.compare_exchange.ensures in
+    pointer_moved c.seat.inside.seat _ c.compare_exchange.result e.0 e.1 (FindsPointer (ExchangesPointer c.args.old c.args.word)) _ c.args.cell
+    _ c.pointer_word.ensures c.seat.invariant.sizes e.2) in
+    stays _ _ _ c.seat.invariant m.0 (let h = m in search rules)

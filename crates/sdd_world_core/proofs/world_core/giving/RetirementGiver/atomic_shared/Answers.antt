@@ -8,4 +8,4 @@ returns-clause-own g c =
     let w = c.args.self.now.core.now.world in
     let p : ℕ = c.args.self.now.place in
     let cell : ℕ = cell_of c.args.cell in
-    rw (c.close_cell.ensures.closed, c.right_of_shared_cell.ensures.right) (gives-grows c.requires.seated.0 (Gives-cell_closed w p cell c.requires.seated.0))
+    rw (c.close_cell.ensures.closed, c.right_of_cell.ensures.right) (gives-grows c.requires.seated.0 (Gives-cell_closed w p cell c.requires.seated.0))

@@ -8,4 +8,4 @@ returns-clause-own g c =
     let w = c.args.self.now.core.now.world in
     let p : ℕ = c.args.self.now.place in
     let slot : ℕ = slot_of c.args.owner in
-    rw (c.release.ensures.released.world, c.right_of_shared.ensures.right) (gives-grows c.requires.seated.0 (Gives-owner_given w p slot _ refl))
+    rw (c.release.ensures.released.world, c.right_of_owner.ensures.right) (gives-grows c.requires.seated.0 (Gives-owner_given w p slot _ refl))

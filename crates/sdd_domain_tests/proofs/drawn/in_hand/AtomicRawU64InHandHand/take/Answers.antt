@@ -1,0 +1,8 @@
+use Rattle.std.proofs.Common.{rules}
+use Rattle.sdd_domain_tests.specs.Hands.{IsHandOf}
+use Rattle.sdd_domain_tests.proofs.drawn.in_hand.AtomicRawU64InHandHand.take.Goals as goal
+
+-- the others are as they were
+pub returns-clause-rest : goal.returns-clause-rest
+unfolding IsHandOf
+returns-clause-rest c = λ caller held. let left = c.taken.ensures.rest caller held.raw_cells in search rules

@@ -1,5 +1,0 @@
-use Rattle.std.specs.Prelude.{◌≡◌}
-use Rattle.sdd_domain_tests.proofs.threads.two_workers.shared_at_last.Given as goal
-
-abbrev pub invariant-loop : goal.invariant-loop
-invariant-loop g l = let caller = g.S.Caller.caller in caller l.s ≡ caller l.fn.s
