@@ -43,7 +43,7 @@ module _ {K T : Type 0} {k : Ghosts K} where
   abbrev pub cells_home : AtomicCell K T k → units.GhostName
   cells_home c = home_of (cell_right c)
 
--- how an item stands that an owner of this kind has; right kinds that no owner has say nothing
+-- how an item stands that an owner with a right of this kind has; of a kind that no owner's right is of, nothing is said
 abbrev pub StandsAs : StandingKind → Option Standing → Type 0
 StandsAs kind.Free s = Unit {0}
 StandsAs kind.Owned s = s ≡ Some standing.Owned
