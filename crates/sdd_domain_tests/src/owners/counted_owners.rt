@@ -1,8 +1,8 @@
 //! Owners that are counted, let go in one thread and in two.
 ghost use Rattle.std.specs.Prelude.{◌≡◌, ◌<◌};
-ghost use Rattle.sdd_examples.specs.CountedOwners.{owner_views, IsFree};
+ghost use Rattle.sdd_part_examples.specs.CountedOwners.{owner_views, IsFree};
 
-use sdd_examples::counted_owners::{Owners, Participant};
+use sdd_part_examples::counted_owners::{Owners, Participant};
 use sdd_witness::Witness;
 use std::test::Fail;
 use std::thread::join;

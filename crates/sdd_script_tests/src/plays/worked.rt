@@ -21,6 +21,12 @@ const BAG: &str =
 
 const ITS_REPLIES: &str = "p0\nb0\nok\ng0 epoch 0\nok\n3 7\nnone\nok\n";
 
+/// A queue, a stack and a bag with something in each, a cell, an owner and a guard are left open at the end, which spends them.
+const LEFT_OPEN: &str =
+    "register\np0 open\np0 queue\np0 push q0 1 g0\np0 stack\np0 push s0 2 g0\np0 bag\np0 add b0 3 g0\np0 owned 4\np0 cell owned o2\n";
+
+const ANSWERS_OF_WHAT_IS_LEFT: &str = "p0\ng0 epoch 0\nq0\no0 i0\ns0\no1 i1\nb0\nok\no2 i2\nc0\n";
+
 /// How many calls of a device that moves three bytes are more than any play here needs.
 const AMPLE: u64 = 1000;
 
@@ -40,6 +46,7 @@ fn each_script_is_answered(rt: HostRuntime) {
         (SHORTEST_WAY, Ended::Played, ITS_ANSWERS),
         ("", Ended::Played, ""),
         ("register", Ended::Played, "p0\n"),
+        (LEFT_OPEN, Ended::Played, ANSWERS_OF_WHAT_IS_LEFT),
         ("p7 open", Ended::Played, "invalid\n"),
         (
             "register\np0 open\np0 op\n",

@@ -5,7 +5,7 @@ use Rattle.sdd_space.specs.CallerId.{IsExact}
 use Rattle.sdd_domain.specs.Local.{IsLone, one_value}
 use Rattle.sdd_domain.specs.Space.{caller_of}
 use Rattle.sdd_participants.specs.declared.participant.Participant.{Participant}
-use Rattle.sdd_examples.proofs.GuardOpened.{guards-shut}
+use Rattle.sdd_part_examples.proofs.GuardOpened.{guards-shut}
 use Rattle.sdd_examples.proofs.EmptyTable.{full_is_not_blank}
 use Rattle.sdd_examples.proofs.lone.first_item.Goals as goal
 

@@ -1,0 +1,3 @@
+pub mod Steps
+pub mod GuardOpened
+pub mod SmallSpaces

@@ -1,0 +1,3 @@
+pub mod CountedOwners
+pub mod SlotRights
+pub mod SmallSpace
