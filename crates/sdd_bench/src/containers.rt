@@ -3,7 +3,7 @@ ghost use Rattle.std.specs.Prelude.{◌≡◌, ◌<◌, [], Err};
 ghost use Rattle.sdd_core.specs.Limits.{AreInRange};
 
 use crate::bags;
-use crate::lists::{Along, Entry, queues, stacks, walks};
+use crate::lists::{Entry, work_with_list};
 use crate::operation::{Bagging, Listing};
 use sdd_core::{Limits, Refused};
 use sdd_participants::Tally;
@@ -22,7 +22,7 @@ pub fn lists(
     ensures limits { ¬ (AreInRange limits) → result ≡ Err Refused.BadLimits }
 {
     let mut world: World<Entry> = World::new(alloc, limits)?;
-    let done = in_world(&mut world, listing, turns);
+    let done = with_lists(&mut world, listing, turns);
     match world.close() {
         Ok(tally) => Ok((tally, done?)),
         Err((world, refused)) => {
@@ -32,18 +32,13 @@ pub fn lists(
     }
 }
 
-fn in_world(world: &mut World<Entry>, listing: Listing, turns: u64) -> Result<u64, Refused>
+fn with_lists(world: &mut World<Entry>, listing: Listing, turns: u64) -> Result<u64, Refused>
     requires new { world.old.time.places ≡ [] }
     requires nests { 0 < world.old.time.nesting }
 {
     let place = world.register()?;
     let mut turn = world.at(&place);
-    match listing {
-        Listing::Queue => queues(&mut turn, turns),
-        Listing::Stack => stacks(&mut turn, turns),
-        Listing::Walk => walks(&mut turn, turns, Along::Walk),
-        Listing::Iter => walks(&mut turn, turns, Along::Iter),
-    }
+    work_with_list(&mut turn, listing, turns)
 }
 
 /// Does that with a bag that often, and answers the tally with which the world is closed, and the sum of the numbers that came out.

@@ -6,6 +6,7 @@ ghost use Rattle.sdd_space.specs.Shared.{IsOfSlots, slots_home};
 ghost use Rattle.sdd_lists.specs.Queue.{AreOfCells};
 ghost use Rattle.sdd_lists.specs.Stack.{home_in};
 
+use crate::operation::Listing;
 use sdd_core::Refused;
 use sdd_lists::{LinkedEntry, Queue, Stack};
 use sdd_space::{Cells, Guard, Guards, HeldItems, Items, Look, Several, Shared, SharedItems};
@@ -19,7 +20,7 @@ pub const WALKED: u64 = 256;
 
 /// By what one goes along the entries of a queue.
 #[derive(Clone, Copy, Debug, PartialEq, Eq)]
-pub enum Along {
+enum Along {
     Walk,
     Iter,
 }
@@ -132,7 +133,7 @@ fn close_queue<S: Lists>(space: &mut S, queue: Queue<u64>)
 }
 
 /// Under a guard, a number is pushed onto a queue, and one popped, that often.
-pub fn queues<S: Lists>(space: &mut S, turns: u64) -> Result<u64, Refused>
+fn queues<S: Lists>(space: &mut S, turns: u64) -> Result<u64, Refused>
     requires seated { IsSeated (S.caller space.old) }
     requires may { MayNest (S.caller space.old) (S.own space.old) }
     ensures caller { S.caller space.new ≡ S.caller space.old }
@@ -199,7 +200,7 @@ fn close_stack<S: Lists>(space: &mut S, stack: Stack<u64>)
 }
 
 /// Under a guard, a number is pushed onto a stack, and one popped, that often.
-pub fn stacks<S: Lists>(space: &mut S, turns: u64) -> Result<u64, Refused>
+fn stacks<S: Lists>(space: &mut S, turns: u64) -> Result<u64, Refused>
     requires seated { IsSeated (S.caller space.old) }
     requires may { MayNest (S.caller space.old) (S.own space.old) }
     ensures caller { S.caller space.new ≡ S.caller space.old }
@@ -287,7 +288,7 @@ fn walk_turns<S: Lists>(
 }
 
 /// Under a guard that stays open, one goes along the entries of a queue that often.
-pub fn walks<S: Lists>(space: &mut S, turns: u64, along: Along) -> Result<u64, Refused>
+fn walks<S: Lists>(space: &mut S, turns: u64, along: Along) -> Result<u64, Refused>
     requires seated { IsSeated (S.caller space.old) }
     ensures caller { S.caller space.new ≡ S.caller space.old }
     ensures guards { (S.own space.new).guards ≡ (S.own space.old).guards }
@@ -313,4 +314,19 @@ fn walks_under<S: Lists>(
     let sum = walk_turns(space, &queue, guard, turns, along);
     queue.close(guard, space);
     sum
+}
+
+/// Does that with a list that often, and answers the sum of the numbers that were popped or seen.
+pub fn work_with_list<S: Lists>(space: &mut S, listing: Listing, turns: u64) -> Result<u64, Refused>
+    requires seated { IsSeated (S.caller space.old) }
+    requires may { MayNest (S.caller space.old) (S.own space.old) }
+    ensures caller { S.caller space.new ≡ S.caller space.old }
+    ensures guards { (S.own space.new).guards ≡ (S.own space.old).guards }
+{
+    match listing {
+        Listing::Queue => queues(space, turns),
+        Listing::Stack => stacks(space, turns),
+        Listing::Walk => walks(space, turns, Along::Walk),
+        Listing::Iter => walks(space, turns, Along::Iter),
+    }
 }
