@@ -12,7 +12,7 @@ use Rattle.sdd_domain_invariant.specs.Slots.{waits_in}
 use Rattle.sdd_atomics.specs.TableFacts.{TableFacts, id_of, sizes_of, gamma_of}
 use Rattle.sdd_domain_steps.specs.DueItems.{Pending}
 use Rattle.sdd_domain_steps.specs.InBags.{AreInBags, KnownWaiting, TellsCollectors}
-use Rattle.sdd_domain_steps.specs.BetweenCalls.{CarriesSeenOnly, IsBetweenCalls, IsReady}
+use Rattle.sdd_domain_steps.specs.BetweenCalls.{CarriesSeenOnly, IsBetweenCalls, AgreesWithView}
 
 -- two tables of the same words, sizes and ghost map
 module _ (b d : TableFacts) (ids : id_of b ≡ id_of d) (sizes : sizes_of b ≡ sizes_of d) (gamma : gamma_of b ≡ gamma_of d) where
@@ -44,7 +44,7 @@ module _ (b d : TableFacts) (ids : id_of b ≡ id_of d) (sizes : sizes_of b ≡ 
   }
 
   pub ready_on : {J : Type 0} (own : Participant) (pending : Pending) (known : ℕ) (table : List (Option J)) (collectors : List (Option ℕ))
-      (waits : KnownWaiting) → IsReady b own pending known table collectors waits → IsReady d own pending known table collectors waits
+      (waits : KnownWaiting) → AgreesWithView b own pending known table collectors waits → AgreesWithView d own pending known table collectors waits
   ready_on own pending known table collectors waits r = record {
     bags = subst (λ (z : Sizes). AreInBags z.slots waits own.bags.waiting pending.items) sizes r.bags;
     told = subst (λ (z : Sizes). TellsCollectors z.slots collectors waits.private) sizes r.told;

@@ -10,6 +10,7 @@ pub mod GuardCalls
 pub mod MadeItem
 pub mod OwnerLooks
 pub mod Registered
+pub mod TakenSeats
 pub mod Sound
 pub mod GuardOpenings
 pub mod FirstClaims

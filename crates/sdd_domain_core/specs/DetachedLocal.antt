@@ -11,7 +11,7 @@ use Rattle.sdd_core.specs.declared.limits.Limits.{Limits}
 use Rattle.sdd_atomics.specs.TableFacts.{TableFacts, sizes_of}
 use Rattle.sdd_domain_steps.specs.DueItems.{Pending}
 use Rattle.sdd_domain_steps.specs.InBags.{known_waiting}
-use Rattle.sdd_domain_steps.specs.BetweenCalls.{IsBetweenCalls, IsSectionOf, AreLentTo, IsReady}
+use Rattle.sdd_domain_steps.specs.BetweenCalls.{IsBetweenCalls, IsSectionOf, AreLentTo, AgreesWithView}
 use Rattle.sdd_domain_steps.specs.Receipt.{IsTallied}
 use Rattle.sdd_domain_steps.specs.DomainValues.{sizes_in}
 
@@ -26,5 +26,5 @@ pub record IsDormant {J : Type 0} (limits : Limits) (place : ℕ) (own : Partici
   pub between_calls : IsBetweenCalls table place own seat
   pub section_is : IsSectionOf own section
   pub lent : AreLentTo section.lifetime seat.me.1
-  pub ready : IsReady table own due known_slots held_jobs collectors (known_waiting seat.me.0.slots)
+  pub ready : AgreesWithView table own due known_slots held_jobs collectors (known_waiting seat.me.0.slots)
   pub tallied : IsTallied 0 tally seat.me.0.fractions.counts

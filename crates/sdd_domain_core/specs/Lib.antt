@@ -6,6 +6,7 @@ pub mod Sound
 pub mod Space
 pub mod Reclaiming
 pub mod Noted
+pub mod TakenSeat
 pub mod OpeningTally
 pub mod Laws
 pub mod ReceiptContents

@@ -14,13 +14,16 @@ ghost use Rattle.sdd_domain_steps.specs.LocalState.{waits, CanNest, HasOpenGuard
 ghost use Rattle.sdd_domain_core.specs.Collectors.{GoesFirst};
 ghost use Rattle.sdd_domain_steps.specs.InBags.{TellsCollectors};
 ghost use Rattle.sdd_domain_core.specs.ScanAtClose.{TellsScan};
+ghost use Rattle.sdd_domain_core.specs.TakenSeat.{IsTakenAt};
+ghost use Rattle.sdd_domain_invariant.specs.Words.{state_word};
+ghost use Rattle.sdd_atomics.specs.TableFacts.{facts_of, sizes_of, places_of};
 ghost use Rattle.sdd_space.specs.Guard.{reader_of};
 ghost use Rattle.sdd_world_model.specs.OwnerOrCell.{AreOf};
 ghost use Rattle.sdd_values.specs.declared.read_sections.SectionState.TheVariants.{Closed as is_closed};
 
 use crate::domain::Domain;
-use sdd_atomics::SeatAtTable;
 use sdd_atomics::steps::epoch;
+use sdd_atomics::{DomainTable, SeatAtTable};
 use sdd_core::Refused;
 use sdd_domain_steps::collectors::private_table::PrivateTable;
 use sdd_domain_steps::epoch::changes::arrive;
@@ -85,7 +88,7 @@ impl<'d, T: Item<T>, J: Job> Model for LocalCore<'d, T, J> {
     ghost use Rattle.sdd_domain_core.specs.Domain.{gamma_of};
     ghost use Rattle.sdd_domain_core.specs.Noted.{HasNoted};
     ghost use Rattle.sdd_domain_steps.specs.LocalState.{LocalState};
-    ghost use Rattle.sdd_domain_steps.specs.BetweenCalls.{IsBetweenCalls, AreLentTo, IsSectionOf, IsReady};
+    ghost use Rattle.sdd_domain_steps.specs.BetweenCalls.{IsBetweenCalls, AreLentTo, IsSectionOf, AgreesWithView};
     ghost use Rattle.sdd_domain_steps.specs.InBags.{known_waiting};
     ghost use Rattle.sdd_domain_steps.specs.Receipt.{IsTallied};
 
@@ -114,7 +117,7 @@ impl<'d, T: Item<T>, J: Job> Model for LocalCore<'d, T, J> {
     ghost invariant = { λ l. IsBetweenCalls (facts_of l.domain.now.table) l.place l.own l.seat
         × HasNoted (facts_of l.domain.now.table) l.domain.now.limits l.place l.nesting l.state
         × IsSectionOf l.own l.section × AreLentTo l.section.lifetime l.seat.me.1
-        × IsReady (facts_of l.domain.now.table) l.own l.due l.known.slots l.jobs l.privates.entries (known_waiting l.seat.me.0.slots)
+        × AgreesWithView (facts_of l.domain.now.table) l.own l.due l.known.slots l.jobs l.privates.entries (known_waiting l.seat.me.0.slots)
         × IsTallied 0 l.tally l.seat.me.0.fractions.counts };
 }
 
@@ -183,6 +186,22 @@ fn own_section() -> ReadSection
     keys.issue(&SectionState::Closed)
 }
 
+/// A seat with a place, and where the state of that is. Where there is none each place was found taken, which is told for clauses.
+fn take_seat(table: &DomainTable) -> Result<(SeatAtTable<'_>, usize, usize), Sightings>
+    ensures taken { IfOk result (λ t. IsTakenAt (facts_of table.now) t.1 t.0) }
+    ensures state { IfOk result (λ t. t.2 ≡ state_word (sizes_of (facts_of table.now)) t.1) }
+    ensures seen { IfErr result (AreSeenTaken 0 (places_of (facts_of table.now))) }
+{
+    let mut seat = epoch::sit(table);
+    let place = match take_place(&mut seat) {
+        Ok(place) => place,
+        Err(seen) => return Err(seen),
+    };
+    let state = table.state_word(place);
+    epoch::write(&mut seat, state, 0);
+    Ok((seat, place, state))
+}
+
 impl<'d, T: Item<T>, J: Job> LocalCore<'d, T, J> {
     /// Registers a participant.
     ///
@@ -207,16 +226,13 @@ impl<'d, T: Item<T>, J: Job> LocalCore<'d, T, J> {
             jobs: table,
             privates,
         } = room;
-        let mut seat = epoch::sit(&domain.table);
-        let place = match take_place(&mut seat) {
-            Ok(place) => place,
+        let (seat, place, state) = match take_seat(&domain.table) {
+            Ok(taken) => taken,
             Err(seen) => {
                 table.destroy();
                 return Err((Refused::NoPlace, seen));
             }
         };
-        let state = domain.table.state_word(place);
-        epoch::write(&mut seat, state, 0);
         known.begin_at(share_of(place, domain.table.places(), slots));
         Ok(LocalCore {
             domain,

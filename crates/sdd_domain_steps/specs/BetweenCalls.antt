@@ -94,7 +94,7 @@ pub record IsSectionOf (own : Participant) (share : Fraction SectionState) : Typ
 -- what is in the bags, and what was taken out of them and is due, is what its view knows to wait; there is room for as much as waits, and it looks for slots
 -- of the table; and the participant has a job exactly for each place where one waits with it, and a
 -- collector exactly for each slot whose item waits for that one
-pub record IsReady {J : Type 0} (b : TableFacts) (own : Participant) (pending : Pending) (known_slots : ℕ) (table : List (Option J))
+pub record AgreesWithView {J : Type 0} (b : TableFacts) (own : Participant) (pending : Pending) (known_slots : ℕ) (table : List (Option J))
     (collectors : List (Option ℕ)) (known : KnownWaiting) : Type 0 where
   pub bags : AreInBags (slots_of b) known own.bags.waiting pending.items
   pub large : own.bags.room ≤ pending.room

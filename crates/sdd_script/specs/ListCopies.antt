@@ -78,7 +78,7 @@ IsCopied p w x es other new = ⊥
 -- ---- slots
 
 -- there is room for as many items as there are slots, and of each slot it is told whether its item waits, and whether it is free
-pub record IsReady (log : Log) (w : World Val) (ready : Ready) : Type 0 where
+pub record IsReadyToCopy (log : Log) (w : World Val) (ready : Ready) : Type 0 where
   pub empty : ready.room.items ≡ []
   pub room : length log.names.items ≤ vec_capacity ready.room
   pub waited_long : length ready.waited.items ≡ length log.names.items

@@ -14,7 +14,7 @@ ghost use Rattle.sdd_script_model.specs.Val.{Val};
 ghost use Rattle.sdd_script_text.specs.Actions as action;
 ghost use Rattle.sdd_interpreter.specs.Containers.{HasEntries, IsListOf, IsOfNumbers};
 ghost use Rattle.sdd_interpreter.specs.Environment.{date_now};
-ghost use Rattle.sdd_script.specs.ListCopies.{HasRoomFor, HasSameLists, IsCopied, IsCopyOf, IsGivenName, IsListIn, IsReady, named_so, next_name};
+ghost use Rattle.sdd_script.specs.ListCopies.{HasRoomFor, HasSameLists, IsCopied, IsCopyOf, IsGivenName, IsListIn, IsReadyToCopy, named_so, next_name};
 
 use sdd_core::Refused;
 use sdd_interpreter::Interpreter;
@@ -136,7 +136,7 @@ fn make_ready(log: &mut Log, world: &World<Val>) -> Result<Ready, AllocError>
     ensures same { log.new ≡ record log.old { slots = log.new.slots } }
     ensures slots { log.new.slots.items ≡ log.old.slots.items }
     ensures names { OnOk result (length log.new.slots.items + length log.old.names.items ≤ vec_capacity log.new.slots) }
-    ensures ready { IfOk result (IsReady log.old world.now) }
+    ensures ready { IfOk result (IsReadyToCopy log.old world.now) }
 {
     let most = log.names.len();
     log.slots.reserve(most)?;

@@ -12,7 +12,7 @@ use Rattle.sdd_rights.specs.declared.views.Sizes.{Sizes}
 use Rattle.sdd_rights.specs.declared.views.View.{View}
 use Rattle.sdd_domain_invariant.specs.Slots.{waits_in}
 use Rattle.sdd_domain_invariant.proofs.Sums.{is_same, total_has}
-use Rattle.sdd_domain_steps.specs.BetweenCalls.{AreLentTo, IsBetweenCalls, IsReady}
+use Rattle.sdd_domain_steps.specs.BetweenCalls.{AreLentTo, IsBetweenCalls, AgreesWithView}
 use Rattle.sdd_domain_core.specs.Collectors.{BeginsClose}
 use Rattle.sdd_domain_steps.specs.InBags.{AreInBags, known_waiting}
 use Rattle.sdd_domain_steps.specs.LocalState.{LocalState}
@@ -49,7 +49,7 @@ invariant_of-self g c = let l = c.self.inside in let b = (facts_of l.domain.now.
       i.1,
       record { units = i.2.units; kind = i.2.kind },
       subst (AreLentTo l.section.lifetime) (sym begun.others) i.3,
-      subst (λ (w : View). IsReady b (record l.own { bags = c.take_for.new.bags }) c.take_for.new.self l.known.slots l.jobs l.privates.entries
+      subst (λ (w : View). AgreesWithView b (record l.own { bags = c.take_for.new.bags }) c.take_for.new.self l.known.slots l.jobs l.privates.entries
           (known_waiting w.slots))
           (sym begun.view) record {
             bags = subst (λ (z : List Waiting × List LimboEntry). AreInBags n (record (known_waiting v.slots) { closes = Some k }) z.0 z.1)

@@ -12,7 +12,7 @@ use Rattle.sdd_domain_invariant.specs.Slots.{waits_in}
 use Rattle.sdd_domain_invariant.specs.Slots.SlotSteps.{retired_now, DefersAt}
 use Rattle.sdd_atomics.specs.TableFacts.{facts_of, most_waiting_of, sizes_of, slots_of}
 use Rattle.sdd_domain_steps.specs.LocalState.{LocalState, DefersTo}
-use Rattle.sdd_domain_steps.specs.BetweenCalls.{IsBetweenCalls, AreLentTo, IsSectionOf, IsReady}
+use Rattle.sdd_domain_steps.specs.BetweenCalls.{IsBetweenCalls, AreLentTo, IsSectionOf, AgreesWithView}
 use Rattle.sdd_domain_steps.specs.InBags.{AreInBags, KnownWaiting, TellsCollectors, known_waiting}
 use Rattle.sdd_domain_steps.specs.Receipt.{IsTallied}
 use Rattle.sdd_domain_core.proofs.JobsBetweenCalls.{between_calls_defers}
@@ -52,7 +52,7 @@ invariant_of-self g c = let l = c.self.inside in let b = (facts_of l.domain.now.
     let low : place < (sizes_of b).jobs = subst (λ (z : Sizes). place < z.jobs) (sym l.domain.now.limited.1) c.in-Ok.ensures.tried.0 in
     let inside : place < length l.jobs = (let long = r.places in omega arith) in
     subst (λ (o : Participant). IsBetweenCalls b l.place o seat × HasNoted b l.domain.now.limits l.place l.nesting l.state × IsSectionOf o l.section
-    × AreLentTo l.section.lifetime seat.me.1 × IsReady {J = g.row.J.Denot} b o l.due l.known.slots c.put.new.self l.privates.entries
+    × AreLentTo l.section.lifetime seat.me.1 × AgreesWithView {J = g.row.J.Denot} b o l.due l.known.slots c.put.new.self l.privates.entries
     (known_waiting seat.me.0.slots)
     × IsTallied 0 l.tally seat.me.0.fractions.counts) (sym own_is) (
       between_calls_defers b l.place l.own l.seat seat i.0 did.table did.others place (omega arith) d,

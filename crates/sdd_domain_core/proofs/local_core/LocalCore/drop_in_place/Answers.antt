@@ -17,7 +17,7 @@ use Rattle.sdd_domain_invariant.specs.Epoch.{IsLone as IsLoneAt}
 use Rattle.sdd_domain_invariant.specs.Slots.SlotSteps.{noted}
 use Rattle.sdd_atomics.specs.TableFacts.{facts_of, slots_of}
 use Rattle.sdd_atomics.specs.DomainSeat.{epoch}
-use Rattle.sdd_domain_steps.specs.BetweenCalls.{AreLentTo, IsReady}
+use Rattle.sdd_domain_steps.specs.BetweenCalls.{AreLentTo, AgreesWithView}
 use Rattle.sdd_domain_steps.specs.InBags.{KnownWaiting, known_waiting}
 use Rattle.sdd_domain_steps.specs.Claims.{IsUnmoved}
 use Rattle.sdd_domain_steps.specs.InPlace.{IsLetGoOf, with_dropped}
@@ -73,7 +73,7 @@ invariant_of-self g c =
       i.1,
       i.2,
       subst (AreLentTo l.section.lifetime) (sym (gone.others ∙ ap (λ (x : Seat ValueFraction View). x.me.1) same)) i.3,
-      subst (λ (z : ℕ × KnownWaiting). IsReady b l.own l.due z.0 l.jobs l.privates.entries z.1)
+      subst (λ (z : ℕ × KnownWaiting). AgreesWithView b l.own l.due z.0 l.jobs l.privates.entries z.1)
           (λ d. (sym c.remember.ensures.slots d, sym (ap (λ (v : View). known_waiting v.slots) here) d)) i.4,
       subst (λ (x : Tally). IsTallied 0 x u.me.0.fractions.counts) (sym c.count_in_place.ensures)
           (subst (IsTallied 0 (one_in_place l.tally)) (sym (ap (λ (v : View). v.fractions.counts) here))

@@ -5,7 +5,7 @@ use Rattle.sdd_domain_invariant.specs.Fractions.FractionSteps.{SeatState}
 use Rattle.sdd_rights.specs.declared.views.CellKind.TheVariants.{Collector as of_closed}
 use Rattle.sdd_rights.specs.declared.views.View.{View}
 use Rattle.sdd_domain_invariant.specs.Collectors.CollectorWordSteps.{closed_none}
-use Rattle.sdd_domain_steps.specs.BetweenCalls.{AreLentTo, IsReady}
+use Rattle.sdd_domain_steps.specs.BetweenCalls.{AreLentTo, AgreesWithView}
 use Rattle.sdd_domain_steps.specs.InBags.{known_waiting}
 use Rattle.sdd_domain_steps.specs.LocalState.{LocalState}
 use Rattle.sdd_domain_steps.specs.Receipt.{IsTallied}
@@ -26,7 +26,7 @@ invariant_of-self g c = let l = c.self.inside in let b = (facts_of l.domain.now.
       i.1,
       i.2,
       subst (AreLentTo l.section.lifetime) (sym others) i.3,
-      subst (λ (w : View). IsReady b l.own l.due l.known.slots l.jobs l.privates.entries (known_waiting w.slots)) (sym is) record {
+      subst (λ (w : View). AgreesWithView b l.own l.due l.known.slots l.jobs l.privates.entries (known_waiting w.slots)) (sym is) record {
         bags = ends_close (slots_of b) (known_waiting v.slots) l.own.bags.waiting l.due.items r.bags
             (ap (λ (m : LocalState _). m.due) c.self.view_is ∙ c.requires.settled);
         large = r.large;

@@ -12,7 +12,7 @@ use Rattle.sdd_shared_values.specs.declared.value_fraction.ValueFraction.{ValueF
 use Rattle.sdd_world_model.specs.OwnerOrCell.{AreOf}
 use Rattle.sdd_rights.specs.declared.views.View.{View}
 use Rattle.sdd_atomics.specs.TableFacts.{facts_of, slots_of, TableFacts}
-use Rattle.sdd_domain_steps.specs.BetweenCalls.{AreLentTo, IsReady}
+use Rattle.sdd_domain_steps.specs.BetweenCalls.{AreLentTo, AgreesWithView}
 use Rattle.sdd_domain_steps.specs.InBags.{known_waiting}
 use Rattle.sdd_domain_steps.specs.Items.{HasValue, IsRightTo, slots_home}
 use Rattle.sdd_domain_steps.specs.LocalState.{ChangesAt, HasOthers, IsLone, KnowsOwner, LocalState, SeesGuard, unique_words}
@@ -112,7 +112,7 @@ invariant_of-self g c =
       i.1,
       i.2,
       subst (AreLentTo l.section.lifetime) (sym (others ∙ ap (λ (x : Seat ValueFraction View). x.me.1) same)) i.3,
-      subst (IsReady b l.own l.due l.known.slots l.jobs l.privates.entries) (sym (ap (λ (v : View). known_waiting v.slots) here)) i.4,
+      subst (AgreesWithView b l.own l.due l.known.slots l.jobs l.privates.entries) (sym (ap (λ (v : View). known_waiting v.slots) here)) i.4,
       subst (IsTallied 0 l.tally) (sym (ap (λ (v : View). v.fractions.counts) here)) i.5,
     )
 

@@ -16,7 +16,7 @@ use Rattle.sdd_domain_invariant.specs.Slots.FilledInvariant.{HasRecord}
 use Rattle.sdd_domain_invariant.specs.Fractions.FractionSteps.{regained}
 use Rattle.sdd_atomics.specs.DomainSeat.{Taught, Moved}
 use Rattle.sdd_domain_steps.specs.RawItems.{PutsOut, put_out}
-use Rattle.sdd_domain_steps.specs.BetweenCalls.{AreLentTo, IsReady}
+use Rattle.sdd_domain_steps.specs.BetweenCalls.{AreLentTo, AgreesWithView}
 use Rattle.sdd_domain_steps.specs.InBags.{known_waiting}
 use Rattle.sdd_domain_steps.specs.Receipt.{IsTallied}
 use Rattle.sdd_domain_steps.specs.LocalState.{LocalState, IsLone, KnowsOwner}
@@ -86,7 +86,7 @@ invariant_of-self g c = let l = c.self.inside in let table = (facts_of l.domain.
       i.1,
       i.2,
       subst (AreLentTo l.section.lifetime) (sym (put_others table l.place l.own slot shown l.seat c.take_in.new.seat c.put_out.new.seat q took put)) i.3,
-      subst (IsReady table l.own l.due l.known.slots l.jobs l.privates.entries) (sym (ap (λ (v : View). known_waiting v.slots) is)) i.4,
+      subst (AgreesWithView table l.own l.due l.known.slots l.jobs l.privates.entries) (sym (ap (λ (v : View). known_waiting v.slots) is)) i.4,
       subst (IsTallied 0 l.tally) (sym (ap (λ (v : View). v.fractions.counts) is)) i.5,
     )
 

@@ -19,7 +19,7 @@ use Rattle.sdd_world_model.specs.OwnerOrCell.{AreOf}
 use Rattle.sdd_domain_steps.specs.SpaceIds.{home_in}
 use Rattle.sdd_domain_steps.specs.SeenSlots.{IsOnce}
 use Rattle.sdd_domain_steps.specs.Cells.{IsOwnedThere}
-use Rattle.sdd_domain_steps.specs.BetweenCalls.{IsBetweenCalls, IsReady, AreLentTo}
+use Rattle.sdd_domain_steps.specs.BetweenCalls.{IsBetweenCalls, AgreesWithView, AreLentTo}
 use Rattle.sdd_domain_steps.specs.InBags.{known_waiting}
 use Rattle.sdd_domain_steps.specs.Receipt.{IsTallied}
 use Rattle.sdd_domain_steps.specs.LocalState.{LocalState, KnowsOwner, LooksAt, IsLone}
@@ -53,7 +53,7 @@ invariant_of-self g c =
       inv.1,
       inv.2,
       subst (λ (x : Seat ValueFraction View). AreLentTo l.section.lifetime x.me.1) (sym still) inv.3,
-      subst (λ (x : Seat ValueFraction View). IsReady b l.own l.due l.known.slots l.jobs l.privates.entries (known_waiting x.me.0.slots)) (sym still) inv.4,
+      subst (λ (x : Seat ValueFraction View). AgreesWithView b l.own l.due l.known.slots l.jobs l.privates.entries (known_waiting x.me.0.slots)) (sym still) inv.4,
       subst (λ (x : Seat ValueFraction View). IsTallied 0 l.tally x.me.0.fractions.counts) (sym still) inv.5,
     )
 

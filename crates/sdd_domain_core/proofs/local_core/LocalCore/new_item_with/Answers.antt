@@ -12,7 +12,7 @@ use Rattle.sdd_participants.specs.declared.tally.Tally.{Tally}
 use Rattle.sdd_participants.specs.Tally.{one_made}
 use Rattle.sdd_shared_values.specs.SharedValues.{showing, IsNoValueCode}
 use Rattle.sdd_atomics.specs.TableFacts.{facts_of, TableFacts}
-use Rattle.sdd_domain_steps.specs.BetweenCalls.{AreLentTo, IsReady}
+use Rattle.sdd_domain_steps.specs.BetweenCalls.{AreLentTo, AgreesWithView}
 use Rattle.sdd_domain_steps.specs.InBags.{known_waiting}
 use Rattle.sdd_domain_steps.specs.Receipt.{IsTallied}
 use Rattle.sdd_domain_invariant.specs.Codes.{alive, counted}
@@ -52,7 +52,7 @@ invariant_of-self g c = let l = c.self.inside in let b = (facts_of l.domain.now.
       inv.1,
       inv.2,
       subst (AreLentTo l.section.lifetime) (sym between_calls.1) inv.3,
-      subst (IsReady b l.own l.due c.claim_free.new.known.slots l.jobs l.privates.entries) (sym (ap (λ (v : View). known_waiting v.slots)
+      subst (AgreesWithView b l.own l.due c.claim_free.new.known.slots l.jobs l.privates.entries) (sym (ap (λ (v : View). known_waiting v.slots)
           (made_view b l.place l.own y slot shared made l.seat claimed seat inv.0 c.in-Ok.ensures.tried put.view)))
           (record {
             bags = inv.4.bags;

@@ -10,7 +10,7 @@ use Rattle.sdd_rights.specs.StandingKind.{is_shared}
 use Rattle.sdd_rights.specs.Right.{AreSlotsOfTable, home_of, number_of, kind_of}
 use Rattle.sdd_domain_steps.specs.Items.{HasValue, slots_home}
 use Rattle.sdd_domain_steps.specs.LocalState.{LocalState, IsLone, KnowsOwner}
-use Rattle.sdd_domain_steps.specs.BetweenCalls.{IsBetweenCalls, AreLentTo, IsSectionOf, IsReady}
+use Rattle.sdd_domain_steps.specs.BetweenCalls.{IsBetweenCalls, AreLentTo, IsSectionOf, AgreesWithView}
 use Rattle.sdd_domain_steps.specs.InBags.{known_waiting}
 use Rattle.sdd_domain_steps.specs.Receipt.{IsTallied}
 use Rattle.sdd_domain_steps.proofs.SameHome.{on_table}
@@ -47,7 +47,7 @@ invariant_of-self g c =
     let same = same_recalled table l.place slot shared shown l.seat c.recall.new.seat (c.recall.ensures slot shared shown own.owner) in
     subst (λ (x : Seat ValueFraction View). IsBetweenCalls table l.place l.own x × HasNoted table l.domain.now.limits l.place l.nesting l.state
     × IsSectionOf l.own l.section
-    × AreLentTo l.section.lifetime x.me.1 × IsReady table l.own l.due l.known.slots l.jobs l.privates.entries (known_waiting x.me.0.slots) × IsTallied 0 l.tally
+    × AreLentTo l.section.lifetime x.me.1 × AgreesWithView table l.own l.due l.known.slots l.jobs l.privates.entries (known_waiting x.me.0.slots) × IsTallied 0 l.tally
     x.me.0.fractions.counts)
     (sym same) c.self.invariant
 

@@ -1,49 +1,29 @@
-use Rattle.std.proofs.Common.{rules, ◌≡◌, ℕ, ◌+◌, [], List, None, length, replicate, refl, sym, ap, ◌∙◌, subst, slice_index_or, arith}
+use Rattle.std.proofs.Common.{rules, ℕ, ◌+◌, List, None, length, replicate, refl, sym, ap, ◌∙◌, subst, slice_index_or, arith}
 use Rattle.std.proofs.lemmas.Bool.{true≢false}
 use Rattle.std.proofs.lemmas.List.{length-replicate}
 use Rattle.std.specs.Prelude.{Option, IsSome}
 use Rattle.sdd_rights.specs.declared.views.WaitingItem.{WaitingItem}
+use Rattle.sdd_rights.specs.declared.views.FractionsView.{FractionsView}
 use Rattle.sdd_rights.specs.declared.views.Sizes.{Sizes}
+use Rattle.sdd_rights.specs.declared.views.SlotsView.{SlotsView}
 use Rattle.sdd_domain_invariant.specs.Sums.{total}
 use Rattle.sdd_domain_invariant.specs.Slots.{waits_in}
 use Rattle.sdd_world_model.proofs.OwnerCounts.{blank-at}
 use Rattle.sdd_atomics.specs.TableFacts.{facts_of, slots_of}
 use Rattle.sdd_domain_steps.proofs.InBags.{nothing_there}
-use Rattle.sdd_domain_steps.proofs.MovedValues.{carries_nothing, none_lent}
+use Rattle.sdd_domain_steps.proofs.MovedValues.{none_lent}
 use Rattle.sdd_domain_steps.proofs.PrivateTables.{told_nothing}
+use Rattle.sdd_domain_core.proofs.TakenSeats.{between_calls}
 use Rattle.sdd_domain_core.proofs.local_core.LocalCore.register.Goals as goal
 
 pub invariant_of-result : goal.invariant_of-result
-invariant_of-result g c = let jobs : ℕ = c.args.domain.now.limits.jobs in let none : c.write.new.seat.me.0.slots.waits ≡ [] = search rules in
-    let none_private : c.write.new.seat.me.0.slots.privates ≡ [] = search rules in (
-      record {
-        home = search rules;
-        carries = carries_nothing _ _ _ _ _ (search rules) (search rules);
-        seen = search rules;
-        unseen = search rules;
-        rests = search rules;
-        all = search rules;
-        place = search rules;
-        inside = search rules;
-        count = search rules;
-        closed = search rules;
-        opened = search rules;
-        near = search rules;
-        lone = search rules;
-        free = search rules;
-        knows = search rules;
-        found = search rules;
-        quiet = search rules;
-        pledges = search rules;
-        rights = search rules;
-        waiting = search rules;
-        room = search rules;
-        pace = search rules;
-        idle = search rules;
-      },
-      record { nesting_is = refl; state_is = search rules },
+invariant_of-result g c = let jobs : ℕ = c.args.domain.now.limits.jobs in let taken = c.in-Ok-take_seat.ensures.taken in
+    let none = ap (λ (v : SlotsView). v.waits) taken.slots in
+    let none_private = ap (λ (v : SlotsView). v.privates) taken.slots in (
+      between_calls _ _ _ _ taken (search rules),
+      record { nesting_is = refl; state_is = c.in-Ok-take_seat.ensures.state },
       search rules,
-      none_lent _ _ (search rules),
+      none_lent _ _ taken.carried,
       record {
         bags = nothing_there _ _ _ _ none none_private (search rules) (search rules);
         told = told_nothing _ _ _ (c.in-Ok.ensures.privates ∙ ap (λ (k : ℕ). replicate k None) (sym (ap (λ (z : Sizes). z.slots) c.args.domain.now.limited.1)))
@@ -61,10 +41,10 @@ invariant_of-result g c = let jobs : ℕ = c.args.domain.now.limits.jobs in let 
     )
 
 pub returns-clause-registered : goal.returns-clause-registered
-returns-clause-registered g c = record {
-  home = search rules;
+returns-clause-registered g c = let taken = c.in-Ok-take_seat.ensures.taken in record {
+  home = taken.home;
   gamma_is = search rules;
-  limits = search rules;
+  limits = refl;
   place = search rules;
   reader = search rules;
   own = search rules;
@@ -72,9 +52,9 @@ returns-clause-registered g c = record {
   lone = search rules;
   tally = search rules;
   sizes = search rules;
-  slots = search rules;
-  shown = search rules;
-  filled = search rules;
+  slots = taken.slots;
+  shown = ap (λ (f : FractionsView). f.sees) taken.fractions;
+  filled = ap (λ (f : FractionsView). f.filled) taken.fractions;
   words = search rules;
   due = search rules;
   jobs = c.in-Ok.ensures.jobs;

@@ -14,7 +14,7 @@ use Rattle.sdd_participants.specs.declared.waiting.LimboEntry.TheVariants.{Item}
 use Rattle.sdd_participants.specs.declared.participant.Participant.{Participant}
 use Rattle.sdd_participants.specs.Bags.{Bags}
 use Rattle.sdd_participants.specs.EpochState.{awaiting, with_garbage}
-use Rattle.sdd_domain_steps.specs.BetweenCalls.{IsBetweenCalls, AreLentTo, IsSectionOf, IsReady}
+use Rattle.sdd_domain_steps.specs.BetweenCalls.{IsBetweenCalls, AreLentTo, IsSectionOf, AgreesWithView}
 use Rattle.sdd_domain_steps.specs.InBags.{AreInBags, KnownWaiting, TellsCollectors, known_waiting}
 use Rattle.sdd_domain_steps.proofs.InBags.{one_more, room_left}
 use Rattle.sdd_domain_steps.proofs.Reclaims.{what_item}
@@ -78,7 +78,7 @@ invariant_of-self-2 g c =
     let table = (facts_of l.domain.now.table) in let i = c.self.invariant in let inside : slot < slots_of table = search rules in
     subst (λ (o : Participant). IsBetweenCalls table l.place o c.let_one_go.new.seat
     × HasNoted table l.domain.now.limits l.place l.nesting l.state × IsSectionOf o l.section × AreLentTo l.section.lifetime c.let_one_go.new.seat.me.1
-    × IsReady table o l.due l.known.slots l.jobs l.privates.entries (known_waiting c.let_one_go.new.seat.me.0.slots)
+    × AgreesWithView table o l.due l.known.slots l.jobs l.privates.entries (known_waiting c.let_one_go.new.seat.me.0.slots)
     × IsTallied 0 l.tally c.let_one_go.new.seat.me.0.fractions.counts)
     (sym own_is) (
       between_calls_retires table l.place l.own y slot shared shown l.seat c.take_in.new.seat c.let_one_go.new.seat i.0 inside took waits,
@@ -115,7 +115,7 @@ invariant_of-self g c =
       i.1,
       i.2,
       subst (AreLentTo l.section.lifetime) (sym left.1) i.3,
-      subst (IsReady table l.own l.due l.known.slots l.jobs l.privates.entries) (sym (ap (λ (v : View). known_waiting v.slots) left.0)) i.4,
+      subst (AgreesWithView table l.own l.due l.known.slots l.jobs l.privates.entries) (sym (ap (λ (v : View). known_waiting v.slots) left.0)) i.4,
       subst (IsTallied 0 l.tally) (sym (ap (λ (v : View). v.fractions.counts) left.0)) i.5,
     )
 
