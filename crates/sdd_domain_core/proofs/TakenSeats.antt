@@ -1,4 +1,4 @@
--- Who has taken a place is between calls, and has nothing that waits
+-- A newcomer whose seat has taken its place is between calls
 use Rattle.std.proofs.Common.{rules, ◌≡◌, ℕ, refl, sym, ap, ◌∙◌, subst}
 use Rattle.sdd_rights.specs.declared.views.EpochView.{EpochView}
 use Rattle.sdd_rights.specs.declared.views.FractionsView.{FractionsView}
